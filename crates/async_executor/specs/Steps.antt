@@ -9,6 +9,7 @@ use Rattle.executor_parts.specs.declared.mark.Mark.{Mark}
 use Rattle.executor_parts.specs.Marks.{other}
 use Rattle.call_steps.specs.declared.names.Look.TheVariants.{Second}
 use Rattle.call_steps.specs.declared.names.Sleeping.{Sleeping}
+use Rattle.call_steps.specs.declared.names.TickOrRun.{TickOrRun}
 use Rattle.call_steps.specs.declared.names.TickOrRun.TheVariants as tick_or_run
 use Rattle.call_steps.specs.declared.names.Waker.{Waker}
 use Rattle.call_steps.specs.declared.names.Waker.TheVariants as waker
@@ -43,9 +44,12 @@ module _ {W : Type 0} where
   name_of (Task stored) = waker.Task stored.identity
   name_of (Outside w) = waker.Outside
 
+  abbrev pub sleeper_as : TickOrRun (Unit {0}) → SleeperWaker W → Sleeping Identity (Unit {0})
+  sleeper_as who w = record { waker = name_of w; who = who }
+
   -- who sleeps with it: the list of sleepers has no names of ticks and runs, and doesn't know which of both it is
   abbrev pub sleeper : SleeperWaker W → Sleeping Identity (Unit {0})
-  sleeper w = record { waker = name_of w; who = tick_or_run.Tick tt }
+  sleeper w = sleeper_as (tick_or_run.Tick tt) w
 
   abbrev pub sleeper_of : Option (Foreign (SleeperWaker W)) → Option (Sleeping Identity (Unit {0}))
   sleeper_of None = None

@@ -1,4 +1,4 @@
--- How the poll of a tick goes, step by step.
+-- How the poll of a tick goes, step by step, and how ticks and runs fall asleep.
 use Rattle.std.specs.Prelude.{Bool, Option, Some, None, List, [], ◌∷◌}
 use Rattle.async_task.specs.declared.cell.Identity.{Identity}
 use Rattle.executor_parts.specs.declared.mark.Mark.{Mark}
@@ -6,6 +6,7 @@ use Rattle.executor_parts.specs.Marks.{other}
 use Rattle.call_steps.specs.Sleeping.{found_by_tick}
 use Rattle.call_steps.specs.declared.names.Look.TheVariants.{Second}
 use Rattle.call_steps.specs.declared.names.Sleeping.{Sleeping}
+use Rattle.call_steps.specs.declared.names.TickOrRun.{TickOrRun}
 use Rattle.call_steps.specs.declared.names.TickOrRun.TheVariants.{Tick}
 use Rattle.call_steps.specs.declared.names.Waker.{Waker}
 use Rattle.call_steps.specs.declared.reply.Reply.TheVariants as reply
@@ -15,9 +16,9 @@ use Rattle.call_steps.specs.declared.step.tick.TickStep.TheVariants as tick_step
 use Rattle.async_executor.specs.declared.ticker.Slept.{Slept}
 use Rattle.async_executor.specs.declared.ticker.Slept.TheVariants as slept_as
 
--- a tick that falls asleep with this waker
-abbrev pub sleeping : Waker Identity → Sleeping Identity (Unit {0})
-sleeping w = record { waker = w; who = Tick tt }
+-- who falls asleep with this waker
+abbrev pub sleeping : TickOrRun (Unit {0}) → Waker Identity → Sleeping Identity (Unit {0})
+sleeping who w = record { waker = w; who = who }
 
 -- what is left once the Runnable of this future was found, by one that sleeps or not
 abbrev pub found_asleep : Bool → Identity → List (CallStep Identity (Unit {0}))
@@ -25,16 +26,16 @@ found_asleep sleeps f = found_by_tick sleeps (Tick tt) f
 
 -- what is left after a search
 abbrev pub searched : Waker Identity → Bool → Option Identity → List (CallStep Identity (Unit {0}))
-searched w sleeps None = step.Tick (tick_step.CopyWaker (sleeping w)) ∷ []
+searched w sleeps None = step.Tick (tick_step.CopyWaker (sleeping (Tick tt) w)) ∷ []
 searched w sleeps (Some f) = found_asleep sleeps f
 
 -- the same after its first look, at the queue of this mark
 abbrev pub searched_first : Mark → Waker Identity → Bool → Option Identity → List (CallStep Identity (Unit {0}))
-searched_first mark w sleeps None = step.Tick (tick_step.Look (sleeping w) (Second (other mark))) ∷ []
+searched_first mark w sleeps None = step.Tick (tick_step.Look (sleeping (Tick tt) w) (Second (other mark))) ∷ []
 searched_first mark w sleeps (Some f) = found_asleep sleeps f
 
 -- what is left once one slept that found nothing
-abbrev pub slept : Waker Identity → Slept → List (CallStep Identity (Unit {0}))
-slept w slept_as.Anew = step.Tick (tick_step.Search (sleeping w)) ∷ []
-slept w slept_as.Still = step.End reply.Pending ∷ []
-slept w slept_as.NoMemory = step.End reply.NoMemory ∷ []
+abbrev pub slept : TickOrRun (Unit {0}) → Waker Identity → Slept → List (CallStep Identity (Unit {0}))
+slept who w slept_as.Anew = step.Tick (tick_step.Search (sleeping who w)) ∷ []
+slept who w slept_as.Still = step.End reply.Pending ∷ []
+slept who w slept_as.NoMemory = step.End reply.NoMemory ∷ []

@@ -2,13 +2,13 @@
 ghost use Rattle.std.specs.Prelude.{◌≡◌, ◌<◌, [], ◌∷◌, true, Some, IfOk, IfErr};
 ghost use Rattle.std.specs.Arc.{arc_value};
 ghost use Rattle.async_executor.specs.Errors.{refused};
-ghost use Rattle.async_executor.specs.Steps.{yes_or_no, spawned};
-ghost use Rattle.call_steps.specs.Todo.{below, top};
+ghost use Rattle.async_executor.specs.Steps.{accepted_as, spawned, yes_or_no};
+ghost use Rattle.call_steps.specs.Todo.{below, following, top};
 ghost use Rattle.call_steps.specs.declared.step.CallStep.TheVariants as step;
 ghost use Rattle.call_steps.specs.declared.step.table.QueueStep.TheVariants as queue_step;
 ghost use Rattle.call_steps.specs.declared.step.table.TableStep.TheVariants as table_step;
 
-use crate::closing::ClosesReturned;
+use crate::closing::{ClosesReturned, HasClosed};
 use crate::due::share;
 use crate::entry::Unlocked;
 use crate::errors::SpawnError;
@@ -17,7 +17,7 @@ use crate::marked::Marked;
 use crate::names::{ExRealm, ExTask, ExWaker, TableWaker};
 use crate::queue::ExQueue;
 use crate::sections;
-use crate::spawning::accept;
+use crate::spawning::{accept, see_accepted};
 use crate::state::State;
 use crate::steps::Steps;
 use async_task::{Future, NoMemory, Wake};
@@ -163,19 +163,8 @@ where
         ensures answer { result.1 ≡ spawned result.0 }
     {
         let closed = self.returned.close(self.rt, self.realm, unlocked);
-        let schedule = ExQueue::new(self.rt, share(self.rt, &self.state));
         let mut steps = steps;
-        let accepted = accept(
-            self.table.lock(&self.rt, unlocked).get(),
-            self.rt,
-            self.realm,
-            &mut steps,
-            schedule,
-            self.is_static,
-            mark,
-            future,
-            closed,
-        );
+        let accepted = self.accept(future, mark, closed, &mut steps, unlocked);
         match accepted {
             Ok((runnable, task)) => {
                 self.queue(&mut steps, runnable, unlocked);
@@ -190,6 +179,38 @@ where
                 (Err(SpawnError::NoMemory(future)), last)
             }
         }
+    }
+
+    /// The second step of this.
+    #[inline(always)]
+    fn accept(
+        &self,
+        future: F,
+        mark: Mark,
+        closed: HasClosed,
+        steps: &mut Steps,
+        unlocked: &mut Unlocked,
+    ) -> Result<(Marked, ExTask<T, W, R>), SpawnError<F>>
+        requires { steps.old ≡ step.Table (table_step.Enter mark) ∷ [] }
+        ensures steps { steps.new ≡ following (accepted_as result) steps.old }
+        ensures one_task { IfOk result (λ both. both.0.stored.identity ≡ both.1.identity) }
+        ensures marked { IfOk result (λ both. both.1.metadata ≡ mark) }
+        ensures here { IfOk result (λ both. both.1.identity.realm ≡ self.now.realm.now.number) }
+        ensures future { IfErr result (λ error. refused error ≡ future) }
+    {
+        let schedule = ExQueue::new(self.rt, share(self.rt, &self.state));
+        let accepted = accept(
+            self.table.lock(&self.rt, unlocked).get(),
+            self.rt,
+            self.realm,
+            schedule,
+            self.is_static,
+            mark,
+            future,
+            closed,
+        );
+        see_accepted(&accepted, mark, steps);
+        accepted
     }
 
     /// Runs one task, where one is queued, and says whether it did.

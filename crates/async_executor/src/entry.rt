@@ -11,7 +11,7 @@ ghost use Rattle.async_executor.specs.Spawning.{SpawnsMany};
 ghost use Rattle.call_steps.specs.Begins.{begins};
 
 use crate::body::Body;
-use crate::call::{Counts, Polled};
+use crate::counts::Counts;
 use crate::debug::LocalRunners;
 use crate::errors::{RunError, SpawnError};
 use crate::foreign::Foreign;
@@ -25,7 +25,7 @@ use crate::task_name::{TaskName, name_given_to};
 use crate::ticker::Ticker;
 use crate::{executor, run, tick};
 use async_task::{Future, NoMemory, Poll, Returning, Schedule, ScheduleInfo, StoredWaker, Wake};
-use call_steps::{Asked, Sleeping, TickOrRun};
+use call_steps::{Asked, RunPoll, Sleeping, TickOrRun};
 use executor_parts::Mark;
 use std::collections::VecDeque;
 use std::fmt;
@@ -167,7 +167,11 @@ where
         ensures future { IfOk result (λ run. value_of run.future ≡ Some future) }
         ensures words { IfOk result (λ run. run.runner.words ≡ seeded 0) }
     {
-        self.body.make_run(future, 0, &mut Unlocked::at_entry())
+        let steps = begun(Asked::NewRun);
+        let (made, _last) = self
+            .body
+            .make_run(future, 0, steps, &mut Unlocked::at_entry());
+        made
     }
 
     /// As `run`, with another seed for the places at which it begins to look for tasks of other runs.
@@ -178,7 +182,11 @@ where
         ensures future { IfOk result (λ run. value_of run.future ≡ Some future) }
         ensures words { IfOk result (λ run. run.runner.words ≡ seeded seed) }
     {
-        self.body.make_run(future, seed, &mut Unlocked::at_entry())
+        let steps = begun(Asked::NewRun);
+        let (made, _last) = self
+            .body
+            .make_run(future, seed, steps, &mut Unlocked::at_entry());
+        made
     }
 
     /// Makes it a static executor, whose futures nobody has to drop. Each future that was accepted is queued to be polled once
@@ -189,9 +197,9 @@ where
     {
         let Executor { body, leaving } = self;
         drop(leaving);
-        StaticExecutor {
-            body: executor::leak(body, &mut Unlocked::at_entry()),
-        }
+        let steps = begun(Asked::Leak);
+        let (body, _last) = executor::leak(body, steps, &mut Unlocked::at_entry());
+        StaticExecutor { body }
     }
 }
 
@@ -206,7 +214,9 @@ where
     /// takes no memory.
     fn drop(self) {
         let Executor { body, leaving } = self;
-        executor::end(body, Leaving::of(leaving), &mut Unlocked::at_entry());
+        let steps = begun(Asked::DropExecutor);
+        let leaving = Leaving::of(leaving);
+        let _last = executor::end(body, leaving, steps, &mut Unlocked::at_entry());
     }
 }
 
@@ -308,8 +318,8 @@ where
     pub(crate) future: Option<Foreign<G>>,
     pub(crate) runner: Runner,
     pub(crate) ticker: Ticker,
-    /// How its last poll ended, if that took tasks.
-    pub(crate) polled: Polled,
+    /// What its last poll was answered.
+    pub(crate) answered: Answered,
     /// How many tasks it has taken.
     pub(crate) counts: Counts,
 }
@@ -327,11 +337,16 @@ where
     /// Polls its future, and is ready where that is. Else it runs tasks, until it finds none or ran 200 since it last let
     /// others go first.
     fn poll(&mut self, waker: &ExWaker<T, W, R>) -> Poll<Result<G::Output, RunError>>
-        ensures answer { IsRunAnswer self.old.future self.new.future self.old.polled self.new.polled result }
+        ensures answer { IsRunAnswer self.old.future self.new.future self.old.answered self.new.answered result }
         ensures left { HasLeft self.new.runner.is_drained (has_left self.new.ticker) result }
-        ensures counted { GoesOn self.old.counts self.new.counts self.old.polled self.new.polled }
+        ensures counted { GoesOn self.old.counts self.new.counts self.old.answered self.new.answered }
     {
-        self.go_on(waker, &mut Unlocked::at_entry())
+        let poll = RunPoll {
+            run: (),
+            waker: name_given_to(waker),
+        };
+        let steps = begun(Asked::PollRun(poll, self.stage()));
+        self.go_on(waker, steps, &mut Unlocked::at_entry())
     }
 }
 
@@ -351,7 +366,7 @@ where
             future,
             runner,
             ticker,
-            polled: _,
+            answered: _,
             counts: _,
         } = self;
         let steps = begun(Asked::DropRun((), runner.stage()));

@@ -1,22 +1,26 @@
 //! How an executor that isn't static is made and ends, and how it becomes a static one.
-ghost use Rattle.std.specs.Prelude.{◌≡◌, ◌<◌, ◌≤◌, [], true, false, Some, IfOk, map};
+ghost use Rattle.std.specs.Prelude.{◌≡◌, ◌<◌, ◌≤◌, ◌-◌, [], ◌∷◌, ◌++◌, true, false, Some, IfOk, length, map};
 ghost use Rattle.std.specs.VecDeque.{deque_capacity};
 ghost use Rattle.std.specs.Arc.{arc_value};
-ghost use Rattle.async_executor.specs.Stages.{closing};
-ghost use Rattle.executor_parts.specs.Places.{unwoken};
+ghost use Rattle.call_steps.specs.Closing.{closing, drained, leaking};
+ghost use Rattle.call_steps.specs.declared.reply.Reply.TheVariants as reply;
+ghost use Rattle.call_steps.specs.declared.step.CallStep.TheVariants as step;
+ghost use Rattle.call_steps.specs.declared.step.table.ClosingStep.TheVariants as closing_step;
+ghost use Rattle.executor_parts.specs.Places.{turned, unwoken};
 
 use crate::body::Body;
-use crate::call::Call;
 use crate::due::close_and_pay;
 use crate::entry::{Executor, Unlocked};
 use crate::foreign::Foreign;
-use crate::leaving::Leaving;
+use crate::leaving::{Leaving, see_woken};
 use crate::locks::Guarded;
 use crate::names::{ExRealm, ExWaker, TableWaker};
-use crate::queues::FromQueues;
 use crate::sections;
 use crate::state::State;
+use crate::steps::Steps;
+use crate::task_name::TaskName;
 use async_task::{Future, NoMemory, Returning, StoredWaker, Wake};
+use call_steps::{Last, Reply, Saw};
 use executor_parts::{Mark, Places};
 use std::alloc::Global;
 use std::collections::VecDeque;
@@ -73,12 +77,19 @@ where
 /// 4. Takes from the urgent queue until nothing is left, then from the plain one, and drops each Runnable: each task is closed, and
 ///    who awaits it is called. A Runnable that a wake in progress still has comes back from the closed queue, and is dropped there.
 /// 5. Closes what was let go of tasks in its realm.
-pub fn end<F, T, W, R>(body: Body<F, T, W, R>, leaving: Leaving, unlocked: &mut Unlocked)
+pub fn end<F, T, W, R>(
+    body: Body<F, T, W, R>,
+    leaving: Leaving,
+    steps: Steps,
+    unlocked: &mut Unlocked,
+) -> Last
 where
     F: Drop,
     T: Drop + 'static,
     W: Wake + Drop + 'static,
     R: Wait + Copy + Drop + 'static,
+    requires { steps ≡ step.Closing closing_step.TakeOut ∷ step.End reply.Done ∷ [] }
+    ensures { result ≡ reply.Done }
 {
     let Body {
         realm,
@@ -89,27 +100,36 @@ where
         rt,
         alloc: _,
     } = body;
-    let mut leaving = leaving;
-    drop_futures(rt, realm, table.into_inner(), &mut leaving, unlocked);
-    leaving.wake_all(rt, realm, unlocked);
+    let (mut leaving, mut steps) = (leaving, steps);
+    let table = table.into_inner();
+    steps.follow(Saw::Closes(table.len() as u64, leaving.len() as u64));
+    drop_futures(rt, realm, table, &mut leaving, &mut steps, unlocked);
+    leaving.wake_all(rt, realm, &mut steps, unlocked);
     leaving.end();
-    let mut call = Call::begin();
-    state.close(&rt, &mut call);
-    drain(rt, realm, &state, call, unlocked);
+    state.close(&rt, &mut steps);
+    drain(rt, realm, &state, Mark::Urgent, &mut steps, unlocked);
+    drain(rt, realm, &state, Mark::Plain, &mut steps, unlocked);
     returned.end(rt, realm, unlocked);
+    steps.end(Reply::Done)
 }
 
 /// An executor is leaked: it becomes a static one, whose table keeps no waker. Each waker of the table is taken out and called,
 /// in the order of acceptance: each task is queued, or was before. It takes no memory.
-pub fn leak<F, T, W, R>(body: Body<F, T, W, R>, unlocked: &mut Unlocked) -> Body<F, T, W, R>
+pub fn leak<F, T, W, R>(
+    body: Body<F, T, W, R>,
+    steps: Steps,
+    unlocked: &mut Unlocked,
+) -> (Body<F, T, W, R>, Last)
 where
     F: Drop,
     T: Drop + 'static,
     W: Wake + Drop + 'static,
     R: Wait + Copy + Drop + 'static,
-    ensures kind { result.is_static ≡ true }
-    ensures here { result.realm.now.number ≡ body.realm.now.number }
-    ensures state { result.state ≡ body.state }
+    requires { steps ≡ step.Closing closing_step.LeakOut ∷ step.End reply.Done ∷ [] }
+    ensures kind { result.0.is_static ≡ true }
+    ensures here { result.0.realm.now.number ≡ body.realm.now.number }
+    ensures state { result.0.state ≡ body.state }
+    ensures answer { result.1 ≡ reply.Done }
 {
     let Body {
         realm,
@@ -120,9 +140,10 @@ where
         rt,
         alloc,
     } = body;
-    let mut table = table.into_inner();
-    call_wakers(rt, realm, &mut table, unlocked);
-    Body {
+    let (mut table, mut steps) = (table.into_inner(), steps);
+    steps.follow(Saw::Closes(0, table.len() as u64));
+    call_wakers(rt, realm, &mut table, &mut steps, unlocked);
+    let leaked = Body {
         realm,
         state,
         table: Guarded::new(table),
@@ -130,7 +151,8 @@ where
         returned,
         rt,
         alloc,
-    }
+    };
+    (leaked, steps.end(Reply::Done))
 }
 
 /// Takes each waker out of a table, and calls it, in the order of acceptance. Nothing else goes.
@@ -138,6 +160,7 @@ fn call_wakers<F, T, W, R>(
     rt: R,
     realm: &'static ExRealm<T, W, R>,
     table: &mut Places<F, TableWaker>,
+    steps: &mut Steps,
     unlocked: &mut Unlocked,
 )
 where
@@ -145,51 +168,77 @@ where
     T: Drop + 'static,
     W: Wake + Drop + 'static,
     R: Wait + Copy + Drop + 'static,
+    requires { steps.old ≡ leaking (length table.old.entries) ++ step.End reply.Done ∷ [] }
     ensures none { table.new.entries ≡ map unwoken table.old.entries }
     ensures rest { table.new ≡ record table.old { entries = table.new.entries } }
+    ensures steps { steps.new ≡ step.End reply.Done ∷ [] }
 {
-    for _step in 0..table.len() {
-        if let Some(waker) = sections::turn(table) {
-            waker.call(rt, realm, unlocked);
-        }
+    let wakers = table.len();
+    for place in 0..wakers {
+        call_next(rt, realm, table, wakers - place, steps, unlocked);
     }
 }
 
-/// Drops each Runnable that is left in the executor's queues, which are closed: those of the urgent one first.
+/// Takes the next waker out, where so many entries are still to come to, and calls it. One without a waker counts as woken.
+fn call_next<F, T, W, R>(
+    rt: R,
+    realm: &'static ExRealm<T, W, R>,
+    table: &mut Places<F, TableWaker>,
+    left: usize,
+    steps: &mut Steps,
+    unlocked: &mut Unlocked,
+)
+where
+    F: Drop,
+    T: Drop + 'static,
+    W: Wake + Drop + 'static,
+    R: Wait + Copy + Drop + 'static,
+    requires some { 0 < left }
+    requires leaks { steps.old ≡ leaking left ++ step.End reply.Done ∷ [] }
+    ensures steps { steps.new ≡ leaking (left - 1) ++ step.End reply.Done ∷ [] }
+    ensures turned { table.new.entries ≡ turned table.old.entries }
+    ensures rest { table.new ≡ record table.old { entries = table.new.entries } }
+{
+    let left = (left - 1) as u64;
+    match sections::turn(table) {
+        Some(waker) => waker.call_in_leak(rt, realm, left, steps, unlocked),
+        None => see_woken(TaskName::of_none(), false, left, steps),
+    }
+}
+
+/// Drops each Runnable that is left in the executor's queue of this mark, which is closed.
 fn drain<T, W, R>(
     rt: R,
     realm: &'static ExRealm<T, W, R>,
     state: &State<W>,
-    call: Call,
+    mark: Mark,
+    steps: &mut Steps,
     unlocked: &mut Unlocked,
 )
 where
     T: Drop + 'static,
     W: Wake + Drop + 'static,
     R: Wait + Copy + Drop + 'static,
-    requires { call ≡ closing }
+    requires { steps.old ≡ step.Closing (closing_step.Drain mark) ∷ step.End reply.Done ∷ [] }
+    ensures { steps.new ≡ drained mark ++ step.End reply.Done ∷ [] }
 {
-    let mut call = call;
     for _ in rt.forever() {
-        let found = state.look_from(Mark::Urgent, &rt, &mut call);
-        let Some(FromQueues { runnable, mark: _ }) = found else {
-            call.end();
+        let Some(runnable) = state.take_closed(mark, &rt, steps) else {
             return;
         };
-        let mut steps = call.close(&runnable);
-        close_and_pay(rt, realm, &mut steps, runnable, unlocked);
-        steps.close();
+        close_and_pay(rt, realm, steps, runnable, unlocked);
     }
     unreachable!()
 }
 
 /// Drops each future of a table, in the order of acceptance. Their wakers go into a list that has room for them, in the same
-/// order; one without room would be called at once.
+/// order.
 fn drop_futures<F, T, W, R>(
     rt: R,
     realm: &'static ExRealm<T, W, R>,
     table: Places<F, TableWaker>,
     leaving: &mut Leaving,
+    steps: &mut Steps,
     unlocked: &mut Unlocked,
 )
 where
@@ -197,19 +246,47 @@ where
     T: Drop + 'static,
     W: Wake + Drop + 'static,
     R: Wait + Copy + Drop + 'static,
+    requires { steps.old ≡ closing (length table.entries) (length leaving.old.wakers.items) ++ step.End reply.Done ∷ [] }
+    ensures { steps.new ≡ closing 0 (length leaving.new.wakers.items) ++ step.End reply.Done ∷ [] }
 {
     let mut table = table;
     for _ in rt.forever() {
-        let Some((future, waker)) = table.leave_first() else {
+        let Some((future, waker)) = sections::leave_first(&mut table) else {
             return;
         };
-        if let Some(future) = future {
-            Foreign::of(future).let_go(unlocked);
-        }
-        if let Some(waker) = waker {
-            if let Err(waker) = leaving.push(waker) {
-                waker.call(rt, realm, unlocked);
-            }
-        }
+        let left = table.len() as u64;
+        drop_next(rt, realm, future, waker, left, leaving, steps, unlocked);
+    }
+    unreachable!()
+}
+
+/// Drops the future of the first entry, where so many entries are left, and keeps its waker. One for which there were no room
+/// would be called at once.
+fn drop_next<F, T, W, R>(
+    rt: R,
+    realm: &'static ExRealm<T, W, R>,
+    future: Option<Foreign<F>>,
+    waker: TableWaker,
+    left: u64,
+    leaving: &mut Leaving,
+    steps: &mut Steps,
+    unlocked: &mut Unlocked,
+)
+where
+    F: Drop,
+    T: Drop + 'static,
+    W: Wake + Drop + 'static,
+    R: Wait + Copy + Drop + 'static,
+    requires { steps.old ≡ step.Closing closing_step.DropNext ∷ step.End reply.Done ∷ [] }
+    ensures { steps.new ≡ closing left (length leaving.new.wakers.items) ++ step.End reply.Done ∷ [] }
+{
+    let (name, refused) = leaving.keep(waker);
+    steps.follow(Saw::Drops(name, left, leaving.len() as u64));
+    if let Some(future) = future {
+        future.let_go(unlocked);
+    }
+    steps.follow(Saw::Nothing);
+    if let Some(waker) = refused {
+        waker.call_apart(rt, realm, unlocked);
     }
 }

@@ -1,5 +1,5 @@
 //! Values of a user's, which came out from under a lock.
-ghost use Rattle.std.specs.Prelude.{◌≡◌, ◌∷◌, [], Some, true, false};
+ghost use Rattle.std.specs.Prelude.{◌≡◌, ◌∷◌, [], Some};
 ghost use Rattle.call_steps.specs.Seeing.{due};
 ghost use Rattle.call_steps.specs.Todo.{below, top};
 ghost use Rattle.call_steps.specs.declared.reply.Reply.TheVariants as reply;
@@ -8,8 +8,8 @@ ghost use Rattle.call_steps.specs.declared.step.run.RunStep.TheVariants as run_s
 ghost use Rattle.call_steps.specs.declared.step.tick.SleeperStep.TheVariants as sleeper_step;
 ghost use Rattle.call_steps.specs.declared.step.tick.TickStep.TheVariants as tick_step;
 ghost use Rattle.async_executor.specs.Foreign.{value_of};
-ghost use Rattle.async_executor.specs.Steps.{of_handed, sleeper};
-ghost use Rattle.async_executor.specs.Ticks.{found_asleep, sleeping};
+ghost use Rattle.async_executor.specs.Steps.{of_handed, sleeper_as};
+ghost use Rattle.async_executor.specs.Ticks.{sleeping};
 
 use crate::due::{Handed, pay_next};
 use crate::entry::Unlocked;
@@ -18,7 +18,7 @@ use crate::sleeping::SleeperWaker;
 use crate::steps::Steps;
 use crate::task_name::TaskName;
 use async_task::{Future, Poll, Wake};
-use call_steps::{Sleeping, TickOrRun, Waker};
+use call_steps::{TickOrRun, Waker};
 use std::sync::Wait;
 
 /// A value of a user's, whose code runs only while no lock is held. It has no drop: it is let go, or called, by who is lent an
@@ -81,30 +81,23 @@ pub fn came_out<X>(value: Option<X>) -> Option<Foreign<X>>
 }
 
 impl<W: Wake + Drop + 'static> Foreign<SleeperWaker<W>> {
-    /// Who sleeps with the waker.
-    #[inline(always)]
-    pub fn sleeper(&self) -> Sleeping<TaskName, ()>
-        ensures { result ≡ sleeper self.now.value }
-    {
-        self.value.sleeper()
-    }
-
     /// Calls the waker. Where a task has to be queued then, it is the answer.
     pub fn wake<T, R>(
         self,
         rt: R,
         realm: &'static ExRealm<T, W, R>,
+        who: &TickOrRun<()>,
         steps: &mut Steps,
         unlocked: &Unlocked,
     ) -> Option<Handed<T, W, R>>
     where
         T: Drop + 'static,
         R: Wait + Copy + Drop + 'static,
-        requires { top steps.old ≡ Some (step.Sleeper (sleeper_step.CallSleeper (sleeper self.value))) }
+        requires { top steps.old ≡ Some (step.Sleeper (sleeper_step.CallSleeper (sleeper_as who.now self.value))) }
         ensures { steps.new ≡ due (of_handed result) (below steps.old) }
     {
         let Foreign { value } = self;
-        value.wake(rt, realm, steps, unlocked)
+        value.wake(rt, realm, who, steps, unlocked)
     }
 
     /// Calls the waker, with all that this leads to.
@@ -112,16 +105,17 @@ impl<W: Wake + Drop + 'static> Foreign<SleeperWaker<W>> {
         self,
         rt: R,
         realm: &'static ExRealm<T, W, R>,
+        who: &TickOrRun<()>,
         steps: &mut Steps,
         unlocked: &mut Unlocked,
     )
     where
         T: Drop + 'static,
         R: Wait + Copy + Drop + 'static,
-        requires { top steps.old ≡ Some (step.Sleeper (sleeper_step.CallSleeper (sleeper self.value))) }
+        requires { top steps.old ≡ Some (step.Sleeper (sleeper_step.CallSleeper (sleeper_as who.now self.value))) }
         ensures { steps.new ≡ below steps.old }
     {
-        let handed = self.wake(rt, realm, steps, unlocked);
+        let handed = self.wake(rt, realm, who, steps, unlocked);
         pay_next(rt, handed, steps, unlocked);
     }
 
@@ -144,42 +138,43 @@ impl<W: Wake + Drop + 'static> Foreign<SleeperWaker<W>> {
         value.leave_with(rt, realm, who, steps, unlocked);
     }
 
-    /// A tick that found a Runnable of this task wakes up with this waker, which goes, with all that this leads to.
+    /// One wakes up with this waker, which goes, with all that this leads to.
     pub fn wake_up_with<T, R>(
         self,
         rt: R,
         realm: &'static ExRealm<T, W, R>,
-        found: &TaskName,
+        who: &TickOrRun<()>,
         steps: &mut Steps,
         unlocked: &mut Unlocked,
     )
     where
         T: Drop + 'static,
         R: Wait + Copy + Drop + 'static,
-        requires { steps.old ≡ found_asleep true found.now }
-        ensures { steps.new ≡ found_asleep false found.now }
+        requires { top steps.old ≡ Some (step.Tick (tick_step.WakeUp who.now)) }
+        ensures { steps.new ≡ below steps.old }
     {
         let Foreign { value } = self;
-        value.wake_up_with(rt, realm, found, steps, unlocked);
+        value.wake_up_with(rt, realm, who, steps, unlocked);
     }
 
-    /// A tick sleeps on with another waker, of this name, and without this one, which goes, with all that this leads to.
+    /// One sleeps on with another waker, of this name, and without this one, which goes, with all that this leads to.
     pub fn sleep_on_without<T, R>(
         self,
         rt: R,
         realm: &'static ExRealm<T, W, R>,
         name: &Waker<TaskName>,
+        who: &TickOrRun<()>,
         steps: &mut Steps,
         unlocked: &mut Unlocked,
     )
     where
         T: Drop + 'static,
         R: Wait + Copy + Drop + 'static,
-        requires { steps.old ≡ step.Tick (tick_step.FallAsleep (sleeping name.now)) ∷ [] }
+        requires { steps.old ≡ step.Tick (tick_step.FallAsleep (sleeping who.now name.now)) ∷ [] }
         ensures { steps.new ≡ step.End reply.Pending ∷ [] }
     {
         let Foreign { value } = self;
-        value.sleep_on_without(rt, realm, name, steps, unlocked);
+        value.sleep_on_without(rt, realm, name, who, steps, unlocked);
     }
 
     /// Drops the waker. Where a task has to be queued then, it is the answer.

@@ -1,13 +1,27 @@
 //! The wakers that an executor's drop, or its leak, takes out of its table.
-ghost use Rattle.std.specs.Prelude.{◌≡◌, [], ◌∷◌, ◌++◌, drop as list_drop, slice_get, OnOk, IfErr, None};
+ghost use Rattle.std.specs.Prelude.{◌≡◌, ◌+◌, [], ◌∷◌, ◌++◌, false, drop as list_drop, length, slice_get};
+ghost use Rattle.std.specs.Prelude.{IfErr, IfSome, None, OnOk, OnSome};
+ghost use Rattle.async_executor.specs.Closing.{woke};
+ghost use Rattle.call_steps.specs.Closing.{closing, leaking};
+ghost use Rattle.call_steps.specs.Fitting.{Fits};
+ghost use Rattle.call_steps.specs.Todo.{following, top};
+ghost use Rattle.call_steps.specs.declared.reply.Reply.TheVariants as reply;
+ghost use Rattle.call_steps.specs.declared.step.CallStep.TheVariants as step;
+ghost use Rattle.call_steps.specs.declared.step.table.ClosingStep.TheVariants as closing_step;
+ghost use Rattle.executor_parts.specs.declared.mark.Mark.TheVariants as mark;
 
-use crate::due::pay;
+use crate::due::{Handed, pay, pay_next};
 use crate::entry::Unlocked;
-use crate::names::ExRealm;
+use crate::names::{ExRealm, TableWaker};
+use crate::steps::Steps;
+use crate::task_name::TaskName;
 use async_task::{Returning, StoredWaker, Wake};
+use call_steps::Saw;
 use std::collections::VecDeque;
 use std::marker::Model;
 use std::sync::Wait;
+use task_moves::ScheduleInfo;
+use task_moves::moves::Owed;
 
 /// A waker that came out of the table. It has no drop: it is called.
 #[must_use]
@@ -30,8 +44,34 @@ impl ToCall {
         ToCall { waker }
     }
 
-    /// Calls it. Its task is queued then, or was before.
-    pub fn call<T, W, R>(self, rt: R, realm: &'static ExRealm<T, W, R>, unlocked: &mut Unlocked)
+    /// Calls it. Its task is queued then, or was before: where it is to be queued, it is the answer.
+    fn call<T, W, R>(
+        self,
+        rt: R,
+        realm: &'static ExRealm<T, W, R>,
+        unlocked: &Unlocked,
+    ) -> Option<Handed<T, W, R>>
+    where
+        T: Drop + 'static,
+        W: Wake + Drop + 'static,
+        R: Wait + Copy + Drop + 'static,
+        ensures { IfSome result (λ handed. handed.runnable.stored.identity ≡ self.identity) }
+    {
+        let _ = unlocked;
+        let ToCall { waker } = self;
+        match waker.wake(rt, realm) {
+            Some(due) => Some(Handed::of(due)),
+            None => None,
+        }
+    }
+
+    /// Calls it, with all that this leads to, as a part of its own.
+    pub fn call_apart<T, W, R>(
+        self,
+        rt: R,
+        realm: &'static ExRealm<T, W, R>,
+        unlocked: &mut Unlocked,
+    )
     where
         T: Drop + 'static,
         W: Wake + Drop + 'static,
@@ -40,6 +80,58 @@ impl ToCall {
         let ToCall { waker } = self;
         let due = waker.wake(rt, realm);
         pay(rt, due, unlocked);
+    }
+
+    /// A leak calls it, with all that this leads to, and so many are left.
+    pub fn call_in_leak<T, W, R>(
+        self,
+        rt: R,
+        realm: &'static ExRealm<T, W, R>,
+        left: u64,
+        steps: &mut Steps,
+        unlocked: &mut Unlocked,
+    )
+    where
+        T: Drop + 'static,
+        W: Wake + Drop + 'static,
+        R: Wait + Copy + Drop + 'static,
+        requires { steps.old ≡ step.Closing closing_step.LeakNext ∷ step.End reply.Done ∷ [] }
+        ensures { steps.new ≡ leaking left ++ step.End reply.Done ∷ [] }
+    {
+        let name = TaskName::of_waker(&self.waker);
+        match self.call(rt, realm, unlocked) {
+            Some(handed) => {
+                see_woken(name, true, left, steps);
+                pay_next(rt, Some(handed), steps, unlocked);
+            }
+            None => see_woken(name, false, left, steps),
+        }
+    }
+
+    /// An executor's drop calls it, with all that this leads to, and so many are left.
+    fn call_in_drop<T, W, R>(
+        self,
+        rt: R,
+        realm: &'static ExRealm<T, W, R>,
+        left: u64,
+        steps: &mut Steps,
+        unlocked: &mut Unlocked,
+    )
+    where
+        T: Drop + 'static,
+        W: Wake + Drop + 'static,
+        R: Wait + Copy + Drop + 'static,
+        requires { steps.old ≡ step.Closing closing_step.WakeNext ∷ step.End reply.Done ∷ [] }
+        ensures { steps.new ≡ closing 0 left ++ step.End reply.Done ∷ [] }
+    {
+        let name = TaskName::of_waker(&self.waker);
+        match self.call(rt, realm, unlocked) {
+            Some(handed) => {
+                see_woken(name, true, left, steps);
+                pay_next(rt, Some(handed), steps, unlocked);
+            }
+            None => see_woken(name, false, left, steps),
+        }
     }
 }
 
@@ -56,8 +148,30 @@ impl Leaving {
         Leaving { wakers }
     }
 
+    /// How many there are.
+    pub fn len(&self) -> usize
+        ensures { result ≡ length self.now.wakers.items }
+    {
+        self.wakers.len()
+    }
+
+    /// The waker of an entry comes last, where it has one. It comes back where there is no room, and no memory for more. Whose task
+    /// the entry is of is the first answer, as far as it has a waker.
+    pub fn keep(&mut self, waker: TableWaker) -> (TaskName, Option<ToCall>) {
+        match waker {
+            Some(waker) => {
+                let name = TaskName::of_waker(&waker);
+                match self.push(waker) {
+                    Ok(()) => (name, None),
+                    Err(refused) => (name, Some(refused)),
+                }
+            }
+            None => (TaskName::of_none(), None),
+        }
+    }
+
     /// One more, which comes last. It comes back where there is no room, and no memory for more.
-    pub fn push(&mut self, waker: Returning<StoredWaker>) -> Result<(), ToCall>
+    fn push(&mut self, waker: Returning<StoredWaker>) -> Result<(), ToCall>
         ensures last { OnOk result (self.new.wakers.items ≡ self.old.wakers.items ++ waker ∷ []) }
         ensures back { IfErr result (λ back. (back ≡ waker) × (self.new.wakers.items ≡ self.old.wakers.items)) }
     {
@@ -71,7 +185,8 @@ impl Leaving {
     fn next(&mut self) -> Option<ToCall>
         ensures first { result ≡ slice_get self.old.wakers.items 0 }
         ensures rest { self.new.wakers.items ≡ list_drop 1 self.old.wakers.items }
-        ensures none { result ≡ None → self.new.wakers.items ≡ [] }
+        ensures none { result ≡ None → self.old.wakers.items ≡ [] }
+        ensures some { OnSome result (length self.old.wakers.items ≡ length self.new.wakers.items + 1) }
     {
         match self.wakers.pop_front() {
             Some(waker) => Some(ToCall::of(waker)),
@@ -79,24 +194,28 @@ impl Leaving {
         }
     }
 
-    /// Calls each waker, in order.
+    /// An executor's drop calls each waker, in order.
     pub fn wake_all<T, W, R>(
         &mut self,
         rt: R,
         realm: &'static ExRealm<T, W, R>,
+        steps: &mut Steps,
         unlocked: &mut Unlocked,
     )
     where
         T: Drop + 'static,
         W: Wake + Drop + 'static,
         R: Wait + Copy + Drop + 'static,
-        ensures { self.new.wakers.items ≡ [] }
+        requires { steps.old ≡ closing 0 (length self.old.wakers.items) ++ step.End reply.Done ∷ [] }
+        ensures called { self.new.wakers.items ≡ [] }
+        ensures steps { steps.new ≡ step.Closing (closing_step.Close mark.Urgent) ∷ step.End reply.Done ∷ [] }
     {
         for _ in rt.forever() {
             let Some(waker) = self.next() else {
                 return;
             };
-            waker.call(rt, realm, unlocked);
+            let left = self.len() as u64;
+            waker.call_in_drop(rt, realm, left, steps, unlocked);
         }
         unreachable!()
     }
@@ -107,5 +226,44 @@ impl Leaving {
     {
         let Leaving { wakers } = self;
         drop(wakers);
+    }
+}
+
+/// A waker that came out of the table was called, of this task, and all that this owed was paid in that, but for its Runnable,
+/// where that is due; so many wakers are left.
+pub fn see_woken(woken: TaskName, is_due: bool, left: u64, steps: &mut Steps)
+    requires { Fits (top steps.old) (woke woken is_due left) }
+    ensures { steps.new ≡ following (woke woken is_due left) steps.old }
+{
+    if is_due {
+        let info = ScheduleInfo {
+            woken_while_running: false,
+        };
+        steps.follow(Saw::Wakes(woken, false, owing(Some(info)), left));
+    } else {
+        steps.follow(Saw::Wakes(woken, false, owing(None), left));
+    }
+}
+
+/// What a task owes that was woken: its Runnable, where that is due.
+fn owing(schedule: Option<ScheduleInfo>) -> Owed
+    ensures { result ≡ record {
+      schedule = schedule;
+      future = None;
+      drop_output = false;
+      awaiter = None;
+      next = None;
+      answer = None;
+      empty_cell = false;
+    } }
+{
+    Owed {
+        schedule,
+        future: None,
+        drop_output: false,
+        awaiter: None,
+        next: None,
+        answer: None,
+        empty_cell: false,
     }
 }

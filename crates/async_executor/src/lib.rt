@@ -3,8 +3,8 @@
 #![tactic(auto)]
 
 mod body;
-mod call;
 mod closing;
+mod counts;
 mod debug;
 mod due;
 mod entry;

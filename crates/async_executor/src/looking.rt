@@ -1,15 +1,19 @@
 //! How a try, a search and a drop look into queues.
-ghost use Rattle.std.specs.Prelude.{◌≡◌, ◌∷◌, [], false, is_some};
+ghost use Rattle.std.specs.Prelude.{◌≡◌, ◌∷◌, [], ◌++◌};
 ghost use Rattle.call_steps.specs.declared.names.Look.TheVariants as look;
 ghost use Rattle.call_steps.specs.declared.step.CallStep.TheVariants as step;
 ghost use Rattle.call_steps.specs.declared.saw.Saw.TheVariants as saw;
+ghost use Rattle.call_steps.specs.declared.reply.Reply.TheVariants as reply;
+ghost use Rattle.call_steps.specs.declared.step.table.ClosingStep.TheVariants as closing_step;
 ghost use Rattle.call_steps.specs.declared.step.table.QueueStep.TheVariants as queue_step;
 ghost use Rattle.call_steps.specs.declared.step.tick.TickStep.TheVariants as tick_step;
-ghost use Rattle.async_executor.specs.Stages.{took, looked, looked_in};
+ghost use Rattle.async_executor.specs.Runs.{looked_common, looked_first, looked_second, poll_with};
+ghost use Rattle.call_steps.specs.declared.names.TickOrRun.TheVariants as tick_or_run;
+ghost use Rattle.call_steps.specs.declared.step.run.RunStep.TheVariants as run_step;
+ghost use Rattle.async_executor.specs.Closing.{drains};
 ghost use Rattle.async_executor.specs.Steps.{of_stored, tried, tried_first};
 ghost use Rattle.async_executor.specs.Ticks.{searched, searched_first, sleeping};
 
-use crate::call::Call;
 use crate::names::ExStoredRunnable;
 use crate::queues::{FromQueues, Queue};
 use crate::state::State;
@@ -79,74 +83,104 @@ impl<W: Drop> State<W> {
         }
     }
 
-    /// Takes the first Runnable of the queue of this mark in hand, in a search or a drop, where there is one.
-    #[inline(always)]
-    fn look_in<R: Wait>(&self, mark: Mark, rt: &R, call: &mut Call) -> Option<ExStoredRunnable>
-        requires free { call.old.holds ≡ false }
-        requires told { call.old.owes ≡ false }
-        ensures { call.new ≡ looked_in mark (is_some result) call.old }
-    {
-        match pop(self.queues.of(mark), rt) {
-            Some(runnable) => {
-                call.look(mark, true);
-                Some(runnable)
-            }
-            None => {
-                call.look(mark, false);
-                None
-            }
-        }
-    }
-
-    /// The same. A queue that is empty is left after loads alone, with no pop.
-    #[inline(always)]
-    fn look_in_if_any<R: Wait>(
+    /// An executor's drop takes the first Runnable of the queue of this mark, which is closed.
+    pub fn take_closed<R: Wait>(
         &self,
         mark: Mark,
         rt: &R,
-        call: &mut Call,
+        steps: &mut Steps,
     ) -> Option<ExStoredRunnable>
-        requires free { call.old.holds ≡ false }
-        requires told { call.old.owes ≡ false }
-        ensures { call.new ≡ looked_in mark (is_some result) call.old }
+        requires { steps.old ≡ step.Closing (closing_step.Drain mark) ∷ step.End reply.Done ∷ [] }
+        ensures { steps.new ≡ drains mark (of_stored result) ++ step.End reply.Done ∷ [] }
     {
-        if self.queues.of(mark).is_empty(rt) {
-            call.look(mark, false);
-            return None;
-        }
-        self.look_in(mark, rt, call)
-    }
-
-    /// Takes the first Runnable of the queue of this mark in hand; where there is none, the first of the other one.
-    #[inline(always)]
-    pub fn look_from<R: Wait>(&self, mark: Mark, rt: &R, call: &mut Call) -> Option<FromQueues>
-        requires free { call.old.holds ≡ false }
-        requires told { call.old.owes ≡ false }
-        ensures { call.new ≡ looked (is_some result) call.old }
-    {
-        if let Some(runnable) = self.look_in_if_any(mark, rt, call) {
-            return Some(FromQueues { runnable, mark });
-        }
-        let mark = mark.other();
-        match self.look_in(mark, rt, call) {
-            Some(runnable) => Some(FromQueues { runnable, mark }),
+        match pop(self.queues.of(mark), rt) {
+            Some(runnable) => {
+                steps.follow(Saw::Found(TaskName::of_runnable(&runnable)));
+                Some(runnable)
+            }
             None => {
-                call.find_none();
+                steps.follow(Saw::Nothing);
                 None
             }
         }
     }
 
-    /// A search of the executor's queues: takes a turn, and then the first Runnable of the queue that this names, or else of the
-    /// other one.
-    #[inline(always)]
-    pub fn search<R: Wait>(&self, rt: &R, call: &mut Call) -> Option<FromQueues>
-        requires free { call.old.holds ≡ false }
-        requires told { call.old.owes ≡ false }
-        ensures { call.new ≡ looked (is_some result) call.old }
+    /// A run's look at the executor's queues, in a poll with a waker of this name: takes a turn, and then the first Runnable of the
+    /// queue that this names, or else of the other one.
+    pub fn look_common<R: Wait>(
+        &self,
+        rt: &R,
+        name: &Waker<TaskName>,
+        steps: &mut Steps,
+    ) -> Option<FromQueues>
+        requires { steps.old ≡ step.Run (run_step.TakeTurn (poll_with name.now)) ∷ [] }
+        ensures { steps.new ≡ looked_common name.now result }
     {
         let mark = self.turns.take();
-        self.look_from(mark, rt, call)
+        steps.follow(Saw::Turn(mark));
+        if let Some(runnable) = self.look_common_first(mark, rt, name, steps) {
+            return Some(FromQueues { runnable, mark });
+        }
+        let other = mark.other();
+        match self.look_common_second(other, rt, name, steps) {
+            Some(runnable) => Some(FromQueues {
+                runnable,
+                mark: other,
+            }),
+            None => None,
+        }
+    }
+
+    /// The first of these looks. A queue that is empty is left after loads alone, with no pop.
+    fn look_common_first<R: Wait>(
+        &self,
+        mark: Mark,
+        rt: &R,
+        name: &Waker<TaskName>,
+        steps: &mut Steps,
+    ) -> Option<ExStoredRunnable>
+        requires { steps.old ≡ step.Run (run_step.SearchCommon (poll_with name.now) (look.First mark)) ∷ [] }
+        ensures { steps.new ≡ looked_first mark name.now (of_stored result) }
+    {
+        let _ = name;
+        if self.queues.of(mark).is_empty(rt) {
+            steps.follow(Saw::Nothing);
+            return None;
+        }
+        match pop(self.queues.of(mark), rt) {
+            Some(runnable) => {
+                steps.follow(Saw::Found(TaskName::of_runnable(&runnable)));
+                Some(runnable)
+            }
+            None => {
+                steps.follow(Saw::Nothing);
+                None
+            }
+        }
+    }
+
+    /// The second one.
+    fn look_common_second<R: Wait>(
+        &self,
+        mark: Mark,
+        rt: &R,
+        name: &Waker<TaskName>,
+        steps: &mut Steps,
+    ) -> Option<ExStoredRunnable>
+        requires { steps.old ≡ step.Run (run_step.SearchCommon (poll_with name.now) (look.Second mark)) ∷ [] }
+        ensures { steps.new ≡ looked_second mark name.now (of_stored result) }
+    {
+        let _ = name;
+        match pop(self.queues.of(mark), rt) {
+            Some(runnable) => {
+                steps.follow(Saw::Found(TaskName::of_runnable(&runnable)));
+                Some(runnable)
+            }
+            None => {
+                steps.follow(Saw::Nothing);
+                None
+            }
+        }
     }
 
     /// A search of a tick that sleeps or not, and was polled with a waker of this name: takes a turn, and then the first Runnable
@@ -159,7 +193,7 @@ impl<W: Drop> State<W> {
         sleeps: bool,
         steps: &mut Steps,
     ) -> Option<ExStoredRunnable>
-        requires { steps.old ≡ step.Tick (tick_step.Search (sleeping name.now)) ∷ [] }
+        requires { steps.old ≡ step.Tick (tick_step.Search (sleeping (tick_or_run.Tick tt) name.now)) ∷ [] }
         ensures { steps.new ≡ searched name.now sleeps (of_stored result) }
     {
         let mark = self.turns.take();
@@ -180,7 +214,7 @@ impl<W: Drop> State<W> {
         sleeps: bool,
         steps: &mut Steps,
     ) -> Option<ExStoredRunnable>
-        requires { steps.old ≡ step.Tick (tick_step.Look (sleeping name.now) (look.First mark)) ∷ [] }
+        requires { steps.old ≡ step.Tick (tick_step.Look (sleeping (tick_or_run.Tick tt) name.now) (look.First mark)) ∷ [] }
         ensures { steps.new ≡ searched_first mark name.now sleeps (of_stored result) }
     {
         let _ = name;
@@ -210,7 +244,7 @@ impl<W: Drop> State<W> {
         sleeps: bool,
         steps: &mut Steps,
     ) -> Option<ExStoredRunnable>
-        requires { steps.old ≡ step.Tick (tick_step.Look (sleeping name.now) (look.Second mark)) ∷ [] }
+        requires { steps.old ≡ step.Tick (tick_step.Look (sleeping (tick_or_run.Tick tt) name.now) (look.Second mark)) ∷ [] }
         ensures { steps.new ≡ searched name.now sleeps (of_stored result) }
     {
         let _ = name;
@@ -246,23 +280,5 @@ pub fn pop<R: Wait>(queue: &Queue, rt: &R) -> Option<ExStoredRunnable> {
     match queue.pop(rt) {
         Ok(runnable) => Some(runnable.into_inner()),
         Err(_) => None,
-    }
-}
-
-/// Takes the first Runnable of a run's own queue in hand, where there is one.
-pub fn take_from_own<R: Wait>(queue: &Queue, rt: &R, call: &mut Call) -> Option<ExStoredRunnable>
-    requires free { call.old.holds ≡ false }
-    requires told { call.old.owes ≡ false }
-    ensures { call.new ≡ took (is_some result) call.old }
-{
-    match pop(queue, rt) {
-        Some(runnable) => {
-            call.take(true);
-            Some(runnable)
-        }
-        None => {
-            call.take(false);
-            None
-        }
     }
 }

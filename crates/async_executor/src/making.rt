@@ -4,11 +4,14 @@ ghost use Rattle.async_executor.specs.Foreign.{value_of};
 ghost use Rattle.async_executor.specs.Polls.{has_left};
 ghost use Rattle.async_executor.specs.Seeds.{seeded};
 ghost use Rattle.async_executor.specs.Steps.{made};
+ghost use Rattle.call_steps.specs.declared.names.Section.TheVariants as section;
 ghost use Rattle.call_steps.specs.declared.step.CallStep.TheVariants as step;
+ghost use Rattle.call_steps.specs.declared.step.run.ListStep.TheVariants as list_step;
+ghost use Rattle.call_steps.specs.declared.step.run.RunStep.TheVariants as run_step;
 ghost use Rattle.call_steps.specs.declared.step.tick.TickStep.TheVariants as tick_step;
 
 use crate::body::Body;
-use crate::call::{Counts, Polled};
+use crate::counts::Counts;
 use crate::entry::{Run, Tick, Unlocked};
 use crate::foreign::Foreign;
 use crate::names::ExWaker;
@@ -18,6 +21,7 @@ use crate::steps::{Answered, Steps};
 use crate::ticker::Ticker;
 use async_task::{Future, NoMemory, Wake};
 use call_steps::{Last, Reply, Saw};
+use executor_parts::Room;
 use std::sync::Wait;
 
 impl<F, T, W, R> Body<F, T, W, R>
@@ -56,36 +60,86 @@ where
         }
     }
 
-    /// A run, which is awake. For want of memory the future comes back.
+    /// A run, which is awake. For want of memory the future comes back. The call's end is the second answer.
     pub(crate) fn make_run<G>(
         &self,
         future: G,
         seed: u64,
+        steps: Steps,
         unlocked: &mut Unlocked,
-    ) -> Result<Run<'_, F, T, W, R, G>, G>
+    ) -> (Result<Run<'_, F, T, W, R, G>, G>, Last)
     where
         G: Future<ExWaker<T, W, R>> + Drop,
-        ensures back { IfErr result (λ back. back ≡ future) }
-        ensures future { IfOk result (λ run. value_of run.future ≡ Some future) }
-        ensures words { IfOk result (λ run. run.runner.words ≡ seeded seed) }
+        requires { steps ≡ step.Run run_step.MakeRoom ∷ [] }
+        ensures back { IfErr result.0 (λ back. back ≡ future) }
+        ensures future { IfOk result.0 (λ run. value_of run.future ≡ Some future) }
+        ensures words { IfOk result.0 (λ run. run.runner.words ≡ seeded seed) }
+        ensures answer { result.1 ≡ made result.0 }
     {
+        let mut steps = steps;
         let made = make_room(self.state.sleepers.lock(&self.rt, unlocked).get());
-        let Ok(room) = made else {
-            return Err(future);
-        };
-        match Runner::new(&self.rt, self.alloc, &self.state, seed, unlocked) {
-            Ok(runner) => Ok(Run {
-                executor: self,
-                future: Some(Foreign::of(future)),
-                runner,
-                ticker: Ticker::Awake(room),
-                polled: Polled::never(),
-                counts: Counts::new(),
-            }),
-            Err(NoMemory) => {
-                give_back(self.state.sleepers.lock(&self.rt, unlocked).get(), room);
-                Err(future)
+        match made {
+            Ok(room) => {
+                steps.follow(Saw::Something);
+                self.make_run_in(room, future, seed, steps, unlocked)
             }
+            Err(_) => {
+                steps.follow(Saw::NoMemory);
+                (Err(future), steps.end(Reply::NoMemory))
+            }
+        }
+    }
+
+    /// A run that has this room to fall asleep in, which goes back where memory is wanted.
+    fn make_run_in<G>(
+        &self,
+        room: Room,
+        future: G,
+        seed: u64,
+        steps: Steps,
+        unlocked: &mut Unlocked,
+    ) -> (Result<Run<'_, F, T, W, R, G>, G>, Last)
+    where
+        G: Future<ExWaker<T, W, R>> + Drop,
+        requires { steps ≡ step.List (list_step.LockWrite section.MakeRun) ∷ [] }
+        ensures back { IfErr result.0 (λ back. back ≡ future) }
+        ensures future { IfOk result.0 (λ run. value_of run.future ≡ Some future) }
+        ensures words { IfOk result.0 (λ run. run.runner.words ≡ seeded seed) }
+        ensures answer { result.1 ≡ made result.0 }
+    {
+        let mut steps = steps;
+        steps.follow(Saw::Nothing);
+        match Runner::new(&self.rt, self.alloc, &self.state, seed, unlocked) {
+            Ok(runner) => {
+                steps.follow(Saw::Something);
+                steps.follow(Saw::Nothing);
+                let run = self.run_of(future, runner, room);
+                (Ok(run), steps.end(Reply::Made))
+            }
+            Err(NoMemory) => {
+                steps.follow(Saw::NoMemory);
+                steps.follow(Saw::Nothing);
+                give_back(self.state.sleepers.lock(&self.rt, unlocked).get(), room);
+                steps.follow(Saw::Nothing);
+                (Err(future), steps.end(Reply::NoMemory))
+            }
+        }
+    }
+
+    /// A run of these parts, which is awake and was never polled.
+    fn run_of<G>(&self, future: G, runner: Runner, room: Room) -> Run<'_, F, T, W, R, G>
+    where
+        G: Future<ExWaker<T, W, R>> + Drop,
+        ensures future { value_of result.future ≡ Some future }
+        ensures words { result.runner.words ≡ runner.words }
+    {
+        Run {
+            executor: self,
+            future: Some(Foreign::of(future)),
+            runner,
+            ticker: Ticker::Awake(room),
+            answered: Answered::never(),
+            counts: Counts::new(),
         }
     }
 }

@@ -7,10 +7,8 @@ ghost use Rattle.call_steps.specs.declared.step.CallStep.TheVariants as step;
 ghost use Rattle.call_steps.specs.declared.step.table.TableStep.TheVariants as table_step;
 ghost use Rattle.call_steps.specs.declared.step.user.UserStep.TheVariants as user_step;
 ghost use Rattle.async_executor.specs.Polling.{end_by, end_of};
-ghost use Rattle.async_executor.specs.Stages.{in_hand};
 
 use crate::body::Body;
-use crate::call::{Call, Ending, Last};
 use crate::due::pay;
 use crate::entry::Unlocked;
 use crate::names::{ExStoredRunnable, ExWaker};
@@ -32,23 +30,6 @@ where
     W: Wake + Drop + 'static,
     R: Wait + Copy + Drop + 'static,
 {
-    /// Runs the task in hand of a tick or run, and ends the call.
-    #[inline(always)]
-    pub(crate) fn run_found(
-        &self,
-        stored: ExStoredRunnable,
-        call: Call,
-        unlocked: &mut Unlocked,
-    ) -> Last
-        requires { call ≡ in_hand }
-        ensures { result ≡ Ending.Ran }
-    {
-        let (last, mut steps) = call.start(&stored);
-        self.poll_or_drop(stored, &mut steps, unlocked);
-        steps.close();
-        last
-    }
-
     /// Runs a task that was found.
     #[inline(always)]
     pub(crate) fn poll_or_drop(

@@ -1,21 +1,38 @@
 //! The own queue of a run, and how a run searches.
-ghost use Rattle.std.specs.Prelude.{◌≡◌, true, false, None, Some, IsSome, IfOk, IfErr, OnOk, is_some, is_err, length};
+ghost use Rattle.std.specs.Prelude.{◌≡◌, ◌∷◌, [], true, false, None, Some, IfOk, IfErr, OnOk, length};
 ghost use Rattle.std.specs.Arc.{arc_value};
+ghost use Rattle.call_steps.specs.Begins.{poll_run};
+ghost use Rattle.call_steps.specs.Stealing.{stolen_as};
+ghost use Rattle.call_steps.specs.declared.names.Source.TheVariants as source;
+ghost use Rattle.call_steps.specs.declared.names.Then.TheVariants as then;
+ghost use Rattle.call_steps.specs.declared.names.TickOrRun.TheVariants as tick_or_run;
+ghost use Rattle.call_steps.specs.declared.reply.Reply.TheVariants as reply;
+ghost use Rattle.call_steps.specs.declared.step.CallStep.TheVariants as step;
+ghost use Rattle.call_steps.specs.declared.step.run.StealStep.TheVariants as steal_step;
+ghost use Rattle.call_steps.specs.declared.step.tick.TickStep.TheVariants as tick_step;
+ghost use Rattle.call_steps.specs.declared.step.user.UserStep.TheVariants as user_step;
+ghost use Rattle.executor_parts.specs.declared.mark.Mark.TheVariants as mark;
 ghost use Rattle.async_executor.specs.Seeds.{seeded, words_after};
 ghost use Rattle.async_executor.specs.OwnQueues.{listed};
-ghost use Rattle.async_executor.specs.Stages.{idle, begun, looked};
+ghost use Rattle.async_executor.specs.Runs.{looked_own, looked_walking, poll_with, runs, searched_by_run};
+ghost use Rattle.async_executor.specs.Runs.{stage_by, steal_with, walked, walks};
+ghost use Rattle.async_executor.specs.Steps.{of_stored};
+ghost use Rattle.async_executor.specs.Ticks.{sleeping};
 
-use crate::call::{Call, Ending, Last, OwesSteal};
-use crate::due::{pay, share};
+use crate::counts::OwesSteal;
+use crate::due::{close_and_pay, share};
 use crate::entry::Unlocked;
-use crate::looking::take_from_own;
+use crate::looking::pop;
 use crate::names::{ExRealm, ExStoredRunnable};
 use crate::own_queues::{Numbered, OwnQueues, RunRoom};
 use crate::queues::{FromQueues, Queue};
 use crate::state::{OWN_PLACES, State};
-use crate::steal::steal;
+use crate::steal::{Theft, steal};
+use crate::steps::Steps;
+use crate::task_name::TaskName;
 use crate::walks::Walk;
-use async_task::{GoesBack, NoMemory, Wake};
+use async_task::{NoMemory, Wake};
+use call_steps::{Part, Saw, Searcher, Source, Then, Waker};
 use concurrent_queue::ConcurrentQueue;
 use executor_parts::Mark;
 use rand_core::SeedableRng;
@@ -24,6 +41,13 @@ use std::alloc::{AllocError, Global};
 use std::sync::{Arc, Wait};
 
 mod ending;
+
+/// What a search of a run is, as contracts see it: the name of the waker that the run was polled with, and how far it has counted.
+#[derive(Drop)]
+pub struct Search<'a> {
+    pub name: &'a Waker<TaskName>,
+    pub at: Searcher,
+}
 
 /// What a run has of its own among the queues.
 pub struct Runner {
@@ -92,74 +116,98 @@ impl Runner {
         }
     }
 
-    /// Puts the own queue into the executor's list, where it isn't there yet.
-    pub fn begin<W, R: Wait + Copy + Drop>(
+    /// Puts the own queue into the executor's list, where it isn't there yet. Whether memory for it was there is the answer.
+    pub fn begin<W: Drop, R: Wait + Copy + Drop>(
         &mut self,
         rt: R,
         state: &State<W>,
+        name: &Waker<TaskName>,
+        steps: &mut Steps,
         unlocked: &mut Unlocked,
-    ) -> Result<(), Last>
-        ensures listed { IsSome self.old.room → OnOk result (self.new ≡ record self.old { is_listed = true }) }
-        ensures refused { IfErr result (λ last. (last ≡ Ending.Refused) × (self.new ≡ self.old)) }
+    ) -> bool
+        requires { steps.old ≡ poll_run (stage_by false self.old.is_listed) (poll_with name.now) }
+        ensures listed { result ≡ true → self.new ≡ record self.old { is_listed = true } }
+        ensures polls { result ≡ true → steps.new ≡ step.User (user_step.PollOwn (poll_with name.now)) ∷ [] }
+        ensures refused { result ≡ false → steps.new ≡ step.End reply.NoMemory ∷ [] }
+        ensures same { result ≡ false → self.new ≡ self.old }
     {
+        let _ = name;
         if self.is_listed {
-            return Ok(());
+            return true;
         }
-        let Some(room) = &self.room else {
-            return Ok(());
-        };
-        let mut call = Call::begin();
-        let queue = share(rt, &self.own);
-        let inserted = list_in(
-            state.own_queues.write(&rt, unlocked).get(),
-            &mut call,
-            room,
-            queue,
-        );
-        match inserted {
-            Ok(()) => {
-                self.is_listed = true;
-                call.end();
-                Ok(())
+        steps.follow(Saw::Nothing);
+        let inserted = match &self.room {
+            Some(room) => {
+                let queue = share(rt, &self.own);
+                list_in(state.own_queues.write(&rt, unlocked).get(), room, queue).is_ok()
             }
-            Err(_) => Err(call.refuse()),
+            None => true,
+        };
+        if inserted {
+            self.is_listed = true;
+            steps.follow(Saw::Something);
+            steps.follow(Saw::Nothing);
+        } else {
+            steps.follow(Saw::NoMemory);
+            steps.follow(Saw::Nothing);
         }
+        inserted
     }
 
-    /// Pays the look at the executor's queues that is owed: it steals from the urgent one, and then from the plain one.
+    /// The look at the executor's queues that is due at each 64th task: it steals from the urgent one, and then from the plain one,
+    /// before this task is run, which it has counted.
     pub fn pay<T, W, R>(
         &mut self,
         rt: R,
         state: &State<W>,
         realm: &'static ExRealm<T, W, R>,
         owed: OwesSteal,
+        search: &Search<'_>,
+        found: &ExStoredRunnable,
+        steps: &mut Steps,
         unlocked: &mut Unlocked,
     )
     where
         T: Drop + 'static,
         W: Wake + Drop + 'static,
         R: Wait + Copy + Drop + 'static,
+        requires { steps.old ≡ step.Steal (steal_step.Length (steal_with search.now.name.now (source.Common mark.Urgent) (then.StealPlain found.now.identity))) ∷ [] }
+        ensures { steps.new ≡ runs search.now.at search.now.name.now found.now.identity }
     {
         owed.pay();
-        self.steal_from(Mark::Urgent, rt, state, realm, unlocked);
-        self.steal_from(Mark::Plain, rt, state, realm, unlocked);
+        let (urgent, plain) = (Mark::Urgent, Mark::Plain);
+        let then = Then::StealPlain(TaskName::of_runnable(found));
+        self.steal_from(urgent, rt, state, realm, search, &then, steps, unlocked);
+        let then = Then::Run(TaskName::of_runnable(found));
+        self.steal_from(plain, rt, state, realm, search, &then, steps, unlocked);
     }
 
-    /// Steals from the executor's queue of this mark.
+    /// Steals from the executor's queue of this mark, and goes on with this.
     fn steal_from<T, W, R>(
         &self,
         mark: Mark,
         rt: R,
         state: &State<W>,
         realm: &'static ExRealm<T, W, R>,
+        search: &Search<'_>,
+        then: &Then<TaskName>,
+        steps: &mut Steps,
         unlocked: &mut Unlocked,
     )
     where
         T: Drop + 'static,
         W: Wake + Drop + 'static,
         R: Wait + Copy + Drop + 'static,
+        requires { steps.old ≡ step.Steal (steal_step.Length (steal_with search.now.name.now (source.Common mark) then.now)) ∷ [] }
+        ensures { steps.new ≡ stolen_as then.now search.now.at (poll_with search.now.name.now) }
     {
-        let refused = steal(&rt, state.queues.of(mark), &self.own);
+        let theft = Theft {
+            name: search.name,
+            from: &Source::Common(mark),
+            then,
+            at: search.at,
+        };
+        let refused = steal(&rt, state.queues.of(mark), &self.own, &theft, steps);
         drop_refused(rt, realm, refused, unlocked);
     }
 
@@ -174,42 +222,71 @@ impl Runner {
         rt: R,
         state: &State<W>,
         realm: &'static ExRealm<T, W, R>,
-        call: &mut Call,
+        search: &Search<'_>,
+        steps: &mut Steps,
         unlocked: &mut Unlocked,
     ) -> Option<ExStoredRunnable>
     where
         T: Drop + 'static,
         W: Wake + Drop + 'static,
         R: Wait + Copy + Drop + 'static,
-        requires { call.old ≡ begun }
-        ensures { call.new ≡ looked (is_some result) begun }
+        requires { steps.old ≡ step.Tick (tick_step.Search (sleeping (tick_or_run.Run tt) search.now.name.now)) ∷ [] }
+        ensures { steps.new ≡ searched_by_run search.now.at search.now.name.now (of_stored result) }
     {
-        if let Some(runnable) = take_from_own(&self.own, &rt, call) {
+        if let Some(runnable) = self.look_own(&rt, search, steps) {
             return Some(runnable);
         }
-        if let Some(FromQueues { runnable, mark }) = state.search(&rt, call) {
-            self.steal_from(mark, rt, state, realm, unlocked);
+        if let Some(FromQueues { runnable, mark }) = state.look_common(&rt, search.name, steps) {
+            let then = Then::Found(TaskName::of_runnable(&runnable));
+            self.steal_from(mark, rt, state, realm, search, &then, steps, unlocked);
             return Some(runnable);
         }
-        let (found, refused) = self.walk(&rt, state, call, unlocked);
+        let (found, refused) = self.walk(&rt, state, search, steps, unlocked);
         drop_refused(rt, realm, refused, unlocked);
         found
     }
 
+    /// A search begins with the own queue.
+    fn look_own<R: Wait>(
+        &self,
+        rt: &R,
+        search: &Search<'_>,
+        steps: &mut Steps,
+    ) -> Option<ExStoredRunnable>
+        requires { steps.old ≡ step.Tick (tick_step.Search (sleeping (tick_or_run.Run tt) search.now.name.now)) ∷ [] }
+        ensures { steps.new ≡ looked_own search.now.at search.now.name.now (of_stored result) }
+    {
+        match pop(&self.own, rt) {
+            Some(runnable) => {
+                steps.follow(Saw::FoundBy(TaskName::of_runnable(&runnable), search.at));
+                Some(runnable)
+            }
+            None => {
+                steps.follow(Saw::Nothing);
+                None
+            }
+        }
+    }
+
     /// Steals from the queues of other runs, one after the other, until the own queue has something. A Runnable that the own
     /// queue refused ends it, and is the second answer.
-    fn walk<W, R: Wait>(
+    fn walk<W: Drop, R: Wait>(
         &mut self,
         rt: &R,
         state: &State<W>,
-        call: &mut Call,
+        search: &Search<'_>,
+        steps: &mut Steps,
         unlocked: &mut Unlocked,
     ) -> (Option<ExStoredRunnable>, Option<ExStoredRunnable>)
-        requires { call.old ≡ looked false begun }
-        ensures { call.new ≡ looked (is_some result.0) begun }
+        requires { steps.old ≡ walks search.now.name.now None }
+        ensures { steps.new ≡ searched_by_run search.now.at search.now.name.now (of_stored result.0) }
     {
-        let reading = state.own_queues.read(rt, unlocked);
-        self.walk_round(rt, reading.get().all(), call)
+        let walked = {
+            let reading = state.own_queues.read(rt, unlocked);
+            self.walk_round(rt, reading.get().all(), search, steps)
+        };
+        unlock_read(&walked.0, search, steps);
+        walked
     }
 
     /// The section of the list's lock in which a run walks round its queues. Of an empty list it reads no word.
@@ -217,47 +294,127 @@ impl Runner {
         &mut self,
         rt: &R,
         queues: &[Numbered<Arc<Queue, Global>>],
-        call: &mut Call,
+        search: &Search<'_>,
+        steps: &mut Steps,
     ) -> (Option<ExStoredRunnable>, Option<ExStoredRunnable>)
-        requires { call.old ≡ looked false begun }
-        ensures call { call.new ≡ looked (is_some result.0) begun }
+        requires { steps.old ≡ walks search.now.name.now None }
+        ensures steps { steps.new ≡ walked search.now.at search.now.name.now (of_stored result.0) }
         ensures words { self.new.words ≡ words_after (length queues.now) self.old.words }
     {
         if queues.is_empty() {
+            search.end_walk(&None, steps);
             return (None, None);
         }
         let walk = Walk::begin(&mut self.words, queues.len());
-        for step in 0..queues.len() {
-            let listed = &queues[walk.place(step)];
+        let mut behind = None;
+        for place in 0..queues.len() {
+            let listed = &queues[walk.place(place)];
             if listed.number == self.number {
                 continue;
             }
-            if let Some(refused) = steal(rt, &listed.queue, &self.own) {
-                return (None, Some(refused));
-            }
-            if let Some(runnable) = take_from_own(&self.own, rt, call) {
-                return (Some(runnable), None);
+            let left = (queues.len() - place - 1) as u64;
+            let refused = self.steal_in_walk(rt, &listed.queue, left, &behind, search, steps);
+            behind = Some(left);
+            match (self.look_own_in_walk(rt, left, search, steps), refused) {
+                (None, None) => {}
+                (Some(found), refused) => return (Some(found), refused),
+                (None, Some(refused)) => {
+                    search.end_walk(&behind, steps);
+                    return (None, Some(refused));
+                }
             }
         }
+        search.end_walk(&behind, steps);
         (None, None)
+    }
+
+    /// In a walk, steals from this queue, with so many still to go to.
+    fn steal_in_walk<R: Wait>(
+        &self,
+        rt: &R,
+        queue: &Queue,
+        left: u64,
+        behind: &Option<u64>,
+        search: &Search<'_>,
+        steps: &mut Steps,
+    ) -> Option<ExStoredRunnable>
+        requires { steps.old ≡ walks search.now.name.now behind.now }
+        ensures { steps.new ≡ walks search.now.name.now (Some left) }
+    {
+        search.go_to(left, behind, steps);
+        let theft = Theft {
+            name: search.name,
+            from: &Source::Own(()),
+            then: &Then::Walk(left),
+            at: search.at,
+        };
+        steal(rt, queue, &self.own, &theft, steps)
+    }
+
+    /// In a walk, looks into the own queue, with so many still to go to.
+    fn look_own_in_walk<R: Wait>(
+        &self,
+        rt: &R,
+        left: u64,
+        search: &Search<'_>,
+        steps: &mut Steps,
+    ) -> Option<ExStoredRunnable>
+        requires { steps.old ≡ walks search.now.name.now (Some left) }
+        ensures { steps.new ≡ looked_walking search.now.at search.now.name.now left (of_stored result) }
+    {
+        let _ = left;
+        match pop(&self.own, rt) {
+            Some(runnable) => {
+                steps.follow(Saw::FoundBy(TaskName::of_runnable(&runnable), search.at));
+                Some(runnable)
+            }
+            None => None,
+        }
+    }
+}
+
+impl Search<'_> {
+    /// A walk goes to the next queue, with so many behind it.
+    fn go_to(&self, left: u64, behind: &Option<u64>, steps: &mut Steps)
+        requires { steps.old ≡ walks self.now.name.now behind.now }
+        ensures { steps.new ≡ step.Steal (steal_step.Length (steal_with self.now.name.now (source.Own tt) (then.Walk left))) ∷ [] }
+    {
+        match behind {
+            None => steps.follow(Saw::Queue((), left)),
+            Some(_) => steps.follow(Saw::Queue((), left)),
+        }
+    }
+
+    /// A walk has no queue to go to any more.
+    fn end_walk(&self, behind: &Option<u64>, steps: &mut Steps)
+        requires { steps.old ≡ walks self.now.name.now behind.now }
+        ensures { steps.new ≡ walked self.now.at self.now.name.now None }
+    {
+        match behind {
+            None => steps.follow(Saw::Nothing),
+            Some(_) => steps.follow(Saw::Nothing),
+        }
+    }
+}
+
+/// The list's lock was given back, once a walk was over.
+fn unlock_read(found: &Option<ExStoredRunnable>, search: &Search<'_>, steps: &mut Steps)
+    requires { steps.old ≡ walked search.now.at search.now.name.now (of_stored found.now) }
+    ensures { steps.new ≡ searched_by_run search.now.at search.now.name.now (of_stored found.now) }
+{
+    let _ = search;
+    match found {
+        Some(_) => steps.follow(Saw::Nothing),
+        None => steps.follow(Saw::Nothing),
     }
 }
 
 /// The section of the list's lock in which a run's own queue comes into it. Refused, the list is as it was.
-fn list_in<Q: Drop>(
-    queues: &mut OwnQueues<Q>,
-    call: &mut Call,
-    room: &RunRoom,
-    queue: Q,
-) -> Result<(), AllocError>
-    requires { call.old ≡ begun }
+fn list_in<Q: Drop>(queues: &mut OwnQueues<Q>, room: &RunRoom, queue: Q) -> Result<(), AllocError>
     ensures listed { OnOk result (queues.new.queues.items ≡ listed room.now.number queue queues.old.queues.items) }
     ensures refused { IfErr result (λ _. queues.new.queues.items ≡ queues.old.queues.items) }
-    ensures call { call.new ≡ record idle { wanted = is_err result } }
 {
-    let inserted = queues.insert(room, queue);
-    call.list(inserted.is_err());
-    inserted
+    queues.insert(room, queue)
 }
 
 /// Closes a Runnable that came back from a full queue, where one did.
@@ -273,9 +430,8 @@ where
     R: Wait + Copy + Drop + 'static,
 {
     if let Some(stored) = refused {
-        match stored.close(rt, realm) {
-            Ok(due) => pay(rt, due, unlocked),
-            Err(stored) => stored.go_back(),
-        }
+        let mut steps = Steps::part(Part::Close(TaskName::of_runnable(&stored)));
+        close_and_pay(rt, realm, &mut steps, stored, unlocked);
+        steps.close();
     }
 }

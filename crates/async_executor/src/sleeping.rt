@@ -4,7 +4,7 @@ ghost use Rattle.call_steps.specs.Todo.{below, top};
 ghost use Rattle.call_steps.specs.declared.step.CallStep.TheVariants as step;
 ghost use Rattle.call_steps.specs.declared.step.tick.SleeperStep.TheVariants as sleeper_step;
 ghost use Rattle.async_executor.specs.Copies.{IsCopyOf};
-ghost use Rattle.async_executor.specs.Steps.{name_given, name_of, of_handed, sleeper};
+ghost use Rattle.async_executor.specs.Steps.{name_given, name_of, of_handed, sleeper, sleeper_as};
 
 use crate::due::Handed;
 use crate::entry::Unlocked;
@@ -88,16 +88,17 @@ impl<W: Wake + Drop + 'static> SleeperWaker<W> {
         self,
         rt: R,
         realm: &'static ExRealm<T, W, R>,
+        who: &TickOrRun<()>,
         steps: &mut Steps,
         unlocked: &Unlocked,
     ) -> Option<Handed<T, W, R>>
     where
         T: Drop + 'static,
         R: Wait + Copy + Drop + 'static,
-        requires { top steps.old ≡ Some (step.Sleeper (sleeper_step.CallSleeper (sleeper self))) }
+        requires { top steps.old ≡ Some (step.Sleeper (sleeper_step.CallSleeper (sleeper_as who.now self))) }
         ensures { steps.new ≡ due (of_handed result) (below steps.old) }
     {
-        let _ = unlocked;
+        let (_, _) = (unlocked, who);
         match self {
             SleeperWaker::Task(waker) => match waker.wake(rt, realm) {
                 Some(due) => {

@@ -6,6 +6,7 @@ ghost use Rattle.async_executor.specs.Accepting.{Accepts, IsRefusedAt, WakerFits
 ghost use Rattle.async_executor.specs.Errors.{refused};
 ghost use Rattle.async_executor.specs.Steps.{accepted_as};
 ghost use Rattle.async_task.specs.Handles.{task_of};
+ghost use Rattle.executor_parts.specs.Places.{IsVacancy};
 
 use crate::closing::HasClosed;
 use crate::errors::SpawnError;
@@ -15,7 +16,7 @@ use crate::queue::ExQueue;
 use crate::steps::Steps;
 use async_task::{Builder, Returning, Wake};
 use call_steps::Saw;
-use executor_parts::{EntryPlace, Mark, Places, SpawnRefused};
+use executor_parts::{EntryPlace, Mark, Places, SpawnRefused, Vacancy};
 use std::sync::Wait;
 
 /// Accepts a future: what a spawn does under the table's lock, once it has closed what was let go.
@@ -28,7 +29,6 @@ pub fn accept<F, T, W, R>(
     table: &mut Places<F, TableWaker>,
     rt: R,
     realm: &'static ExRealm<T, W, R>,
-    steps: &mut Steps,
     schedule: ExQueue<T, W, R>,
     is_static: bool,
     mark: Mark,
@@ -40,8 +40,6 @@ where
     T: Drop + 'static,
     W: Wake + Drop + 'static,
     R: Wait + Copy + Drop + 'static,
-    requires { steps.old ≡ step.Table (table_step.Enter mark) ∷ [] }
-    ensures steps { steps.new ≡ following (accepted_as result) steps.old }
     ensures here { IfOk result (λ both. both.1.identity.realm ≡ realm.now.number) }
     ensures accepted { IfOk result (λ both. Accepts is_static table.old table.new future (task_of both.1)) }
     ensures one_task { IfOk result (λ both. both.0.stored.identity ≡ both.1.identity) }
@@ -52,29 +50,72 @@ where
     ensures same { IfErr result (λ _. (table.new.entries ≡ table.old.entries) × (table.new.limit ≡ table.old.limit)) }
 {
     closed.spend();
-    let vacancy = match table.vacancy() {
-        Ok(vacancy) => vacancy,
-        Err(SpawnRefused::Full) => {
-            steps.follow(Saw::Full);
-            return Err(SpawnError::Full(future));
-        }
-        Err(SpawnRefused::NoMemory) => {
-            steps.follow(Saw::NoMemory);
-            return Err(SpawnError::NoMemory(future));
-        }
-    };
+    match table.vacancy() {
+        Ok(vacancy) => enter(table, vacancy, rt, realm, schedule, is_static, mark, future),
+        Err(SpawnRefused::Full) => Err(SpawnError::Full(future)),
+        Err(SpawnRefused::NoMemory) => Err(SpawnError::NoMemory(future)),
+    }
+}
+
+/// The same once there is a place for the future.
+#[inline(always)]
+fn enter<F, T, W, R>(
+    table: &mut Places<F, TableWaker>,
+    vacancy: Vacancy,
+    rt: R,
+    realm: &'static ExRealm<T, W, R>,
+    schedule: ExQueue<T, W, R>,
+    is_static: bool,
+    mark: Mark,
+    future: F,
+) -> Result<(Marked, ExTask<T, W, R>), SpawnError<F>>
+where
+    F: Drop,
+    T: Drop + 'static,
+    W: Wake + Drop + 'static,
+    R: Wait + Copy + Drop + 'static,
+    requires { IsVacancy vacancy table.old }
+    ensures here { IfOk result (λ both. both.1.identity.realm ≡ realm.now.number) }
+    ensures accepted { IfOk result (λ both. Accepts is_static table.old table.new future (task_of both.1)) }
+    ensures one_task { IfOk result (λ both. both.0.stored.identity ≡ both.1.identity) }
+    ensures queue { IfOk result (λ both. both.0.stored.metadata ≡ mark) }
+    ensures marked { IfOk result (λ both. both.1.metadata ≡ mark) }
+    ensures future { IfErr result (λ error. refused error ≡ future) }
+    ensures cause { IfErr result (IsRefusedAt table.old) }
+    ensures same { IfErr result (λ _. table.new ≡ table.old) }
+{
     match made(rt, realm, schedule, is_static, mark, vacancy.place()) {
         Some((runnable, task, waker)) => {
             table.enter(vacancy, future, waker);
-            let marked = Marked::of(runnable.into_scheduled());
-            steps.follow(Saw::Entered(marked.name()));
-            Ok((marked, task))
+            Ok((Marked::of(runnable.into_scheduled()), task))
         }
         None => {
             vacancy.give_back();
-            steps.follow(Saw::NoMemory);
             Err(SpawnError::NoMemory(future))
         }
+    }
+}
+
+/// What a spawn saw in the table.
+#[inline(always)]
+pub fn see_accepted<F, T, W, R>(
+    accepted: &Result<(Marked, ExTask<T, W, R>), SpawnError<F>>,
+    mark: Mark,
+    steps: &mut Steps,
+)
+where
+    F: Drop,
+    T: Drop + 'static,
+    W: Wake + Drop + 'static,
+    R: Wait + Copy + Drop + 'static,
+    requires { steps.old ≡ step.Table (table_step.Enter mark) ∷ [] }
+    ensures { steps.new ≡ following (accepted_as accepted.now) steps.old }
+{
+    let _ = mark;
+    match accepted {
+        Ok((runnable, _)) => steps.follow(Saw::Entered(runnable.name())),
+        Err(SpawnError::Full(_)) => steps.follow(Saw::Full),
+        Err(SpawnError::NoMemory(_)) => steps.follow(Saw::NoMemory),
     }
 }
 

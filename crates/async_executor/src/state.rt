@@ -1,17 +1,20 @@
 //! What the threads of an executor share, but for its futures.
-ghost use Rattle.std.specs.Prelude.{◌≡◌, ◌≢◌, ◌<◌, true, false, Some, None, IfOk, IfErr, IfSome, is_ok, length};
+ghost use Rattle.std.specs.Prelude.{◌≡◌, ◌≢◌, ◌<◌, ◌∷◌, [], ◌++◌, Some, None, IfOk, IfErr, IfSome, is_ok, length};
 ghost use Rattle.task_moves.specs.declared.moves.owed.Move.TheVariants as move;
+ghost use Rattle.call_steps.specs.Closing.{closed};
 ghost use Rattle.call_steps.specs.Seeing.{called, due, seen};
 ghost use Rattle.call_steps.specs.Todo.{below, following, top};
+ghost use Rattle.call_steps.specs.declared.reply.Reply.TheVariants as reply;
 ghost use Rattle.call_steps.specs.declared.step.CallStep.TheVariants as step;
+ghost use Rattle.call_steps.specs.declared.step.table.ClosingStep.TheVariants as closing_step;
 ghost use Rattle.call_steps.specs.declared.step.table.QueueStep.TheVariants as queue_step;
 ghost use Rattle.call_steps.specs.declared.step.tick.SleeperStep.TheVariants as sleeper_step;
 ghost use Rattle.executor_parts.specs.Sleepers.{flag_of, last_waker, without_last};
+ghost use Rattle.executor_parts.specs.declared.mark.Mark.TheVariants as mark;
 ghost use Rattle.async_executor.specs.Foreign.{value_of};
 ghost use Rattle.async_executor.specs.Sleeping.{laid_as, SaysFellAsleep};
 ghost use Rattle.async_executor.specs.Steps.{of_handed, sleeper_of};
 
-use crate::call::Call;
 use crate::due::Handed;
 use crate::entry::Unlocked;
 use crate::flag::Flag;
@@ -27,8 +30,8 @@ use crate::task_name::TaskName;
 use crate::ticker::{FellAsleep, Laid, WokenUp};
 use crate::turns::Turns;
 use async_task::{GoesBack, NoMemory, Returning, Wake};
-use call_steps::Saw;
-use executor_parts::Sleepers;
+use call_steps::{Saw, TickOrRun};
+use executor_parts::{Mark, Sleepers};
 use std::alloc::Global;
 use std::sync::{Arc, Wait};
 
@@ -81,14 +84,22 @@ impl<W: Drop> State<W> {
         }
     }
 
-    /// Closes the urgent queue, and then the plain one.
-    pub fn close<R: Wait>(&self, rt: &R, call: &mut Call)
-        ensures { call.new ≡ record call.old { is_new = false; closed = true; undrained = true } }
+    /// An executor's drop closes the urgent queue, and then the plain one.
+    pub fn close<R: Wait>(&self, rt: &R, steps: &mut Steps)
+        requires { steps.old ≡ step.Closing (closing_step.Close mark.Urgent) ∷ step.End reply.Done ∷ [] }
+        ensures { steps.new ≡ step.Closing (closing_step.Drain mark.Urgent) ∷ step.End reply.Done ∷ [] }
     {
-        self.queues.urgent.close(rt);
-        call.close_urgent();
-        self.queues.plain.close(rt);
-        call.close_plain();
+        self.close_queue(Mark::Urgent, rt, steps);
+        self.close_queue(Mark::Plain, rt, steps);
+    }
+
+    /// It closes the queue of this mark.
+    fn close_queue<R: Wait>(&self, mark: Mark, rt: &R, steps: &mut Steps)
+        requires { steps.old ≡ step.Closing (closing_step.Close mark) ∷ step.End reply.Done ∷ [] }
+        ensures { steps.new ≡ closed mark ++ step.End reply.Done ∷ [] }
+    {
+        self.queues.of(mark).close(rt);
+        steps.follow(Saw::Nothing);
     }
 
     /// Puts a Runnable into the executor's queue of its mark, or answers it where that is closed.
@@ -327,7 +338,7 @@ impl<W: Wake + Drop + 'static> State<W> {
             return None;
         }
         match self.take_waker(&rt, steps, unlocked) {
-            Some(waker) => waker.wake(rt, realm, steps, unlocked),
+            Some(waker) => waker.wake(rt, realm, &TickOrRun::Tick(()), steps, unlocked),
             None => None,
         }
     }

@@ -1,6 +1,8 @@
 //! How calls on the executor go, step by step.
-ghost use Rattle.std.specs.Prelude.{◌≡◌, not, None, Some};
+ghost use Rattle.std.specs.Prelude.{◌≡◌, not, true, None, Some};
+ghost use Rattle.call_steps.specs.declared.reply.Reply.TheVariants as reply;
 
+use crate::counts::GivesWay;
 use crate::entry::Entered;
 use crate::task_name::TaskName;
 use call_steps::{Call, Last, Reply};
@@ -9,11 +11,13 @@ use call_steps::{Call, Last, Reply};
 /// sleepers knows no names of ticks and runs, so they have none here. A call is begun in `entry`, as the user's call begins.
 pub type Steps = Call<TaskName, (), Entered>;
 
-/// What the last poll of a tick was answered. Only contracts read it, and it is written by the end of that poll's call alone.
+/// What the last poll of a tick or run was answered. Only contracts read it, and it is written by the end of that poll's call alone.
 #[derive(Drop)]
 pub struct Answered {
     // None before the first poll.
     reply: Option<Reply>,
+    // Whether it ended by letting others go first.
+    gave_way: bool,
     // It turns with each poll, so that no poll can answer by what an earlier one left.
     turned: bool,
 }
@@ -25,6 +29,7 @@ impl Answered {
     {
         Answered {
             reply: None,
+            gave_way: false,
             turned: false,
         }
     }
@@ -37,6 +42,21 @@ impl Answered {
     {
         let _ = last;
         self.reply = Some(reply);
+        self.gave_way = false;
+        self.turned = !self.turned;
+    }
+
+    /// A poll of a run ends by letting others go first.
+    pub fn end_giving_way(&mut self, gives: GivesWay, last: Last)
+        requires { last ≡ reply.Pending }
+        ensures reply { self.new.reply ≡ Some reply.Pending }
+        ensures gave_way { self.new.gave_way ≡ true }
+        ensures turned { self.new.turned ≡ not self.old.turned }
+    {
+        let _ = last;
+        gives.spend();
+        self.reply = Some(Reply::Pending);
+        self.gave_way = true;
         self.turned = !self.turned;
     }
 }

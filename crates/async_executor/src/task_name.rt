@@ -43,6 +43,14 @@ impl TaskName {
         }
     }
 
+    /// Of no task: no realm has the number 0.
+    pub fn of_none() -> TaskName {
+        let identity = Identity { realm: 0, place: 0 };
+        TaskName {
+            known_by: KnownBy::Identified(Snapshot::of(&identity)),
+        }
+    }
+
     /// Whose waker it is.
     #[inline(always)]
     pub fn of_waker(waker: &Returning<StoredWaker>) -> TaskName

@@ -1,9 +1,9 @@
 //! How a tick is polled, and ends.
-ghost use Rattle.std.specs.Prelude.{◌≡◌, ◌∷◌, []};
+ghost use Rattle.std.specs.Prelude.{◌≡◌, ◌∷◌, [], false};
 ghost use Rattle.async_executor.specs.Polls.{has_left, IsTickAnswer};
 ghost use Rattle.async_executor.specs.Sleeping.{is_asleep};
 ghost use Rattle.async_executor.specs.Steps.{name_given};
-ghost use Rattle.async_executor.specs.Ticks.{found_asleep, sleeping};
+ghost use Rattle.async_executor.specs.Ticks.{found_asleep, sleeping, slept};
 ghost use Rattle.call_steps.specs.declared.names.TickOrRun.TheVariants as tick_or_run;
 ghost use Rattle.call_steps.specs.declared.step.CallStep.TheVariants as step;
 ghost use Rattle.call_steps.specs.declared.step.tick.TickStep.TheVariants as tick_step;
@@ -16,7 +16,7 @@ use crate::steps::Steps;
 use crate::task_name::{TaskName, name_given_to};
 use crate::ticker::{Slept, Ticker};
 use async_task::{Future, NoMemory, Poll, Wake};
-use call_steps::{Last, Reply, TickOrRun};
+use call_steps::{Last, Reply, TickOrRun, Waker};
 use std::sync::Wait;
 
 impl<F, T, W, R> Tick<'_, F, T, W, R>
@@ -38,7 +38,7 @@ where
         steps: Steps,
         unlocked: &mut Unlocked,
     ) -> Poll<Result<(), NoMemory>>
-        requires { steps ≡ step.Tick (tick_step.Search (sleeping (name_given waker.now))) ∷ [] }
+        requires { steps ≡ step.Tick (tick_step.Search (sleeping (tick_or_run.Tick tt) (name_given waker.now))) ∷ [] }
         ensures answer { IsTickAnswer self.old.answered self.new.answered result }
         ensures stays { has_left self.new.ticker ≡ has_left self.old.ticker }
     {
@@ -55,15 +55,7 @@ where
                 self.answered.end(Reply::Ready, last);
                 return Poll::Ready(Ok(()));
             }
-            match self.ticker.sleep(
-                executor.rt,
-                &executor.state,
-                executor.realm,
-                waker,
-                &name,
-                &mut steps,
-                unlocked,
-            ) {
+            match self.sleep(waker, &name, &mut steps, unlocked) {
                 Slept::Anew => {}
                 Slept::Still => {
                     self.answered.end(Reply::Pending, steps.end(Reply::Pending));
@@ -79,6 +71,33 @@ where
         unreachable!()
     }
 
+    /// Falls asleep, as nothing was found.
+    fn sleep(
+        &mut self,
+        waker: &ExWaker<T, W, R>,
+        name: &Waker<TaskName>,
+        steps: &mut Steps,
+        unlocked: &mut Unlocked,
+    ) -> Slept
+        requires named { name.now ≡ name_given waker.now }
+        requires copies { steps.old ≡ step.Tick (tick_step.CopyWaker (sleeping (tick_or_run.Tick tt) name.now)) ∷ [] }
+        ensures steps { steps.new ≡ slept (tick_or_run.Tick tt) name.now result }
+        ensures stays { has_left self.new.ticker ≡ has_left self.old.ticker }
+        ensures answered { self.new.answered ≡ self.old.answered }
+    {
+        let executor = self.executor;
+        self.ticker.sleep(
+            executor.rt,
+            &executor.state,
+            executor.realm,
+            waker,
+            name,
+            &TickOrRun::Tick(()),
+            steps,
+            unlocked,
+        )
+    }
+
     /// Wakes up, where it sleeps, tells another sleeper, and runs the task that was found.
     fn run_found(&mut self, stored: ExStoredRunnable, steps: Steps, unlocked: &mut Unlocked) -> Last
         requires { steps ≡ found_asleep (is_asleep self.old.ticker) stored.identity }
@@ -88,19 +107,33 @@ where
     {
         let executor = self.executor;
         let mut steps = steps;
-        self.ticker.wake_up(
-            executor.rt,
-            &executor.state,
-            executor.realm,
-            &TaskName::of_runnable(&stored),
-            &mut steps,
-            unlocked,
-        );
+        self.wake_up(&TaskName::of_runnable(&stored), &mut steps, unlocked);
         executor
             .state
             .notify_and_pay(executor.rt, executor.realm, &mut steps, unlocked);
         executor.poll_or_drop(stored, &mut steps, unlocked);
         steps.end(Reply::Ready)
+    }
+
+    /// Wakes up, where it sleeps, as it found a Runnable of this task.
+    fn wake_up(&mut self, found: &TaskName, steps: &mut Steps, unlocked: &mut Unlocked)
+        requires { steps.old ≡ found_asleep (is_asleep self.old.ticker) found.now }
+        ensures steps { steps.new ≡ found_asleep false found.now }
+        ensures stays { has_left self.new.ticker ≡ has_left self.old.ticker }
+        ensures answered { self.new.answered ≡ self.old.answered }
+    {
+        let _ = found;
+        let executor = self.executor;
+        if self.ticker.sleeps() {
+            self.ticker.wake_up(
+                executor.rt,
+                &executor.state,
+                executor.realm,
+                &TickOrRun::Tick(()),
+                steps,
+                unlocked,
+            );
+        }
     }
 }
 

@@ -1,23 +1,20 @@
 //! How ticks and runs fall asleep among the sleepers, and wake up.
-ghost use Rattle.std.specs.Prelude.{◌≡◌, ◌∷◌, [], true, false, Some, None, IfSome, is_some};
+ghost use Rattle.std.specs.Prelude.{◌≡◌, ◌∷◌, [], true, false, Some, None, IfSome};
 ghost use Rattle.call_steps.specs.declared.step.CallStep.TheVariants as step;
 ghost use Rattle.call_steps.specs.declared.step.tick.TickStep.TheVariants as tick_step;
 ghost use Rattle.call_steps.specs.declared.reply.Reply.TheVariants as reply;
-ghost use Rattle.async_executor.specs.Calls.{IsFound};
 ghost use Rattle.async_executor.specs.Polls.{has_left};
 ghost use Rattle.async_executor.specs.Foreign.{value_of};
 ghost use Rattle.async_executor.specs.Sleeping.{is_asleep, ComesBack, FallsAsleep, LaidBack, WakesUp, SaysFellAsleep};
-ghost use Rattle.async_executor.specs.Stages.{begun, looked};
 ghost use Rattle.async_executor.specs.Steps.{name_of, name_given};
-ghost use Rattle.async_executor.specs.Ticks.{found_asleep, sleeping, slept};
+ghost use Rattle.async_executor.specs.Ticks.{sleeping, slept};
+ghost use Rattle.call_steps.specs.Todo.{below, top};
 ghost use Rattle.executor_parts.specs.Sleepers.{flag_of};
 
-use crate::call::{Call, Last};
-use crate::due::{call_apart, pay};
 use crate::entry::Unlocked;
 use crate::flag::NewFlag;
 use crate::foreign::{Foreign, came_out};
-use crate::names::{ExRealm, ExStoredRunnable, ExWaker};
+use crate::names::{ExRealm, ExWaker};
 use crate::sleeping::{SleeperWaker, call_waker};
 use crate::state::State;
 use crate::steps::Steps;
@@ -42,18 +39,6 @@ pub enum Ticker {
     Left,
 }
 
-/// What a run finds.
-pub enum Found {
-    /// A Runnable, which is in hand: it is awake, and another sleeper was told.
-    Runnable(ExStoredRunnable, Call),
-    /// Nothing yet: it sleeps, and has to search once more.
-    SearchAgain,
-    /// Nothing: it sleeps, and its waker will be called, or was called at once where it can't be kept.
-    Nothing(Last),
-    /// No copy of the waker could be had. What was done before stays done.
-    NoMemory(Last),
-}
-
 /// How one fell asleep.
 pub enum FellAsleep<W> {
     /// Anew, or it had been told meanwhile: what the flag becomes.
@@ -71,7 +56,7 @@ pub enum Laid<W> {
     Nowhere(Foreign<SleeperWaker<W>>),
 }
 
-/// What comes of it that a tick found nothing.
+/// What comes of it that a tick or run found nothing.
 pub enum Slept {
     /// It fell asleep, and has to search once more.
     Anew,
@@ -90,143 +75,13 @@ pub struct WokenUp<W> {
 }
 
 impl Ticker {
-    /// What a run's search leads to, which the call has made.
-    ///
-    /// 1. Where it found a Runnable: wakes up, tells another sleeper that there may be more, and answers it.
-    /// 2. Else copies the waker, and falls asleep with the copy.
-    /// 3. Where it fell asleep anew, or had been told meanwhile, the search has to be made again, since what was queued before
-    ///    may have told nobody. Where it slept there already, it found nothing.
-    ///
-    /// A waker of a task of another realm can't be found from here: it is called at once.
-    pub fn after_search<T, W, R>(
-        &mut self,
-        rt: R,
-        state: &State<W>,
-        realm: &'static ExRealm<T, W, R>,
-        call: Call,
-        found: Option<ExStoredRunnable>,
-        waker: &ExWaker<T, W, R>,
-        unlocked: &mut Unlocked,
-    ) -> Found
-    where
-        T: Drop + 'static,
-        W: Wake + Drop + 'static,
-        R: Wait + Copy + Drop + 'static,
-        requires { call ≡ looked (is_some found) begun }
-        ensures found { IsFound result }
-        ensures stays { has_left self.new ≡ has_left self.old }
-    {
-        match found {
-            Some(runnable) => {
-                let mut call = call;
-                self.wake_up_apart(rt, state, realm, unlocked);
-                state.notify_apart(rt, realm, &mut call, unlocked);
-                Found::Runnable(runnable, call)
-            }
-            None => self.after_nothing(rt, state, realm, call, waker, unlocked),
-        }
-    }
-
-    /// What a search leads to that found nothing.
-    fn after_nothing<T, W, R>(
-        &mut self,
-        rt: R,
-        state: &State<W>,
-        realm: &'static ExRealm<T, W, R>,
-        call: Call,
-        waker: &ExWaker<T, W, R>,
-        unlocked: &mut Unlocked,
-    ) -> Found
-    where
-        T: Drop + 'static,
-        W: Wake + Drop + 'static,
-        R: Wait + Copy + Drop + 'static,
-        requires { call ≡ looked false begun }
-        ensures found { IsFound result }
-        ensures stays { has_left self.new ≡ has_left self.old }
-    {
-        if sleeps_elsewhere(waker, realm) {
-            call_waker(waker, unlocked);
-            return Found::Nothing(call.end_called());
-        }
-        let mut call = call;
-        let Some(copy) = SleeperWaker::of(waker, unlocked) else {
-            call.ask(true);
-            return Found::NoMemory(call.refuse());
-        };
-        self.fall_asleep(rt, state, realm, call, copy, unlocked)
-    }
-
-    /// Falls asleep with a waker, and ends the call. It has to search again where it wasn't asleep, or had been told.
-    fn fall_asleep<T, W, R>(
-        &mut self,
-        rt: R,
-        state: &State<W>,
-        realm: &'static ExRealm<T, W, R>,
-        call: Call,
-        waker: Foreign<SleeperWaker<W>>,
-        unlocked: &mut Unlocked,
-    ) -> Found
-    where
-        T: Drop + 'static,
-        W: Wake + Drop + 'static,
-        R: Wait + Copy + Drop + 'static,
-        requires { call ≡ looked false begun }
-        ensures found { IsFound result }
-        ensures stays { has_left self.new ≡ has_left self.old }
-    {
-        let mut call = call;
-        match self.lie_down(&rt, state, waker, unlocked) {
-            Laid::Anew => {
-                call.end();
-                Found::SearchAgain
-            }
-            Laid::Already(old) => {
-                call.sleep_on();
-                let last = call.rest();
-                let due = old.release(rt, realm, unlocked);
-                pay(rt, due, unlocked);
-                Found::Nothing(last)
-            }
-            Laid::Nowhere(waker) => {
-                let last = call.end_called();
-                call_apart(rt, realm, waker, unlocked);
-                Found::Nothing(last)
-            }
-        }
-    }
-
-    /// Wakes up, where it sleeps, as a run does. That it had been told is of no account, as the call tells another.
-    fn wake_up_apart<T, W, R>(
-        &mut self,
-        rt: R,
-        state: &State<W>,
-        realm: &'static ExRealm<T, W, R>,
-        unlocked: &mut Unlocked,
-    )
-    where
-        T: Drop + 'static,
-        W: Wake + Drop + 'static,
-        R: Wait + Copy + Drop + 'static,
-        ensures { has_left self.new ≡ has_left self.old }
-    {
-        if !self.sleeps() {
-            return;
-        }
-        if let Some(waker) = self.stand_up(&rt, state, unlocked) {
-            let due = waker.release(rt, realm, unlocked);
-            pay(rt, due, unlocked);
-        }
-    }
-
-    /// Wakes up, where it sleeps, as a tick does that found a Runnable of this task. That it had been told is of no account, as
-    /// the call tells another.
+    /// Wakes up. That it had been told is of no account, as the call tells another.
     pub fn wake_up<T, W, R>(
         &mut self,
         rt: R,
         state: &State<W>,
         realm: &'static ExRealm<T, W, R>,
-        found: &TaskName,
+        who: &TickOrRun<()>,
         steps: &mut Steps,
         unlocked: &mut Unlocked,
     )
@@ -234,20 +89,17 @@ impl Ticker {
         T: Drop + 'static,
         W: Wake + Drop + 'static,
         R: Wait + Copy + Drop + 'static,
-        requires { steps.old ≡ found_asleep (is_asleep self.old) found.now }
-        ensures steps { steps.new ≡ found_asleep false found.now }
+        requires { top steps.old ≡ Some (step.Tick (tick_step.WakeUp who.now)) }
+        ensures steps { steps.new ≡ below steps.old }
         ensures stays { has_left self.new ≡ has_left self.old }
     {
-        if !self.sleeps() {
-            return;
-        }
         match self.stand_up(&rt, state, unlocked) {
-            Some(waker) => waker.wake_up_with(rt, realm, found, steps, unlocked),
+            Some(waker) => waker.wake_up_with(rt, realm, who, steps, unlocked),
             None => steps.follow(Saw::Awake(None)),
         }
     }
 
-    /// What a tick does that found nothing: it copies the waker that its poll was given, of this name, and falls asleep with the
+    /// What one does that found nothing: it copies the waker that its poll was given, of this name, and falls asleep with the
     /// copy. A waker of a task of another realm can't be found from here: it is called at once.
     pub fn sleep<T, W, R>(
         &mut self,
@@ -256,6 +108,7 @@ impl Ticker {
         realm: &'static ExRealm<T, W, R>,
         waker: &ExWaker<T, W, R>,
         name: &Waker<TaskName>,
+        who: &TickOrRun<()>,
         steps: &mut Steps,
         unlocked: &mut Unlocked,
     ) -> Slept
@@ -264,12 +117,12 @@ impl Ticker {
         W: Wake + Drop + 'static,
         R: Wait + Copy + Drop + 'static,
         requires named { name.now ≡ name_given waker.now }
-        requires copies { steps.old ≡ step.Tick (tick_step.CopyWaker (sleeping name.now)) ∷ [] }
-        ensures steps { steps.new ≡ slept name.now result }
+        requires copies { steps.old ≡ step.Tick (tick_step.CopyWaker (sleeping who.now name.now)) ∷ [] }
+        ensures steps { steps.new ≡ slept who.now name.now result }
         ensures stays { has_left self.new ≡ has_left self.old }
     {
         if sleeps_elsewhere(waker, realm) {
-            call_at_once(waker, name, steps, unlocked);
+            call_at_once(waker, name, who, steps, unlocked);
             return Slept::Still;
         }
         let Some(copy) = SleeperWaker::of(waker, unlocked) else {
@@ -277,7 +130,7 @@ impl Ticker {
             return Slept::NoMemory;
         };
         steps.follow(Saw::Something);
-        self.sleep_with(rt, state, realm, copy, name, steps, unlocked)
+        self.sleep_with(rt, state, realm, copy, name, who, steps, unlocked)
     }
 
     /// Falls asleep with a copy of the waker of this name. It has to search again where it wasn't asleep, or had been told.
@@ -288,6 +141,7 @@ impl Ticker {
         realm: &'static ExRealm<T, W, R>,
         copy: Foreign<SleeperWaker<W>>,
         name: &Waker<TaskName>,
+        who: &TickOrRun<()>,
         steps: &mut Steps,
         unlocked: &mut Unlocked,
     ) -> Slept
@@ -296,8 +150,8 @@ impl Ticker {
         W: Wake + Drop + 'static,
         R: Wait + Copy + Drop + 'static,
         requires named { name_of copy.value ≡ name.now }
-        requires falls { steps.old ≡ step.Tick (tick_step.FallAsleep (sleeping name.now)) ∷ [] }
-        ensures steps { steps.new ≡ slept name.now result }
+        requires falls { steps.old ≡ step.Tick (tick_step.FallAsleep (sleeping who.now name.now)) ∷ [] }
+        ensures steps { steps.new ≡ slept who.now name.now result }
         ensures stays { has_left self.new ≡ has_left self.old }
     {
         match self.lie_down(&rt, state, copy, unlocked) {
@@ -306,12 +160,12 @@ impl Ticker {
                 Slept::Anew
             }
             Laid::Already(old) => {
-                old.sleep_on_without(rt, realm, name, steps, unlocked);
+                old.sleep_on_without(rt, realm, name, who, steps, unlocked);
                 Slept::Still
             }
             Laid::Nowhere(waker) => {
                 steps.follow(Saw::Nowhere);
-                waker.wake_and_pay(rt, realm, steps, unlocked);
+                waker.wake_and_pay(rt, realm, who, steps, unlocked);
                 Slept::Still
             }
         }
@@ -458,10 +312,11 @@ where
     }
 }
 
-/// Calls the waker of this name that a tick was polled with, which can't be kept, at once.
+/// Calls the waker of this name that one was polled with, which can't be kept, at once.
 fn call_at_once<T, W, R>(
     waker: &ExWaker<T, W, R>,
     name: &Waker<TaskName>,
+    who: &TickOrRun<()>,
     steps: &mut Steps,
     unlocked: &Unlocked,
 )
@@ -469,9 +324,10 @@ where
     T: Drop + 'static,
     W: Wake + Drop + 'static,
     R: Wait + Copy + Drop + 'static,
-    requires { steps.old ≡ step.Tick (tick_step.CopyWaker (sleeping name.now)) ∷ [] }
+    requires { steps.old ≡ step.Tick (tick_step.CopyWaker (sleeping who.now name.now)) ∷ [] }
     ensures { steps.new ≡ step.End reply.Pending ∷ [] }
 {
+    let _ = who;
     steps.follow(Saw::Something);
     steps.follow(Saw::Nowhere);
     call_waker(waker, unlocked);

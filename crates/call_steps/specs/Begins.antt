@@ -20,7 +20,6 @@ use Rattle.call_steps.specs.declared.step.run.RunStep.TheVariants as run_step
 use Rattle.call_steps.specs.declared.step.table.ClosingStep.TheVariants as closing_step
 use Rattle.call_steps.specs.declared.step.table.QueueStep.TheVariants as queue_step
 use Rattle.call_steps.specs.declared.step.table.TableStep.TheVariants as table_step
-use Rattle.call_steps.specs.declared.step.tick.SleeperStep.TheVariants as sleeper_step
 use Rattle.call_steps.specs.declared.step.tick.TickStep.TheVariants as tick_step
 use Rattle.call_steps.specs.declared.step.user.UserStep.TheVariants as user_step
 
@@ -60,11 +59,7 @@ module _ {F T : Type 0} where
   begins asked.Leak = step.Closing closing_step.LeakOut ∷ step.End reply.Done ∷ []
   begins asked.DropExecutor = step.Closing closing_step.TakeOut ∷ step.End reply.Done ∷ []
 
-  -- a part of a call answers nothing, but for the end of a run
-  abbrev pub part_begins : Part F T → List (CallStep F T)
+  -- a part of a call answers nothing
+  abbrev pub part_begins : Part F → List (CallStep F T)
   part_begins (part.Append f) = step.Queue (queue_step.Append f) ∷ []
-  part_begins part.Tell = step.Sleeper sleeper_step.ExchangeFlag ∷ []
-  part_begins (part.CallSleeper s) = step.Sleeper (sleeper_step.CallSleeper s) ∷ []
-  part_begins (part.TakeUp f) = step.Move move.TakeUp f ∷ []
   part_begins (part.Close f) = step.Move move.DropRunnable f ∷ []
-  part_begins (part.EndRun r a) = step.List (list_step.LockWrite (section.Unregister r a)) ∷ []

@@ -151,6 +151,7 @@ module _ {F T : Type 0} where
   next_write MakeRun saw.NoMemory =
       step.List list_step.UnlockWrite ∷ step.Run run_step.ReturnRoom ∷ step.End reply.NoMemory ∷ []
   next_write MakeRun _ = []
+  next_write (Register x) saw.NoMemory = step.List list_step.UnlockWrite ∷ step.End reply.NoMemory ∷ []
   next_write (Register x) _ = step.List list_step.UnlockWrite ∷ step.User (user_step.PollOwn x) ∷ []
   next_write (Unregister r a) _ = step.List list_step.UnlockWrite ∷ step.Run (run_step.Reschedule r a) ∷ []
 

@@ -17,7 +17,7 @@ pub enum Past<F, T> {
     /// It began, and was asked for this.
     Begun(Snapshot<Asked<F, T>>),
     /// It is a part of a call that is to do this.
-    Apart(Snapshot<Part<F, T>>),
+    Apart(Snapshot<Part<F>>),
     /// It did what was to be done next, and saw this.
     Did(Snapshot<Saw<F, T>>, Snapshot<Past<F, T>>),
 }
@@ -75,7 +75,7 @@ impl<F: Drop, T: Drop, B: Drop> Call<F, T, B> {
 
     /// A part of a call that is to do this.
     #[inline(always)]
-    pub fn part(part: Part<F, T>) -> Self
+    pub fn part(part: Part<F>) -> Self
         ensures { result ≡ part_begins part }
     {
         Call {

@@ -106,7 +106,11 @@ where
         ensures future { IfOk result (λ run. value_of run.future ≡ Some future) }
         ensures words { IfOk result (λ run. run.runner.words ≡ seeded 0) }
     {
-        self.body.make_run(future, 0, &mut Unlocked::at_entry())
+        let steps = begun(Asked::NewRun);
+        let (made, _last) = self
+            .body
+            .make_run(future, 0, steps, &mut Unlocked::at_entry());
+        made
     }
 
     /// As `run`, with another seed for the places at which it begins to look for tasks of other runs.
@@ -117,7 +121,11 @@ where
         ensures future { IfOk result (λ run. value_of run.future ≡ Some future) }
         ensures words { IfOk result (λ run. run.runner.words ≡ seeded seed) }
     {
-        self.body.make_run(future, seed, &mut Unlocked::at_entry())
+        let steps = begun(Asked::NewRun);
+        let (made, _last) = self
+            .body
+            .make_run(future, seed, steps, &mut Unlocked::at_entry());
+        made
     }
 }
 

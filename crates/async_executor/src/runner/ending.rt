@@ -1,5 +1,5 @@
 //! How the own queue of a run goes, with what is left in it, as its call has to do next.
-ghost use Rattle.std.specs.Prelude.{◌≡◌, ◌∷◌, [], true, None, IsTrue};
+ghost use Rattle.std.specs.Prelude.{◌≡◌, ◌∷◌, [], true, false, None, IsTrue};
 ghost use Rattle.call_steps.specs.Begins.{drop_run};
 ghost use Rattle.call_steps.specs.declared.names.Section.TheVariants as section;
 ghost use Rattle.call_steps.specs.declared.reply.Reply.TheVariants as reply;
@@ -29,6 +29,13 @@ impl Runner {
         if self.has_ended() {
             return Stage::Ended;
         }
+        self.stage_listed()
+    }
+
+    /// At which stage it is, where it hasn't ended.
+    pub fn stage_listed(&self) -> Stage
+        ensures { result ≡ stage_by false self.now.is_listed }
+    {
         if self.is_listed {
             return Stage::Listed;
         }

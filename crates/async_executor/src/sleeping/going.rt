@@ -1,12 +1,12 @@
 //! How the waker goes of one that sleeps no more, or with another one, as its call has to do next.
-ghost use Rattle.std.specs.Prelude.{◌≡◌, ◌∷◌, [], Some, true, false};
+ghost use Rattle.std.specs.Prelude.{◌≡◌, ◌∷◌, [], Some};
 ghost use Rattle.task_moves.specs.declared.moves.owed.Move.TheVariants as move;
 ghost use Rattle.call_steps.specs.Todo.{below, top};
 ghost use Rattle.call_steps.specs.declared.reply.Reply.TheVariants as reply;
 ghost use Rattle.call_steps.specs.declared.step.CallStep.TheVariants as step;
 ghost use Rattle.call_steps.specs.declared.step.run.RunStep.TheVariants as run_step;
 ghost use Rattle.call_steps.specs.declared.step.tick.TickStep.TheVariants as tick_step;
-ghost use Rattle.async_executor.specs.Ticks.{found_asleep, sleeping};
+ghost use Rattle.async_executor.specs.Ticks.{sleeping};
 
 use super::SleeperWaker;
 use crate::due::{Handed, pay_next};
@@ -47,22 +47,22 @@ impl<W: Wake + Drop + 'static> SleeperWaker<W> {
         }
     }
 
-    /// A tick that found a Runnable of this task wakes up with this waker, which goes, with all that this leads to.
+    /// One wakes up with this waker, which goes, with all that this leads to.
     pub fn wake_up_with<T, R>(
         self,
         rt: R,
         realm: &'static ExRealm<T, W, R>,
-        found: &TaskName,
+        who: &TickOrRun<()>,
         steps: &mut Steps,
         unlocked: &mut Unlocked,
     )
     where
         T: Drop + 'static,
         R: Wait + Copy + Drop + 'static,
-        requires { steps.old ≡ found_asleep true found.now }
-        ensures { steps.new ≡ found_asleep false found.now }
+        requires { top steps.old ≡ Some (step.Tick (tick_step.WakeUp who.now)) }
+        ensures { steps.new ≡ below steps.old }
     {
-        let _ = found;
+        let _ = who;
         match self {
             SleeperWaker::Task(waker) => {
                 steps.follow(Saw::Awake(Some(Waker::Task(TaskName::of_waker(&waker)))));
@@ -75,22 +75,23 @@ impl<W: Wake + Drop + 'static> SleeperWaker<W> {
         }
     }
 
-    /// A tick sleeps on with another waker, of this name, and without this one, which goes, with all that this leads to.
+    /// One sleeps on with another waker, of this name, and without this one, which goes, with all that this leads to.
     pub fn sleep_on_without<T, R>(
         self,
         rt: R,
         realm: &'static ExRealm<T, W, R>,
         name: &Waker<TaskName>,
+        who: &TickOrRun<()>,
         steps: &mut Steps,
         unlocked: &mut Unlocked,
     )
     where
         T: Drop + 'static,
         R: Wait + Copy + Drop + 'static,
-        requires { steps.old ≡ step.Tick (tick_step.FallAsleep (sleeping name.now)) ∷ [] }
+        requires { steps.old ≡ step.Tick (tick_step.FallAsleep (sleeping who.now name.now)) ∷ [] }
         ensures { steps.new ≡ step.End reply.Pending ∷ [] }
     {
-        let _ = name;
+        let (_, _) = (name, who);
         match self {
             SleeperWaker::Task(waker) => {
                 steps.follow(Saw::Already(Some(Waker::Task(TaskName::of_waker(&waker)))));

@@ -1,8 +1,12 @@
-use Rattle.std.specs.Prelude.{◌≡◌}
+use Rattle.std.proofs.Common.{◌≡◌, ◌-◌, [], ◌∷◌, ◌++◌, length}
+use Rattle.call_steps.specs.Closing.{leaking}
+use Rattle.call_steps.specs.declared.reply.Reply.TheVariants as reply
+use Rattle.call_steps.specs.declared.step.CallStep.TheVariants as step
 use Rattle.async_executor.proofs.Turning.{Turned}
 use Rattle.async_executor.proofs.executor.call_wakers.Given as goal
 
--- so many wakers were taken out, and nothing else
-abbrev pub invariant-loop-step : goal.invariant-loop-step
-invariant-loop-step g l =
-    Turned l.fn.table.entries l.table.entries l._step × (l.table ≡ record l.fn.table { entries = l.table.entries })
+-- so many wakers were taken out and called, and nothing else
+abbrev pub invariant-loop-place : goal.invariant-loop-place
+invariant-loop-place g l =
+    Turned l.fn.table.entries l.table.entries l.place × (l.table ≡ record l.fn.table { entries = l.table.entries })
+    × (l.steps ≡ leaking (length l.fn.table.entries - l.place) ++ step.End reply.Done ∷ [])

@@ -1,8 +1,13 @@
-use Rattle.std.proofs.Common.{◌≡◌}
+use Rattle.std.proofs.Common.{◌≡◌, [], ◌∷◌}
+use Rattle.call_steps.specs.declared.names.TickOrRun.TheVariants.{Run}
+use Rattle.call_steps.specs.declared.step.CallStep.TheVariants as step
+use Rattle.call_steps.specs.declared.step.tick.TickStep.TheVariants as tick_step
+use Rattle.async_executor.specs.Ticks.{sleeping}
 use Rattle.async_executor.proofs.entry.Run.find.Given as goal
 
--- its own future, how its last poll ended, and its counts stay
+-- it is to search; its own future, how its last poll ended, and its counts stay
 abbrev pub invariant-loop : goal.invariant-loop
 invariant-loop g l =
     (goal.iterator-loop g).can_next l.iterator' × (goal.iterator-loop g).is_finite l.iterator'
-    × (l.self.future ≡ l.fn.self.future) × (l.self.polled ≡ l.fn.self.polled) × (l.self.counts ≡ l.fn.self.counts)
+    × (l.self.future ≡ l.fn.self.future) × (l.self.answered ≡ l.fn.self.answered) × (l.self.counts ≡ l.fn.self.counts)
+    × (l.steps ≡ step.Tick (tick_step.Search (sleeping (Run tt) l.fn.name)) ∷ [])

@@ -1,9 +1,14 @@
-use Rattle.std.proofs.Common.{◌≡◌, ◌≤◌}
+use Rattle.std.proofs.Common.{◌≡◌, ◌≤◌, [], ◌∷◌}
+use Rattle.call_steps.specs.declared.names.TickOrRun.TheVariants.{Run}
+use Rattle.call_steps.specs.declared.step.CallStep.TheVariants as step
+use Rattle.call_steps.specs.declared.step.tick.TickStep.TheVariants as tick_step
+use Rattle.async_executor.specs.Ticks.{sleeping}
 use Rattle.async_executor.proofs.entry.Run.take_tasks.Given as goal
 
--- its own future stays, no poll has ended, and its count goes on
+-- it is to search; its own future stays, no poll has ended, and its count goes on
 abbrev pub invariant-loop : goal.invariant-loop
 invariant-loop g l =
     (goal.iterator-loop g).can_next l.iterator' × (goal.iterator-loop g).is_finite l.iterator'
-    × (l.self.future ≡ l.fn.self.future) × (l.self.polled ≡ l.fn.self.polled)
+    × (l.self.future ≡ l.fn.self.future) × (l.self.answered ≡ l.fn.self.answered)
     × (l.fn.self.counts.taken ≤ l.self.counts.taken)
+    × (l.steps ≡ step.Tick (tick_step.Search (sleeping (Run tt) l.fn.name)) ∷ [])

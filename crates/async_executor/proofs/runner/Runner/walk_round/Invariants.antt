@@ -1,7 +1,7 @@
-use Rattle.std.specs.Prelude.{◌≡◌, false}
-use Rattle.async_executor.specs.Stages.{begun, looked}
+use Rattle.std.specs.Prelude.{◌≡◌}
+use Rattle.async_executor.specs.Runs.{walks}
 use Rattle.async_executor.proofs.runner.Runner.walk_round.Given as goal
 
--- the executor's queue was found empty, and nothing is in hand while it walks
-abbrev pub invariant-loop-step : goal.invariant-loop-step
-invariant-loop-step g l = l.call ≡ looked false begun
+-- it walks, with so many queues behind
+abbrev pub invariant-loop-place : goal.invariant-loop-place
+invariant-loop-place g l = l.steps ≡ walks l.fn.search.name.now l.behind

@@ -1,8 +1,8 @@
 //! What a run counts.
-ghost use Rattle.std.specs.Prelude.{◌≡◌, ◌+◌, ◌==◌, cond, is_some, IfSome};
-ghost use Rattle.async_executor.specs.declared.call.Ending.TheVariants.{Ran, GaveWay};
+ghost use Rattle.std.specs.Prelude.{◌≡◌, ◌+◌, ◌==◌, cond, is_some};
+ghost use Rattle.async_executor.specs.Counted.{searcher};
 
-use super::{Ending, Last};
+use call_steps::Searcher;
 use std::marker::Model;
 
 /// At every 64th task that it has counted in its life, a run steals from the executor's queue.
@@ -22,6 +22,19 @@ pub struct Counts {
 #[must_use]
 pub struct OwesSteal {
     own: (),
+}
+
+/// Says that a run has taken 200 tasks since it last let others go first, and does so at the end of this poll. It has no drop.
+#[must_use]
+pub struct GivesWay {
+    own: (),
+}
+
+impl GivesWay {
+    /// The poll ends.
+    pub fn spend(self) {
+        let GivesWay { own: () } = self;
+    }
 }
 
 impl Model for Counts {
@@ -60,18 +73,26 @@ impl Counts {
         None
     }
 
-    /// One more task was run. At the 200th the count begins anew, and a poll ends by that: its end is the answer.
-    pub fn take(&mut self, last: Last) -> Option<Last>
-        requires ran { last ≡ Ran }
+    /// How far it has counted, for a run that sleeps or not.
+    pub fn at(&self, sleeps: bool) -> Searcher
+        ensures { result ≡ searcher sleeps self.now }
+    {
+        Searcher {
+            sleeps,
+            counted: self.counted,
+            taken: self.taken,
+        }
+    }
+
+    /// One more task is run. At the 200th the count begins anew, and a poll ends behind it.
+    pub fn take(&mut self) -> Option<GivesWay>
         ensures full { is_some result ≡ (self.old.taken + 1 == 200) }
-        ensures ending { IfSome result (λ last. last ≡ GaveWay) }
         ensures taken { self.new ≡ record self.old { taken = cond (is_some result) 0 (self.old.taken + 1) } }
     {
-        let Last { ending: _ } = last;
         let taken = self.taken + 1;
         if taken == PAUSES_AT {
             self.taken = 0;
-            return Some(Last::of(Ending::GaveWay));
+            return Some(GivesWay { own: () });
         }
         self.taken = taken;
         None

@@ -1,10 +1,11 @@
 -- What a poll of a task has of its future.
-use Rattle.std.specs.Prelude.{Option, Some, None, List, ◌∷◌}
+use Rattle.std.specs.Prelude.{◌≡◌, Option, Some, None, List, ◌∷◌}
 use Rattle.async_executor.specs.declared.sections.Taken.{Taken}
 use Rattle.async_executor.specs.declared.task_run.Begun.{Begun}
 use Rattle.async_executor.specs.declared.task_run.Begun.TheVariants as begun
 use Rattle.async_executor.specs.declared.task_run.Settled.{Settled}
 use Rattle.async_executor.specs.declared.task_run.Settled.TheVariants as settled
+use Rattle.async_task.specs.Awaiters.{identity_of}
 use Rattle.async_task.specs.declared.cell.Identity.{Identity}
 use Rattle.async_task.specs.declared.poll.Poll.{Poll}
 use Rattle.async_task.specs.declared.wake.Wake.{Ghosts}
@@ -13,6 +14,7 @@ use Rattle.call_steps.specs.declared.saw.Saw.{Saw}
 use Rattle.call_steps.specs.declared.saw.Saw.TheVariants as saw
 use Rattle.call_steps.specs.declared.step.CallStep.{CallStep}
 use Rattle.call_steps.specs.declared.step.CallStep.TheVariants as step
+use Rattle.call_steps.specs.declared.step.table.QueueStep.TheVariants as queue_step
 use Rattle.call_steps.specs.declared.step.table.TableStep.TheVariants as table_step
 use Rattle.task_moves.specs.declared.local_task.answers.Back.{Back}
 use Rattle.task_moves.specs.declared.local_task.answers.Back.TheVariants as back
@@ -31,6 +33,11 @@ abbrev pub begun_as : {T W R : Type 0} {wakes : Ghosts W} → Begun T W R wakes 
 begun_as (begun.Poll place polling) f rest = step.Table (table_step.TakeToPoll f) ∷ rest
 begun_as (begun.Drop place dropping) f rest = step.Table (table_step.TakeToDrop f) ∷ step.Move dropping.ends.value f ∷ rest
 
+-- a run that was begun is one of this task: it polls with that one's waker
+abbrev pub IsRunOf : {T W R : Type 0} {wakes : Ghosts W} → Begun T W R wakes → Identity → Type 0
+IsRunOf (begun.Poll place polling) f = identity_of polling.running.waker ≡ Some f
+IsRunOf (begun.Drop place dropping) f = Unit {0}
+
 -- what a poll sees
 abbrev pub poll_seen : {O : Type 0} → Poll O → Saw Identity (Unit {0})
 poll_seen (Ready output) = saw.Ready
@@ -48,5 +55,5 @@ end_by (back.Pending place) = move.EndPending
 -- what the end of a poll leaves to be done
 abbrev pub settled_as : {T W R : Type 0} → Settled T W R → Identity → Todo → Todo
 settled_as settled.Over f rest = rest
-settled_as (settled.Woken runnable) f rest = rest
+settled_as (settled.Woken runnable) f rest = step.Queue (queue_step.Append runnable.identity) ∷ rest
 settled_as (settled.Drop place dropping) f rest = step.Table (table_step.TakeToDrop f) ∷ step.Move dropping.ends.value f ∷ rest

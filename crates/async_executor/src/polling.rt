@@ -2,6 +2,7 @@
 //! one section of its lock, and no lock is held while code of a user runs.
 ghost use Rattle.std.specs.Prelude.{◌≡◌, ◌∷◌, Some, IfSome};
 ghost use Rattle.task_moves.specs.declared.moves.owed.Move.TheVariants as move;
+ghost use Rattle.async_task.specs.Awaiters.{identity_of};
 ghost use Rattle.call_steps.specs.Todo.{below, top};
 ghost use Rattle.call_steps.specs.declared.step.CallStep.TheVariants as step;
 ghost use Rattle.call_steps.specs.declared.step.table.TableStep.TheVariants as table_step;
@@ -11,6 +12,7 @@ ghost use Rattle.async_executor.specs.Polling.{end_by, end_of};
 use crate::body::Body;
 use crate::due::pay;
 use crate::entry::Unlocked;
+use crate::marked::Marked;
 use crate::names::{ExStoredRunnable, ExWaker};
 use crate::sections;
 use crate::sections::Taken;
@@ -64,7 +66,8 @@ where
         steps: &mut Steps,
         unlocked: &mut Unlocked,
     )
-        requires { top steps.old ≡ Some (step.Table (table_step.TakeToPoll name.now)) }
+        requires named { identity_of polling.running.waker ≡ Some name.now }
+        requires polls { top steps.old ≡ Some (step.Table (table_step.TakeToPoll name.now)) }
         ensures { steps.new ≡ below steps.old }
     {
         let taken = sections::take_to_poll(
@@ -77,7 +80,11 @@ where
         let back = back_of(polled, place);
         match polling.settle(back, name, steps, unlocked) {
             Settled::Over => {}
-            Settled::Woken(runnable) => self.state.push_apart(self.rt, runnable, unlocked),
+            Settled::Woken(runnable) => {
+                let marked = Marked::of(runnable);
+                self.state
+                    .push_and_pay(self.rt, self.realm, steps, marked, unlocked);
+            }
             Settled::Drop(place, dropping) => {
                 self.drop_future(place, dropping, name, steps, unlocked);
             }

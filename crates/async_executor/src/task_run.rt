@@ -1,16 +1,19 @@
 //! A task while it is run. Its end calls who awaits it, so it is lent an `Unlocked`.
 ghost use Rattle.std.specs.Prelude.{◌≡◌, Some};
+ghost use Rattle.task_moves.specs.Moves.{nothing};
 ghost use Rattle.task_moves.specs.declared.moves.owed.Move.TheVariants as move;
+ghost use Rattle.async_task.specs.Awaiters.{identity_of};
 ghost use Rattle.call_steps.specs.Todo.{below, top};
 ghost use Rattle.call_steps.specs.declared.step.CallStep.TheVariants as step;
-ghost use Rattle.async_executor.specs.Polling.{begun_as, end_by, settled_as};
+ghost use Rattle.async_executor.specs.Polling.{begun_as, end_by, settled_as, IsRunOf};
 
 use crate::entry::Unlocked;
 use crate::names::{ExClosing, ExRunning, ExScheduled, ExWaker};
 use crate::steps::Steps;
 use crate::task_name::TaskName;
-use async_task::moves::{FutureDebt, Move};
-use async_task::{Back, Due, RunEnd, Started, Wake};
+use async_task::moves::{FutureDebt, Move, Owed};
+use async_task::{Back, Due, RunEnd, ScheduleInfo, Started, Wake};
+use call_steps::Saw;
 use executor_parts::EntryPlace;
 use std::snapshot::Snapshot;
 use std::sync::Wait;
@@ -82,7 +85,8 @@ where
     R: Wait + Copy + Drop + 'static,
     requires named { name.now ≡ scheduled.identity }
     requires taken_up { top steps.old ≡ Some (step.Move move.TakeUp name.now) }
-    ensures { steps.new ≡ begun_as result name.now (below steps.old) }
+    ensures steps { steps.new ≡ begun_as result name.now (below steps.old) }
+    ensures named { IsRunOf result name.now }
 {
     let _ = name;
     match scheduled.into_runnable().start() {
@@ -119,7 +123,8 @@ where
         steps: &mut Steps,
         unlocked: &Unlocked,
     ) -> Settled<T, W, R>
-        requires { top steps.old ≡ Some (step.Move (end_by back) name.now) }
+        requires named { identity_of self.running.waker ≡ Some name.now }
+        requires ends { top steps.old ≡ Some (step.Move (end_by back) name.now) }
         ensures { steps.new ≡ settled_as result name.now (below steps.old) }
     {
         let (_, _) = (unlocked, name);
@@ -129,13 +134,16 @@ where
                 steps.see_moved(false);
                 Settled::Over
             }
-            RunEnd::Pause(pause) => {
-                steps.see_moved(false);
-                match pause.into_due() {
-                    Some(Due { runnable, info: _ }) => Settled::Woken(runnable),
-                    None => Settled::Over,
+            RunEnd::Pause(pause) => match pause.into_due() {
+                Some(Due { runnable, info }) => {
+                    steps.follow(Saw::Moved(false, owing(info)));
+                    Settled::Woken(runnable)
                 }
-            }
+                None => {
+                    steps.see_moved(false);
+                    Settled::Over
+                }
+            },
             RunEnd::Drop(place, closing) => {
                 steps.see_future(FutureDebt::DropFuture, Some(Move::EndClosed));
                 Settled::Drop(place, Dropping::by(closing, Move::EndClosed))
@@ -169,5 +177,21 @@ where
         let Dropping { closing, ends: _ } = self;
         closing.finish();
         steps.see_moved(false);
+    }
+}
+
+/// What a task owes of which all is paid but its Runnable, which is due.
+#[inline(always)]
+fn owing(info: ScheduleInfo) -> Owed
+    ensures { result ≡ record nothing { schedule = Some info } }
+{
+    Owed {
+        schedule: Some(info),
+        future: None,
+        drop_output: false,
+        awaiter: None,
+        next: None,
+        answer: None,
+        empty_cell: false,
     }
 }

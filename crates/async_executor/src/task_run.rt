@@ -1,6 +1,7 @@
 //! A task while it is run. Its end calls who awaits it, so it is lent an `Unlocked`.
-ghost use Rattle.std.specs.Prelude.{◌≡◌, Some};
+ghost use Rattle.std.specs.Prelude.{◌≡◌, true, Some};
 ghost use Rattle.task_moves.specs.Moves.{nothing};
+ghost use Rattle.task_moves.specs.declared.moves.owed.FutureDebt.TheVariants.{DropFuture};
 ghost use Rattle.task_moves.specs.declared.moves.owed.Move.TheVariants as move;
 ghost use Rattle.async_task.specs.Awaiters.{identity_of};
 ghost use Rattle.call_steps.specs.Todo.{below, top};
@@ -136,7 +137,7 @@ where
             }
             RunEnd::Pause(pause) => match pause.into_due() {
                 Some(Due { runnable, info }) => {
-                    steps.follow(Saw::Moved(false, owing(Some(info), None, false)));
+                    steps.follow(Saw::Moved(false, owing(info)));
                     Settled::Woken(runnable)
                 }
                 None => {
@@ -149,8 +150,7 @@ where
                     steps.see_future(FutureDebt::DropFuture, Some(Move::EndClosed));
                     Settled::Drop(place, Dropping::by(closing, Move::EndClosed))
                 } else {
-                    let owed = owing(None, Some(FutureDebt::DropFuture), true);
-                    steps.follow(Saw::Moved(true, owed));
+                    steps.follow(Saw::Moved(true, owing_drop()));
                     Settled::Drop(place, Dropping::by(closing, Move::EndClosed))
                 }
             }
@@ -192,19 +192,34 @@ where
     }
 }
 
-/// What a task owes that has moved: this to its schedule value, and this to its future, and that its cell is emptied. All else is
-/// paid.
+/// What a task owes of which all is paid but its Runnable, which is due.
 #[inline(always)]
-fn owing(schedule: Option<ScheduleInfo>, future: Option<FutureDebt>, empty_cell: bool) -> Owed
-    ensures { result ≡ record nothing { schedule = schedule; future = future; empty_cell = empty_cell } }
+fn owing(info: ScheduleInfo) -> Owed
+    ensures { result ≡ record nothing { schedule = Some info } }
 {
     Owed {
-        schedule,
-        future,
+        schedule: Some(info),
+        future: None,
         drop_output: false,
         awaiter: None,
         next: None,
         answer: None,
-        empty_cell,
+        empty_cell: false,
+    }
+}
+
+/// What a task owes that nobody can reach any more: its future is dropped, and its cell is emptied.
+#[inline(always)]
+fn owing_drop() -> Owed
+    ensures { result ≡ record nothing { future = Some DropFuture; empty_cell = true } }
+{
+    Owed {
+        schedule: None,
+        future: Some(FutureDebt::DropFuture),
+        drop_output: false,
+        awaiter: None,
+        next: None,
+        answer: None,
+        empty_cell: true,
     }
 }

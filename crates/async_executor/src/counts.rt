@@ -74,6 +74,7 @@ impl Counts {
     }
 
     /// How far it has counted, for a run that sleeps or not.
+    #[inline(always)]
     pub fn at(&self, sleeps: bool) -> Searcher
         ensures { result ≡ searcher sleeps self.now }
     {

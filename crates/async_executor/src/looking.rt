@@ -107,6 +107,7 @@ impl<W: Drop> State<W> {
 
     /// A run's look at the executor's queues, in a poll with a waker of this name: takes a turn, and then the first Runnable of the
     /// queue that this names, or else of the other one.
+    #[inline(always)]
     pub fn look_common<R: Wait>(
         &self,
         rt: &R,
@@ -132,6 +133,7 @@ impl<W: Drop> State<W> {
     }
 
     /// The first of these looks. A queue that is empty is left after loads alone, with no pop.
+    #[inline(always)]
     fn look_common_first<R: Wait>(
         &self,
         mark: Mark,
@@ -160,6 +162,7 @@ impl<W: Drop> State<W> {
     }
 
     /// The second one.
+    #[inline(always)]
     fn look_common_second<R: Wait>(
         &self,
         mark: Mark,

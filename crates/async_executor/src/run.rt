@@ -227,6 +227,7 @@ where
     }
 
     /// Searches once.
+    #[inline(always)]
     fn search(
         &mut self,
         name: &Waker<TaskName>,
@@ -309,6 +310,7 @@ where
     }
 
     /// Wakes up, where it sleeps, as it found this Runnable.
+    #[inline(always)]
     fn wake_up(
         &mut self,
         found: &ExStoredRunnable,
@@ -339,6 +341,7 @@ where
     }
 
     /// Counts the task that was found. At each 64th it steals from the executor's queues.
+    #[inline(always)]
     fn count(
         &mut self,
         found: &ExStoredRunnable,
@@ -371,6 +374,7 @@ where
 
     /// Runs the task that was counted. After the 200th it lets others go first, as the answer says.
     #[tactic(auto, using(crate::proofs::Taking::takes_up))]
+    #[inline(always)]
     fn run_counted(
         &mut self,
         runnable: ExStoredRunnable,

@@ -247,6 +247,7 @@ impl Runner {
     }
 
     /// A search begins with the own queue.
+    #[inline(always)]
     fn look_own<R: Wait>(
         &self,
         rt: &R,
@@ -352,6 +353,7 @@ impl Runner {
     }
 
     /// In a walk, looks into the own queue, with so many still to go to.
+    #[inline(always)]
     fn look_own_in_walk<R: Wait>(
         &self,
         rt: &R,
@@ -375,6 +377,7 @@ impl Runner {
 
 impl Search<'_> {
     /// A walk goes to the next queue, with so many behind it.
+    #[inline(always)]
     fn go_to(&self, left: u64, behind: &Option<u64>, steps: &mut Steps)
         requires { steps.old ≡ walks self.now.name.now behind.now }
         ensures { steps.new ≡ step.Steal (steal_step.Length (steal_with self.now.name.now (source.Own tt) (then.Walk left))) ∷ [] }
@@ -386,6 +389,7 @@ impl Search<'_> {
     }
 
     /// A walk has no queue to go to any more.
+    #[inline(always)]
     fn end_walk(&self, behind: &Option<u64>, steps: &mut Steps)
         requires { steps.old ≡ walks self.now.name.now behind.now }
         ensures { steps.new ≡ walked self.now.at self.now.name.now None }
@@ -398,6 +402,7 @@ impl Search<'_> {
 }
 
 /// The list's lock was given back, once a walk was over.
+#[inline(always)]
 fn unlock_read(found: &Option<ExStoredRunnable>, search: &Search<'_>, steps: &mut Steps)
     requires { steps.old ≡ walked search.now.at search.now.name.now (of_stored found.now) }
     ensures { steps.new ≡ searched_by_run search.now.at search.now.name.now (of_stored found.now) }

@@ -1,12 +1,15 @@
 -- How a run is polled, and ends, step by step.
 use Rattle.std.specs.Prelude.{◌+◌, ◌==◌, ℕ, Bool, true, false, Option, Some, None, List, [], ◌∷◌}
 use Rattle.async_task.specs.declared.cell.Identity.{Identity}
+use Rattle.async_task.specs.declared.poll.Poll.{Poll}
+use Rattle.async_task.specs.declared.poll.Poll.TheVariants.{Ready, Pending}
 use Rattle.executor_parts.specs.declared.mark.Mark.{Mark}
 use Rattle.executor_parts.specs.Marks.{other}
 use Rattle.call_steps.specs.Sleeping.{counted_by, found_by_run, run_by}
 use Rattle.call_steps.specs.Stealing.{walk_ends}
 use Rattle.call_steps.specs.declared.names.Look.TheVariants.{Second}
 use Rattle.call_steps.specs.declared.names.RunPoll.{RunPoll}
+use Rattle.call_steps.specs.declared.names.Section.TheVariants as section
 use Rattle.call_steps.specs.declared.names.Source.{Source}
 use Rattle.call_steps.specs.declared.names.Source.TheVariants.{Common}
 use Rattle.call_steps.specs.declared.names.Stage.{Stage}
@@ -27,6 +30,7 @@ use Rattle.call_steps.specs.declared.step.run.StealStep.TheVariants as steal_ste
 use Rattle.call_steps.specs.declared.step.table.QueueStep.TheVariants as queue_step
 use Rattle.call_steps.specs.declared.step.tick.SleeperStep.TheVariants as sleeper_step
 use Rattle.call_steps.specs.declared.step.tick.TickStep.TheVariants as tick_step
+use Rattle.call_steps.specs.declared.step.user.UserStep.TheVariants as user_step
 use Rattle.async_executor.specs.declared.own_queues.RunRoom.{RunRoom}
 use Rattle.async_executor.specs.declared.queues.FromQueues.{FromQueues}
 use Rattle.async_executor.specs.Ticks.{sleeping}
@@ -105,6 +109,15 @@ counts at w f = counted_by (at.counted + 1 == 64) at (poll_with w) f
 
 abbrev pub runs : Searcher → Waker Identity → Identity → Todo
 runs at w f = run_by (at.taken + 1 == 200) (poll_with w) f
+
+-- its own future was polled, and is ready: that is dropped, and the run leaves the executor
+abbrev pub ends_ready : Todo
+ends_ready = step.User (user_step.DropOwn tt) ∷ step.List (list_step.LockWrite (section.Unregister tt reply.Ready)) ∷ []
+
+-- what is left once its own future was polled: where that is pending, it searches
+abbrev pub polled_own : {O : Type 0} → Waker Identity → Poll O → Todo
+polled_own w (Ready _) = ends_ready
+polled_own w Pending = step.Tick (tick_step.Search (sleeping (Run tt) w)) ∷ []
 
 -- a sleeper is told of what was found, and then that is counted
 abbrev pub tells : Searcher → Waker Identity → Identity → Todo

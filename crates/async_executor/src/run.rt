@@ -3,18 +3,16 @@ ghost use Rattle.std.specs.Prelude.{◌≡◌, ◌+◌, ◌==◌, ◌∷◌, [],
 ghost use Rattle.async_executor.specs.Counted.{one_more, searcher};
 ghost use Rattle.async_executor.specs.Counting.{GoesOn};
 ghost use Rattle.async_executor.specs.Polls.{has_left, EndsWith, GoesOnOrWants, HasLeft, IsRunAnswer, replied_by_run};
-ghost use Rattle.async_executor.specs.Runs.{counts, has_ended, poll_with, ran, runs, searched_by_run, stage_by, stage_polled, tells};
+ghost use Rattle.async_executor.specs.Runs.{counts, ends_ready, has_ended, poll_with, polled_own, ran, runs, searched_by_run, stage_by, stage_polled, tells};
 ghost use Rattle.async_executor.specs.Sleeping.{is_asleep};
 ghost use Rattle.async_executor.specs.Sought.{sought};
 ghost use Rattle.async_executor.specs.Steps.{name_given, of_stored};
 ghost use Rattle.async_executor.specs.Ticks.{sleeping, slept};
 ghost use Rattle.call_steps.specs.Begins.{drop_run, poll_run};
 ghost use Rattle.call_steps.specs.Sleeping.{found_by_run};
-ghost use Rattle.call_steps.specs.declared.names.Section.TheVariants as section;
 ghost use Rattle.call_steps.specs.declared.names.TickOrRun.TheVariants as tick_or_run;
 ghost use Rattle.call_steps.specs.declared.reply.Reply.TheVariants as reply;
 ghost use Rattle.call_steps.specs.declared.step.CallStep.TheVariants as step;
-ghost use Rattle.call_steps.specs.declared.step.run.ListStep.TheVariants as list_step;
 ghost use Rattle.call_steps.specs.declared.step.tick.TickStep.TheVariants as tick_step;
 ghost use Rattle.call_steps.specs.declared.step.user.UserStep.TheVariants as user_step;
 
@@ -104,22 +102,18 @@ where
                 .end(Reply::NoMemory, steps.end(Reply::NoMemory));
             return Poll::Ready(Err(RunError::NoMemory));
         }
-        match future.poll(waker, unlocked) {
+        match poll_own(future, waker, &name, &mut steps, unlocked) {
             Poll::Ready(output) => {
-                steps.follow(Saw::Ready);
                 self.leave(steps, unlocked);
                 Poll::Ready(Ok(output))
             }
-            Poll::Pending => {
-                steps.follow(Saw::Pending);
-                self.take_tasks(waker, &name, steps, unlocked)
-            }
+            Poll::Pending => self.take_tasks(waker, &name, steps, unlocked),
         }
     }
 
     /// Its own future was ready: that is dropped, and the run leaves the executor.
     fn leave(&mut self, steps: Steps, unlocked: &mut Unlocked)
-        requires { steps ≡ step.User (user_step.DropOwn tt) ∷ step.List (list_step.LockWrite (section.Unregister tt reply.Ready)) ∷ [] }
+        requires { steps ≡ ends_ready }
         ensures drained { self.new.runner.is_drained ≡ true }
         ensures left { has_left self.new.ticker ≡ true }
         ensures future { self.new.future ≡ None }
@@ -395,6 +389,31 @@ where
         self.executor.poll_or_drop(runnable, steps, unlocked);
         self.counts.take()
     }
+}
+
+/// Polls a run's own future once, with the waker of this name.
+fn poll_own<G, T, W, R>(
+    future: &mut G,
+    waker: &ExWaker<T, W, R>,
+    name: &Waker<TaskName>,
+    steps: &mut Steps,
+    unlocked: &mut Unlocked,
+) -> Poll<G::Output>
+where
+    G: Future<ExWaker<T, W, R>>,
+    T: Drop + 'static,
+    W: Wake + Drop + 'static,
+    R: Wait + Copy + Drop + 'static,
+    requires { steps.old ≡ step.User (user_step.PollOwn (poll_with name.now)) ∷ [] }
+    ensures { steps.new ≡ polled_own name.now result }
+{
+    let _ = name;
+    let polled = future.poll(waker, unlocked);
+    match &polled {
+        Poll::Ready(_) => steps.follow(Saw::Ready),
+        Poll::Pending => steps.follow(Saw::Pending),
+    }
+    polled
 }
 
 /// A run that has taken 200 tasks calls the waker of this name that it was polled with, and lets others go first.

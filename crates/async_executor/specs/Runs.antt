@@ -61,6 +61,16 @@ poll_with w = record { run = tt; waker = w }
 abbrev pub steal_with : Waker Identity → Source (Unit {0}) → Then Identity → Steal Identity (Unit {0})
 steal_with w from then = record { poll = poll_with w; from = from; then = then }
 
+-- a steal reads how many stand in its source; then, where so many do, how many stand in the own queue; and puts one there
+abbrev pub reads_length : Waker Identity → Source (Unit {0}) → Then Identity → Todo
+reads_length w from then = step.Steal (steal_step.Length (steal_with w from then)) ∷ []
+
+abbrev pub reads_own_length : Waker Identity → Source (Unit {0}) → Then Identity → ℕ → Todo
+reads_own_length w from then n = step.Steal (steal_step.OwnLength (steal_with w from then) n) ∷ []
+
+abbrev pub puts : Waker Identity → Source (Unit {0}) → Then Identity → ℕ → Identity → Todo
+puts w from then more f = step.Steal (steal_step.Put (steal_with w from then) more f) ∷ []
+
 -- what is left once it looked into its own queue, as a search begins
 abbrev pub looked_own : Searcher → Waker Identity → Option Identity → Todo
 looked_own at w None = step.Run (run_step.TakeTurn (poll_with w)) ∷ []
@@ -68,7 +78,7 @@ looked_own at w (Some f) = found_by_run at (poll_with w) f
 
 -- what is left once it found this in the executor's queue of this mark
 abbrev pub found_common : Waker Identity → Mark → Identity → Todo
-found_common w mark f = step.Steal (steal_step.Length (steal_with w (Common mark) (Found f))) ∷ []
+found_common w mark f = reads_length w (Common mark) (Found f)
 
 -- once it looked into the first of these queues, which is that of this mark
 abbrev pub looked_first : Mark → Waker Identity → Option Identity → Todo

@@ -181,7 +181,7 @@ where
         }
     }
 
-    /// The second step of this.
+    /// Accepts a future, once what was let go is closed: what a spawn does under the table's lock, and what it saw there.
     #[inline(always)]
     fn accept(
         &self,

@@ -7,8 +7,10 @@ ghost use Rattle.call_steps.specs.declared.step.CallStep.TheVariants as step;
 ghost use Rattle.call_steps.specs.declared.step.run.RunStep.TheVariants as run_step;
 ghost use Rattle.call_steps.specs.declared.step.tick.SleeperStep.TheVariants as sleeper_step;
 ghost use Rattle.call_steps.specs.declared.step.tick.TickStep.TheVariants as tick_step;
+ghost use Rattle.call_steps.specs.declared.step.user.UserStep.TheVariants as user_step;
 ghost use Rattle.async_executor.specs.Foreign.{value_of};
-ghost use Rattle.async_executor.specs.Steps.{of_handed, sleeper_as};
+ghost use Rattle.async_executor.specs.Runs.{poll_with, polled_own};
+ghost use Rattle.async_executor.specs.Steps.{name_given, of_handed, sleeper_as};
 ghost use Rattle.async_executor.specs.Ticks.{sleeping};
 
 use crate::due::{Handed, pay_next};
@@ -18,7 +20,7 @@ use crate::sleeping::SleeperWaker;
 use crate::steps::Steps;
 use crate::task_name::TaskName;
 use async_task::{Future, Poll, Wake};
-use call_steps::{TickOrRun, Waker};
+use call_steps::{Saw, TickOrRun, Waker};
 use std::sync::Wait;
 
 /// A value of a user's, whose code runs only while no lock is held. It has no drop: it is let go, or called, by who is lent an
@@ -43,10 +45,12 @@ impl<X> Foreign<X> {
         value
     }
 
-    /// Polls a future.
+    /// Polls the own future of a run once, with a waker of this name.
     pub fn poll<T, W, R>(
         &mut self,
         waker: &ExWaker<T, W, R>,
+        name: &Waker<TaskName>,
+        steps: &mut Steps,
         unlocked: &Unlocked,
     ) -> Poll<X::Output>
     where
@@ -54,9 +58,17 @@ impl<X> Foreign<X> {
         T: Drop + 'static,
         W: Wake + Drop + 'static,
         R: Wait + Copy + Drop + 'static,
+        requires named { name.now ≡ name_given waker.now }
+        requires polls { steps.old ≡ step.User (user_step.PollOwn (poll_with name.now)) ∷ [] }
+        ensures { steps.new ≡ polled_own name.now result }
     {
-        let _ = unlocked;
-        self.value.poll(waker)
+        let (_, _) = (unlocked, name);
+        let polled = self.value.poll(waker);
+        match &polled {
+            Poll::Ready(_) => steps.follow(Saw::Ready),
+            Poll::Pending => steps.follow(Saw::Pending),
+        }
+        polled
     }
 
     /// Drops the value.

@@ -3,7 +3,7 @@ ghost use Rattle.std.specs.Prelude.{◌≡◌, ◌+◌, ◌==◌, ◌∷◌, [],
 ghost use Rattle.async_executor.specs.Counted.{one_more, searcher};
 ghost use Rattle.async_executor.specs.Counting.{GoesOn};
 ghost use Rattle.async_executor.specs.Polls.{has_left, EndsWith, GoesOnOrWants, HasLeft, IsRunAnswer, replied_by_run};
-ghost use Rattle.async_executor.specs.Runs.{counts, ends_ready, has_ended, poll_with, polled_own, ran, runs, searched_by_run, stage_by, stage_polled, tells};
+ghost use Rattle.async_executor.specs.Runs.{counts, ends_ready, has_ended, poll_with, ran, runs, searched_by_run, stage_by, stage_polled, tells};
 ghost use Rattle.async_executor.specs.Sleeping.{is_asleep};
 ghost use Rattle.async_executor.specs.Sought.{sought};
 ghost use Rattle.async_executor.specs.Steps.{name_given, of_stored};
@@ -102,7 +102,7 @@ where
                 .end(Reply::NoMemory, steps.end(Reply::NoMemory));
             return Poll::Ready(Err(RunError::NoMemory));
         }
-        match poll_own(future, waker, &name, &mut steps, unlocked) {
+        match future.poll(waker, &name, &mut steps, unlocked) {
             Poll::Ready(output) => {
                 self.leave(steps, unlocked);
                 Poll::Ready(Ok(output))
@@ -389,31 +389,6 @@ where
         self.executor.poll_or_drop(runnable, steps, unlocked);
         self.counts.take()
     }
-}
-
-/// Polls a run's own future once, with the waker of this name.
-fn poll_own<G, T, W, R>(
-    future: &mut G,
-    waker: &ExWaker<T, W, R>,
-    name: &Waker<TaskName>,
-    steps: &mut Steps,
-    unlocked: &mut Unlocked,
-) -> Poll<G::Output>
-where
-    G: Future<ExWaker<T, W, R>>,
-    T: Drop + 'static,
-    W: Wake + Drop + 'static,
-    R: Wait + Copy + Drop + 'static,
-    requires { steps.old ≡ step.User (user_step.PollOwn (poll_with name.now)) ∷ [] }
-    ensures { steps.new ≡ polled_own name.now result }
-{
-    let _ = name;
-    let polled = future.poll(waker, unlocked);
-    match &polled {
-        Poll::Ready(_) => steps.follow(Saw::Ready),
-        Poll::Pending => steps.follow(Saw::Pending),
-    }
-    polled
 }
 
 /// A run that has taken 200 tasks calls the waker of this name that it was polled with, and lets others go first.

@@ -8,14 +8,13 @@ ghost use Rattle.call_steps.specs.declared.names.Then.TheVariants as then;
 ghost use Rattle.call_steps.specs.declared.names.TickOrRun.TheVariants as tick_or_run;
 ghost use Rattle.call_steps.specs.declared.reply.Reply.TheVariants as reply;
 ghost use Rattle.call_steps.specs.declared.step.CallStep.TheVariants as step;
-ghost use Rattle.call_steps.specs.declared.step.run.StealStep.TheVariants as steal_step;
 ghost use Rattle.call_steps.specs.declared.step.tick.TickStep.TheVariants as tick_step;
 ghost use Rattle.call_steps.specs.declared.step.user.UserStep.TheVariants as user_step;
 ghost use Rattle.executor_parts.specs.declared.mark.Mark.TheVariants as mark;
 ghost use Rattle.async_executor.specs.Seeds.{seeded, words_after};
 ghost use Rattle.async_executor.specs.OwnQueues.{listed};
-ghost use Rattle.async_executor.specs.Runs.{looked_own, looked_walking, poll_with, runs, searched_by_run};
-ghost use Rattle.async_executor.specs.Runs.{stage_by, steal_with, walked, walks};
+ghost use Rattle.async_executor.specs.Runs.{looked_own, looked_walking, poll_with, reads_length, runs, searched_by_run};
+ghost use Rattle.async_executor.specs.Runs.{stage_by, walked, walks};
 ghost use Rattle.async_executor.specs.Steps.{of_stored};
 ghost use Rattle.async_executor.specs.Ticks.{sleeping};
 
@@ -42,7 +41,7 @@ use std::sync::{Arc, Wait};
 
 mod ending;
 
-/// What a search of a run is, as contracts see it: the name of the waker that the run was polled with, and how far it has counted.
+/// What a search of a run is, as contracts see it: the name of the waker that the run was polled with, and how far it had counted as it began to search.
 #[derive(Drop)]
 pub struct Search<'a> {
     pub name: &'a Waker<TaskName>,
@@ -171,7 +170,7 @@ impl Runner {
         T: Drop + 'static,
         W: Wake + Drop + 'static,
         R: Wait + Copy + Drop + 'static,
-        requires { steps.old ≡ step.Steal (steal_step.Length (steal_with search.now.name.now (source.Common mark.Urgent) (then.StealPlain found.now.identity))) ∷ [] }
+        requires { steps.old ≡ reads_length search.now.name.now (source.Common mark.Urgent) (then.StealPlain found.now.identity) }
         ensures { steps.new ≡ runs search.now.at search.now.name.now found.now.identity }
     {
         owed.pay();
@@ -198,7 +197,7 @@ impl Runner {
         T: Drop + 'static,
         W: Wake + Drop + 'static,
         R: Wait + Copy + Drop + 'static,
-        requires { steps.old ≡ step.Steal (steal_step.Length (steal_with search.now.name.now (source.Common mark) then.now)) ∷ [] }
+        requires { steps.old ≡ reads_length search.now.name.now (source.Common mark) then.now }
         ensures { steps.new ≡ stolen_as then.now search.now.at (poll_with search.now.name.now) }
     {
         let theft = Theft {
@@ -308,12 +307,12 @@ impl Runner {
         }
         let walk = Walk::begin(&mut self.words, queues.len());
         let mut behind = None;
-        for place in 0..queues.len() {
-            let listed = &queues[walk.place(place)];
+        for nth in 0..queues.len() {
+            let listed = &queues[walk.place(nth)];
             if listed.number == self.number {
                 continue;
             }
-            let left = (queues.len() - place - 1) as u64;
+            let left = (queues.len() - nth - 1) as u64;
             let refused = self.steal_in_walk(rt, &listed.queue, left, &behind, search, steps);
             behind = Some(left);
             match (self.look_own_in_walk(rt, left, search, steps), refused) {
@@ -380,8 +379,9 @@ impl Search<'_> {
     #[inline(always)]
     fn go_to(&self, left: u64, behind: &Option<u64>, steps: &mut Steps)
         requires { steps.old ≡ walks self.now.name.now behind.now }
-        ensures { steps.new ≡ step.Steal (steal_step.Length (steal_with self.now.name.now (source.Own tt) (then.Walk left))) ∷ [] }
+        ensures { steps.new ≡ reads_length self.now.name.now (source.Own tt) (then.Walk left) }
     {
+        // The same is seen either way: contracts go by the case.
         match behind {
             None => steps.follow(Saw::Queue((), left)),
             Some(_) => steps.follow(Saw::Queue((), left)),
@@ -394,6 +394,7 @@ impl Search<'_> {
         requires { steps.old ≡ walks self.now.name.now behind.now }
         ensures { steps.new ≡ walked self.now.at self.now.name.now None }
     {
+        // The same is seen either way: contracts go by the case.
         match behind {
             None => steps.follow(Saw::Nothing),
             Some(_) => steps.follow(Saw::Nothing),
@@ -408,6 +409,7 @@ fn unlock_read(found: &Option<ExStoredRunnable>, search: &Search<'_>, steps: &mu
     ensures { steps.new ≡ searched_by_run search.now.at search.now.name.now (of_stored found.now) }
 {
     let _ = search;
+    // The same is seen either way: contracts go by the case.
     match found {
         Some(_) => steps.follow(Saw::Nothing),
         None => steps.follow(Saw::Nothing),

@@ -43,7 +43,7 @@ impl TaskName {
         }
     }
 
-    /// Of no task: no realm has the number 0.
+    /// What stands for no task: an entry without a waker, which an owned executor hasn't.
     pub fn of_none() -> TaskName {
         let identity = Identity { realm: 0, place: 0 };
         TaskName {

@@ -1,20 +1,22 @@
 //! The own queue of a run, and how a run searches.
-ghost use Rattle.std.specs.Prelude.{◌≡◌, ◌∷◌, [], true, false, None, Some, IfOk, IfErr, OnOk, length};
+ghost use Rattle.std.specs.Prelude.{◌≡◌, ◌∷◌, [], true, false, None, Some, IfOk, length};
 ghost use Rattle.std.specs.Arc.{arc_value};
 ghost use Rattle.call_steps.specs.Begins.{poll_run};
 ghost use Rattle.call_steps.specs.Stealing.{stolen_as};
+ghost use Rattle.call_steps.specs.declared.names.Section.TheVariants as section;
 ghost use Rattle.call_steps.specs.declared.names.Source.TheVariants as source;
 ghost use Rattle.call_steps.specs.declared.names.Then.TheVariants as then;
 ghost use Rattle.call_steps.specs.declared.names.TickOrRun.TheVariants as tick_or_run;
 ghost use Rattle.call_steps.specs.declared.reply.Reply.TheVariants as reply;
 ghost use Rattle.call_steps.specs.declared.step.CallStep.TheVariants as step;
+ghost use Rattle.call_steps.specs.declared.step.run.ListStep.TheVariants as list_step;
 ghost use Rattle.call_steps.specs.declared.step.tick.TickStep.TheVariants as tick_step;
 ghost use Rattle.call_steps.specs.declared.step.user.UserStep.TheVariants as user_step;
 ghost use Rattle.executor_parts.specs.declared.mark.Mark.TheVariants as mark;
 ghost use Rattle.async_executor.specs.Seeds.{seeded, words_after};
 ghost use Rattle.async_executor.specs.OwnQueues.{listed};
-ghost use Rattle.async_executor.specs.Runs.{looked_own, looked_walking, poll_with, reads_length, runs, searched_by_run};
-ghost use Rattle.async_executor.specs.Runs.{stage_by, walked, walks};
+ghost use Rattle.async_executor.specs.Runs.{looked_own, looked_walking, poll_with, reads_length, registered, runs};
+ghost use Rattle.async_executor.specs.Runs.{searched_by_run, stage_by, walked, walks};
 ghost use Rattle.async_executor.specs.Steps.{of_stored};
 ghost use Rattle.async_executor.specs.Ticks.{sleeping};
 
@@ -36,7 +38,7 @@ use concurrent_queue::ConcurrentQueue;
 use executor_parts::Mark;
 use rand_core::SeedableRng;
 use rand_xoshiro::Xoshiro256PlusPlus;
-use std::alloc::{AllocError, Global};
+use std::alloc::Global;
 use std::sync::{Arc, Wait};
 
 mod ending;
@@ -130,27 +132,48 @@ impl Runner {
         ensures refused { result ≡ false → steps.new ≡ step.End reply.NoMemory ∷ [] }
         ensures same { result ≡ false → self.new ≡ self.old }
     {
-        let _ = name;
         if self.is_listed {
             return true;
         }
         steps.follow(Saw::Nothing);
-        let inserted = match &self.room {
+        if self.register(rt, state, name, steps, unlocked) {
+            self.is_listed = true;
+            steps.follow(Saw::Nothing);
+            return true;
+        }
+        steps.follow(Saw::Nothing);
+        false
+    }
+
+    /// The own queue comes into the list, or is refused there.
+    fn register<W: Drop, R: Wait + Copy + Drop>(
+        &self,
+        rt: R,
+        state: &State<W>,
+        name: &Waker<TaskName>,
+        steps: &mut Steps,
+        unlocked: &mut Unlocked,
+    ) -> bool
+        requires { steps.old ≡ step.List (list_step.Write (section.Register (poll_with name.now))) ∷ [] }
+        ensures { steps.new ≡ registered name.now result }
+    {
+        match &self.room {
             Some(room) => {
                 let queue = share(rt, &self.own);
-                list_in(state.own_queues.write(&rt, unlocked).get(), room, queue).is_ok()
+                list_in(
+                    state.own_queues.write(&rt, unlocked).get(),
+                    room,
+                    queue,
+                    name,
+                    steps,
+                )
             }
-            None => true,
-        };
-        if inserted {
-            self.is_listed = true;
-            steps.follow(Saw::Something);
-            steps.follow(Saw::Nothing);
-        } else {
-            steps.follow(Saw::NoMemory);
-            steps.follow(Saw::Nothing);
+            // It has left the list, and isn't polled again.
+            None => {
+                steps.follow(Saw::NoMemory);
+                false
+            }
         }
-        inserted
     }
 
     /// The look at the executor's queues that is due at each 64th task: it steals from the urgent one, and then from the plain one,
@@ -416,12 +439,31 @@ fn unlock_read(found: &Option<ExStoredRunnable>, search: &Search<'_>, steps: &mu
     }
 }
 
-/// The section of the list's lock in which a run's own queue comes into it. Refused, the list is as it was.
-fn list_in<Q: Drop>(queues: &mut OwnQueues<Q>, room: &RunRoom, queue: Q) -> Result<(), AllocError>
-    ensures listed { OnOk result (queues.new.queues.items ≡ listed room.now.number queue queues.old.queues.items) }
-    ensures refused { IfErr result (λ _. queues.new.queues.items ≡ queues.old.queues.items) }
+/// The section of the list's lock in which a run's own queue comes into it. Whether memory for it was there is the answer. Refused,
+/// the list is as it was.
+fn list_in<Q: Drop>(
+    queues: &mut OwnQueues<Q>,
+    room: &RunRoom,
+    queue: Q,
+    name: &Waker<TaskName>,
+    steps: &mut Steps,
+) -> bool
+    requires { steps.old ≡ step.List (list_step.Write (section.Register (poll_with name.now))) ∷ [] }
+    ensures steps { steps.new ≡ registered name.now result }
+    ensures listed { result ≡ true → queues.new.queues.items ≡ listed room.now.number queue queues.old.queues.items }
+    ensures refused { result ≡ false → queues.new.queues.items ≡ queues.old.queues.items }
 {
-    queues.insert(room, queue)
+    let _ = name;
+    match queues.insert(room, queue) {
+        Ok(()) => {
+            steps.follow(Saw::Nothing);
+            true
+        }
+        Err(_) => {
+            steps.follow(Saw::NoMemory);
+            false
+        }
+    }
 }
 
 /// Closes a Runnable that came back from a full queue, where one did.

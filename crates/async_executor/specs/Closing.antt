@@ -11,6 +11,11 @@ use Rattle.call_steps.specs.declared.step.CallStep.{CallStep}
 use Rattle.call_steps.specs.declared.step.CallStep.TheVariants as step
 use Rattle.call_steps.specs.declared.step.table.ClosingStep.TheVariants as closing_step
 
+-- the waker of an entry that left, where it had one
+abbrev pub listed : {V : Type 0} → Option V → List V
+listed None = []
+listed (Some waker) = waker ∷ []
+
 -- a waker that came out of the table was called, and so many are left; all that this owed was paid but a Runnable, where
 -- that is due
 abbrev pub woke : Identity → Bool → ℕ → Saw Identity (Unit {0})

@@ -1,5 +1,5 @@
 //! How an executor that isn't static is made and ends, and how it becomes a static one.
-ghost use Rattle.std.specs.Prelude.{◌≡◌, ◌<◌, ◌≤◌, ◌-◌, [], ◌∷◌, ◌++◌, true, false, Some, IfOk, length, map};
+ghost use Rattle.std.specs.Prelude.{◌≡◌, ◌<◌, ◌≤◌, ◌-◌, [], ◌∷◌, ◌++◌, true, false, None, Some, IfOk, IfSome, length, map};
 ghost use Rattle.std.specs.VecDeque.{deque_capacity};
 ghost use Rattle.std.specs.Arc.{arc_value};
 ghost use Rattle.call_steps.specs.Closing.{closing, drained, leaking};
@@ -7,12 +7,13 @@ ghost use Rattle.call_steps.specs.declared.reply.Reply.TheVariants as reply;
 ghost use Rattle.call_steps.specs.declared.step.CallStep.TheVariants as step;
 ghost use Rattle.call_steps.specs.declared.step.table.ClosingStep.TheVariants as closing_step;
 ghost use Rattle.executor_parts.specs.Places.{turned, unwoken};
+ghost use Rattle.async_executor.specs.Closing.{listed};
 
 use crate::body::Body;
 use crate::due::close_and_pay;
 use crate::entry::{Executor, Unlocked};
 use crate::foreign::Foreign;
-use crate::leaving::{Leaving, see_woken};
+use crate::leaving::{Leaving, NoRoom, ToCall, see_woken};
 use crate::locks::Guarded;
 use crate::names::{ExRealm, ExWaker, TableWaker};
 use crate::sections;
@@ -232,7 +233,7 @@ where
 }
 
 /// Drops each future of a table, in the order of acceptance. Their wakers go into a list that has room for them, in the same
-/// order.
+/// order. One for which it hadn't would be called behind the drop of its future, as a part of its own.
 fn drop_futures<F, T, W, R>(
     rt: R,
     realm: &'static ExRealm<T, W, R>,
@@ -255,30 +256,27 @@ where
             return;
         };
         let left = table.len() as u64;
-        drop_next(rt, realm, future, waker, left, leaving, steps, unlocked);
+        if let Some(refused) = drop_next(future, waker, left, leaving, steps, unlocked) {
+            refused.call_apart(rt, realm, unlocked);
+        }
     }
     unreachable!()
 }
 
-/// Drops the future of the first entry, where so many entries are left, and keeps its waker. One for which there were no room
-/// would be called at once.
-fn drop_next<F, T, W, R>(
-    rt: R,
-    realm: &'static ExRealm<T, W, R>,
+/// Drops the future of the first entry, where so many entries are left, and keeps its waker, which comes last. It comes back where
+/// there is no room for it.
+fn drop_next<F: Drop>(
     future: Option<Foreign<F>>,
-    waker: TableWaker,
+    waker: Option<ToCall>,
     left: u64,
     leaving: &mut Leaving,
     steps: &mut Steps,
-    unlocked: &mut Unlocked,
-)
-where
-    F: Drop,
-    T: Drop + 'static,
-    W: Wake + Drop + 'static,
-    R: Wait + Copy + Drop + 'static,
+    unlocked: &Unlocked,
+) -> Option<NoRoom>
     requires { steps.old ≡ step.Closing closing_step.DropNext ∷ step.End reply.Done ∷ [] }
-    ensures { steps.new ≡ closing left (length leaving.new.wakers.items) ++ step.End reply.Done ∷ [] }
+    ensures steps { steps.new ≡ closing left (length leaving.new.wakers.items) ++ step.End reply.Done ∷ [] }
+    ensures kept { result ≡ None → leaving.new.wakers.items ≡ leaving.old.wakers.items ++ listed waker }
+    ensures back { IfSome result (λ back. (waker ≡ Some back.waker) × (leaving.new.wakers.items ≡ leaving.old.wakers.items)) }
 {
     let (name, refused) = leaving.keep(waker);
     steps.follow(Saw::Drops(name, left, leaving.len() as u64));
@@ -286,7 +284,5 @@ where
         future.let_go(unlocked);
     }
     steps.follow(Saw::Nothing);
-    if let Some(waker) = refused {
-        waker.call_apart(rt, realm, unlocked);
-    }
+    refused
 }

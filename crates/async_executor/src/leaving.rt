@@ -1,7 +1,7 @@
 //! The wakers that an executor's drop, or its leak, takes out of its table.
 ghost use Rattle.std.specs.Prelude.{◌≡◌, ◌+◌, [], ◌∷◌, ◌++◌, false, drop as list_drop, length, slice_get};
-ghost use Rattle.std.specs.Prelude.{IfErr, IfSome, None, OnOk, OnSome};
-ghost use Rattle.async_executor.specs.Closing.{woke};
+ghost use Rattle.std.specs.Prelude.{IfErr, IfSome, None, OnOk, OnSome, Some};
+ghost use Rattle.async_executor.specs.Closing.{listed, woke};
 ghost use Rattle.call_steps.specs.Closing.{closing, leaking};
 ghost use Rattle.call_steps.specs.Fitting.{Fits};
 ghost use Rattle.call_steps.specs.Todo.{following, top};
@@ -29,6 +29,12 @@ pub struct ToCall {
     waker: Returning<StoredWaker>,
 }
 
+/// A waker that a list had no room for, nor memory for more. It has no drop: it is called at once.
+#[must_use]
+pub struct NoRoom {
+    waker: ToCall,
+}
+
 impl Model for ToCall {
     ghost use Rattle.async_task.specs.Handles.{Resting};
 
@@ -42,6 +48,23 @@ impl ToCall {
         ensures { result ≡ waker }
     {
         ToCall { waker }
+    }
+
+    /// What came out of an entry.
+    pub fn of_entry(waker: TableWaker) -> Option<ToCall>
+        ensures { result ≡ waker }
+    {
+        match waker {
+            Some(waker) => Some(ToCall::of(waker)),
+            None => None,
+        }
+    }
+
+    /// Whose it is.
+    fn name(&self) -> TaskName
+        ensures { result ≡ self.now.identity }
+    {
+        TaskName::of_waker(&self.waker)
     }
 
     /// Calls it. Its task is queued then, or was before: where it is to be queued, it is the answer.
@@ -65,23 +88,6 @@ impl ToCall {
         }
     }
 
-    /// Calls it, with all that this leads to, as a part of its own.
-    pub fn call_apart<T, W, R>(
-        self,
-        rt: R,
-        realm: &'static ExRealm<T, W, R>,
-        unlocked: &mut Unlocked,
-    )
-    where
-        T: Drop + 'static,
-        W: Wake + Drop + 'static,
-        R: Wait + Copy + Drop + 'static,
-    {
-        let ToCall { waker } = self;
-        let due = waker.wake(rt, realm);
-        pay(rt, due, unlocked);
-    }
-
     /// A leak calls it, with all that this leads to, and so many are left.
     pub fn call_in_leak<T, W, R>(
         self,
@@ -98,7 +104,7 @@ impl ToCall {
         requires { steps.old ≡ step.Closing closing_step.LeakNext ∷ step.End reply.Done ∷ [] }
         ensures { steps.new ≡ leaking left ++ step.End reply.Done ∷ [] }
     {
-        let name = TaskName::of_waker(&self.waker);
+        let name = self.name();
         match self.call(rt, realm, unlocked) {
             Some(handed) => {
                 see_woken(name, true, left, steps);
@@ -124,7 +130,7 @@ impl ToCall {
         requires { steps.old ≡ step.Closing closing_step.WakeNext ∷ step.End reply.Done ∷ [] }
         ensures { steps.new ≡ closing 0 left ++ step.End reply.Done ∷ [] }
     {
-        let name = TaskName::of_waker(&self.waker);
+        let name = self.name();
         match self.call(rt, realm, unlocked) {
             Some(handed) => {
                 see_woken(name, true, left, steps);
@@ -132,6 +138,26 @@ impl ToCall {
             }
             None => see_woken(name, false, left, steps),
         }
+    }
+}
+
+impl NoRoom {
+    /// Calls it, with all that this leads to, as a part of its own.
+    pub fn call_apart<T, W, R>(
+        self,
+        rt: R,
+        realm: &'static ExRealm<T, W, R>,
+        unlocked: &mut Unlocked,
+    )
+    where
+        T: Drop + 'static,
+        W: Wake + Drop + 'static,
+        R: Wait + Copy + Drop + 'static,
+    {
+        let NoRoom { waker } = self;
+        let ToCall { waker } = waker;
+        let due = waker.wake(rt, realm);
+        pay(rt, due, unlocked);
     }
 }
 
@@ -157,10 +183,14 @@ impl Leaving {
 
     /// The waker of an entry comes last, where it has one. It comes back where there is no room, and no memory for more. Whose task
     /// the entry is of is the first answer, as far as it has a waker.
-    pub fn keep(&mut self, waker: TableWaker) -> (TaskName, Option<ToCall>) {
+    pub fn keep(&mut self, waker: Option<ToCall>) -> (TaskName, Option<NoRoom>)
+        ensures name { IfSome waker (λ kept. result.0 ≡ kept.identity) }
+        ensures kept { result.1 ≡ None → self.new.wakers.items ≡ self.old.wakers.items ++ listed waker }
+        ensures back { IfSome result.1 (λ back. (waker ≡ Some back.waker) × (self.new.wakers.items ≡ self.old.wakers.items)) }
+    {
         match waker {
             Some(waker) => {
-                let name = TaskName::of_waker(&waker);
+                let name = waker.name();
                 match self.push(waker) {
                     Ok(()) => (name, None),
                     Err(refused) => (name, Some(refused)),
@@ -171,13 +201,16 @@ impl Leaving {
     }
 
     /// One more, which comes last. It comes back where there is no room, and no memory for more.
-    fn push(&mut self, waker: Returning<StoredWaker>) -> Result<(), ToCall>
+    fn push(&mut self, waker: ToCall) -> Result<(), NoRoom>
         ensures last { OnOk result (self.new.wakers.items ≡ self.old.wakers.items ++ waker ∷ []) }
-        ensures back { IfErr result (λ back. (back ≡ waker) × (self.new.wakers.items ≡ self.old.wakers.items)) }
+        ensures back { IfErr result (λ back. (back.waker ≡ waker) × (self.new.wakers.items ≡ self.old.wakers.items)) }
     {
+        let ToCall { waker } = waker;
         match self.wakers.push_back(waker) {
             Ok(()) => Ok(()),
-            Err(refused) => Err(ToCall::of(refused.value)),
+            Err(refused) => Err(NoRoom {
+                waker: ToCall::of(refused.value),
+            }),
         }
     }
 

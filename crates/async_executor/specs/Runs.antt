@@ -4,10 +4,8 @@ use Rattle.async_task.specs.declared.cell.Identity.{Identity}
 use Rattle.async_task.specs.declared.poll.Poll.{Poll}
 use Rattle.async_task.specs.declared.poll.Poll.TheVariants.{Ready, Pending}
 use Rattle.executor_parts.specs.declared.mark.Mark.{Mark}
-use Rattle.executor_parts.specs.Marks.{other}
 use Rattle.call_steps.specs.Sleeping.{counted_by, found_by_run, run_by}
 use Rattle.call_steps.specs.Stealing.{walk_ends}
-use Rattle.call_steps.specs.declared.names.Look.TheVariants.{Second}
 use Rattle.call_steps.specs.declared.names.RunPoll.{RunPoll}
 use Rattle.call_steps.specs.declared.names.Section.TheVariants as section
 use Rattle.call_steps.specs.declared.names.Source.{Source}
@@ -27,7 +25,6 @@ use Rattle.call_steps.specs.declared.step.CallStep.TheVariants as step
 use Rattle.call_steps.specs.declared.step.run.ListStep.TheVariants as list_step
 use Rattle.call_steps.specs.declared.step.run.RunStep.TheVariants as run_step
 use Rattle.call_steps.specs.declared.step.run.StealStep.TheVariants as steal_step
-use Rattle.call_steps.specs.declared.step.table.QueueStep.TheVariants as queue_step
 use Rattle.call_steps.specs.declared.step.tick.SleeperStep.TheVariants as sleeper_step
 use Rattle.call_steps.specs.declared.step.tick.TickStep.TheVariants as tick_step
 use Rattle.call_steps.specs.declared.step.user.UserStep.TheVariants as user_step
@@ -85,15 +82,7 @@ looked_own at w (Some f) = found_by_run at (poll_with w) f
 abbrev pub found_common : Waker Identity → Mark → Identity → Todo
 found_common w mark f = reads_length w (Common mark) (Found f)
 
--- once it looked into the first of these queues, which is that of this mark
-abbrev pub looked_first : Mark → Waker Identity → Option Identity → Todo
-looked_first mark w None = step.Run (run_step.SearchCommon (poll_with w) (Second (other mark))) ∷ []
-looked_first mark w (Some f) = found_common w mark f
-
-abbrev pub looked_second : Mark → Waker Identity → Option Identity → Todo
-looked_second mark w None = step.List (list_step.LockRead (poll_with w)) ∷ []
-looked_second mark w (Some f) = found_common w mark f
-
+-- once it looked into both
 abbrev pub looked_common : Waker Identity → Option FromQueues → Todo
 looked_common w None = step.List (list_step.LockRead (poll_with w)) ∷ []
 looked_common w (Some both) = found_common w both.mark both.runnable.identity
@@ -146,8 +135,3 @@ ran false w = step.Tick (tick_step.Search (sleeping (Run tt) w)) ∷ []
 -- what is left once it has left the list, and its own queue was emptied
 abbrev pub leaves_with : Reply → Todo
 leaves_with reply = step.Tick (tick_step.Leave (Run tt)) ∷ step.End reply ∷ []
-
--- what is left once the Runnable of this future was taken from its own queue, or none was there
-abbrev pub rescheduled : Reply → Option Identity → Todo
-rescheduled reply None = leaves_with reply
-rescheduled reply (Some f) = step.Queue (queue_step.Append f) ∷ step.Run (run_step.Reschedule tt reply) ∷ []

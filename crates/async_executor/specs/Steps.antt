@@ -5,9 +5,6 @@ use Rattle.async_task.specs.Awaiters.{identity_of}
 use Rattle.async_task.specs.Handles.{Handle}
 use Rattle.async_task.specs.declared.cell.Identity.{Identity}
 use Rattle.async_task.specs.declared.waker.Awaiter.{Awaiter}
-use Rattle.executor_parts.specs.declared.mark.Mark.{Mark}
-use Rattle.executor_parts.specs.Marks.{other}
-use Rattle.call_steps.specs.declared.names.Look.TheVariants.{Second}
 use Rattle.call_steps.specs.declared.names.Sleeping.{Sleeping}
 use Rattle.call_steps.specs.declared.names.TickOrRun.{TickOrRun}
 use Rattle.call_steps.specs.declared.names.TickOrRun.TheVariants as tick_or_run
@@ -19,7 +16,6 @@ use Rattle.call_steps.specs.declared.saw.Saw.{Saw}
 use Rattle.call_steps.specs.declared.saw.Saw.TheVariants as saw
 use Rattle.call_steps.specs.declared.step.CallStep.{CallStep}
 use Rattle.call_steps.specs.declared.step.CallStep.TheVariants as step
-use Rattle.call_steps.specs.declared.step.table.QueueStep.TheVariants as queue_step
 use Rattle.call_steps.specs.declared.step.tick.SleeperStep.TheVariants as sleeper_step
 use Rattle.async_executor.specs.declared.due.Handed.{Handed}
 use Rattle.async_executor.specs.declared.errors.SpawnError.{SpawnError}
@@ -69,10 +65,10 @@ abbrev pub tried : Option Identity → List (CallStep Identity (Unit {0}))
 tried None = step.End reply.No ∷ []
 tried (Some f) = step.Sleeper sleeper_step.ExchangeFlag ∷ step.Move move.TakeUp f ∷ step.End reply.Yes ∷ []
 
--- the same after its first look, at the queue of this mark
-abbrev pub tried_first : Mark → Option Identity → List (CallStep Identity (Unit {0}))
-tried_first mark None = step.Queue (queue_step.Take (Second (other mark))) ∷ []
-tried_first mark (Some f) = tried (Some f)
+-- a queue's first Runnable is of this future, or it has none
+abbrev pub took : Option Identity → Saw Identity (Unit {0})
+took None = saw.Nothing
+took (Some f) = saw.Found f
 
 -- what a spawn sees in the table
 abbrev pub accepted_as : {F H : Type 0} → Result (Marked × H) (SpawnError F) → Saw Identity (Unit {0})

@@ -1,5 +1,8 @@
 //! How a try, a search and a drop look into queues.
-ghost use Rattle.std.specs.Prelude.{◌≡◌, ◌∷◌, [], ◌++◌};
+ghost use Rattle.std.specs.Prelude.{◌≡◌, ◌∷◌, []};
+ghost use Rattle.async_task.specs.declared.cell.Identity.{Identity};
+ghost use Rattle.call_steps.specs.Fitting.{Fits};
+ghost use Rattle.call_steps.specs.Todo.{following, top};
 ghost use Rattle.call_steps.specs.declared.names.Look.TheVariants as look;
 ghost use Rattle.call_steps.specs.declared.step.CallStep.TheVariants as step;
 ghost use Rattle.call_steps.specs.declared.saw.Saw.TheVariants as saw;
@@ -7,11 +10,10 @@ ghost use Rattle.call_steps.specs.declared.reply.Reply.TheVariants as reply;
 ghost use Rattle.call_steps.specs.declared.step.table.ClosingStep.TheVariants as closing_step;
 ghost use Rattle.call_steps.specs.declared.step.table.QueueStep.TheVariants as queue_step;
 ghost use Rattle.call_steps.specs.declared.step.tick.TickStep.TheVariants as tick_step;
-ghost use Rattle.async_executor.specs.Runs.{looked_common, looked_first, looked_second, poll_with};
+ghost use Rattle.async_executor.specs.Runs.{looked_common, poll_with};
 ghost use Rattle.call_steps.specs.declared.names.TickOrRun.TheVariants as tick_or_run;
 ghost use Rattle.call_steps.specs.declared.step.run.RunStep.TheVariants as run_step;
-ghost use Rattle.async_executor.specs.Closing.{drains};
-ghost use Rattle.async_executor.specs.Steps.{of_stored, tried, tried_first};
+ghost use Rattle.async_executor.specs.Steps.{of_stored, took, tried};
 ghost use Rattle.async_executor.specs.Ticks.{searched, searched_first, sleeping};
 
 use crate::names::ExStoredRunnable;
@@ -42,22 +44,13 @@ impl<W: Drop> State<W> {
     #[inline(always)]
     fn take_first<R: Wait>(&self, mark: Mark, rt: &R, steps: &mut Steps) -> Option<ExStoredRunnable>
         requires { steps.old ≡ step.Queue (queue_step.Take (look.First mark)) ∷ [] }
-        ensures { steps.new ≡ tried_first mark (of_stored result) }
+        ensures { steps.new ≡ following (took (of_stored result)) steps.old }
     {
         if self.queues.of(mark).is_empty(rt) {
             steps.follow(Saw::Nothing);
             return None;
         }
-        match pop(self.queues.of(mark), rt) {
-            Some(runnable) => {
-                steps.follow(Saw::Found(TaskName::of_runnable(&runnable)));
-                Some(runnable)
-            }
-            None => {
-                steps.follow(Saw::Nothing);
-                None
-            }
-        }
+        take_next(self.queues.of(mark), rt, steps)
     }
 
     /// The second one.
@@ -91,18 +84,9 @@ impl<W: Drop> State<W> {
         steps: &mut Steps,
     ) -> Option<ExStoredRunnable>
         requires { steps.old ≡ step.Closing (closing_step.Drain mark) ∷ step.End reply.Done ∷ [] }
-        ensures { steps.new ≡ drains mark (of_stored result) ++ step.End reply.Done ∷ [] }
+        ensures { steps.new ≡ following (took (of_stored result)) steps.old }
     {
-        match pop(self.queues.of(mark), rt) {
-            Some(runnable) => {
-                steps.follow(Saw::Found(TaskName::of_runnable(&runnable)));
-                Some(runnable)
-            }
-            None => {
-                steps.follow(Saw::Nothing);
-                None
-            }
-        }
+        take_next(self.queues.of(mark), rt, steps)
     }
 
     /// A run's look at the executor's queues, in a poll with a waker of this name: takes a turn, and then the first Runnable of the
@@ -142,23 +126,14 @@ impl<W: Drop> State<W> {
         steps: &mut Steps,
     ) -> Option<ExStoredRunnable>
         requires { steps.old ≡ step.Run (run_step.SearchCommon (poll_with name.now) (look.First mark)) ∷ [] }
-        ensures { steps.new ≡ looked_first mark name.now (of_stored result) }
+        ensures { steps.new ≡ following (took (of_stored result)) steps.old }
     {
         let _ = name;
         if self.queues.of(mark).is_empty(rt) {
             steps.follow(Saw::Nothing);
             return None;
         }
-        match pop(self.queues.of(mark), rt) {
-            Some(runnable) => {
-                steps.follow(Saw::Found(TaskName::of_runnable(&runnable)));
-                Some(runnable)
-            }
-            None => {
-                steps.follow(Saw::Nothing);
-                None
-            }
-        }
+        take_next(self.queues.of(mark), rt, steps)
     }
 
     /// The second one.
@@ -171,19 +146,10 @@ impl<W: Drop> State<W> {
         steps: &mut Steps,
     ) -> Option<ExStoredRunnable>
         requires { steps.old ≡ step.Run (run_step.SearchCommon (poll_with name.now) (look.Second mark)) ∷ [] }
-        ensures { steps.new ≡ looked_second mark name.now (of_stored result) }
+        ensures { steps.new ≡ following (took (of_stored result)) steps.old }
     {
         let _ = name;
-        match pop(self.queues.of(mark), rt) {
-            Some(runnable) => {
-                steps.follow(Saw::Found(TaskName::of_runnable(&runnable)));
-                Some(runnable)
-            }
-            None => {
-                steps.follow(Saw::Nothing);
-                None
-            }
-        }
+        take_next(self.queues.of(mark), rt, steps)
     }
 
     /// A search of a tick that sleeps or not, and was polled with a waker of this name: takes a turn, and then the first Runnable
@@ -275,6 +241,25 @@ fn found_by_tick(runnable: &ExStoredRunnable, sleeps: bool) -> Saw<TaskName, ()>
         taken: 0,
     };
     Saw::FoundBy(TaskName::of_runnable(runnable), at)
+}
+
+/// Takes the first Runnable of a queue, where there is one, as the call has to do next.
+#[inline(always)]
+pub fn take_next<R: Wait>(queue: &Queue, rt: &R, steps: &mut Steps) -> Option<ExStoredRunnable>
+    requires found { (f : Identity) → Fits (top steps.old) (saw.Found f) }
+    requires nothing { Fits (top steps.old) saw.Nothing }
+    ensures { steps.new ≡ following (took (of_stored result)) steps.old }
+{
+    match pop(queue, rt) {
+        Some(runnable) => {
+            steps.follow(Saw::Found(TaskName::of_runnable(&runnable)));
+            Some(runnable)
+        }
+        None => {
+            steps.follow(Saw::Nothing);
+            None
+        }
+    }
 }
 
 /// Takes the first Runnable of a queue, where there is one.

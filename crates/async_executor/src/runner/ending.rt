@@ -1,21 +1,21 @@
 //! How the own queue of a run goes, with what is left in it, as its call has to do next.
 ghost use Rattle.std.specs.Prelude.{◌≡◌, ◌∷◌, [], true, false, None, IsTrue};
 ghost use Rattle.call_steps.specs.Begins.{drop_run};
+ghost use Rattle.call_steps.specs.Todo.{following};
 ghost use Rattle.call_steps.specs.declared.names.Section.TheVariants as section;
 ghost use Rattle.call_steps.specs.declared.reply.Reply.TheVariants as reply;
 ghost use Rattle.call_steps.specs.declared.step.CallStep.TheVariants as step;
 ghost use Rattle.call_steps.specs.declared.step.run.ListStep.TheVariants as list_step;
 ghost use Rattle.call_steps.specs.declared.step.run.RunStep.TheVariants as run_step;
-ghost use Rattle.async_executor.specs.Runs.{has_ended, leaves_with, rescheduled, stage_by};
-ghost use Rattle.async_executor.specs.Steps.{of_stored};
+ghost use Rattle.async_executor.specs.Runs.{has_ended, leaves_with, stage_by};
+ghost use Rattle.async_executor.specs.Steps.{of_stored, took};
 
 use super::Runner;
 use crate::entry::Unlocked;
-use crate::looking::pop;
+use crate::looking::take_next;
 use crate::names::{ExRealm, ExStoredRunnable};
 use crate::state::State;
 use crate::steps::Steps;
-use crate::task_name::TaskName;
 use async_task::Wake;
 use call_steps::{Reply, Saw, Stage};
 use std::mem;
@@ -151,21 +151,15 @@ impl Runner {
         steps: &mut Steps,
     ) -> Option<ExStoredRunnable>
         requires { steps.old ≡ step.Run (run_step.Reschedule tt reply) ∷ [] }
-        ensures steps { steps.new ≡ rescheduled reply (of_stored result) }
+        ensures steps { steps.new ≡ following (took (of_stored result)) steps.old }
         ensures drained { result ≡ None → self.new.is_drained ≡ true }
         ensures room { self.new.room ≡ self.old.room }
     {
         let _ = reply;
-        match pop(&self.own, rt) {
-            Some(runnable) => {
-                steps.follow(Saw::Found(TaskName::of_runnable(&runnable)));
-                Some(runnable)
-            }
-            None => {
-                self.is_drained = true;
-                steps.follow(Saw::Nothing);
-                None
-            }
-        }
+        let Some(runnable) = take_next(&self.own, rt, steps) else {
+            self.is_drained = true;
+            return None;
+        };
+        Some(runnable)
     }
 }

@@ -174,9 +174,9 @@ where
     ensures rest { table.new ≡ record table.old { entries = table.new.entries } }
     ensures steps { steps.new ≡ step.End reply.Done ∷ [] }
 {
-    let wakers = table.len();
-    for place in 0..wakers {
-        call_next(rt, realm, table, wakers - place, steps, unlocked);
+    let entries = table.len();
+    for nth in 0..entries {
+        call_next(rt, realm, table, entries - nth, steps, unlocked);
     }
 }
 

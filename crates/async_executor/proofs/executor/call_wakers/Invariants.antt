@@ -6,7 +6,7 @@ use Rattle.async_executor.proofs.Turning.{Turned}
 use Rattle.async_executor.proofs.executor.call_wakers.Given as goal
 
 -- so many wakers were taken out and called, and nothing else
-abbrev pub invariant-loop-place : goal.invariant-loop-place
-invariant-loop-place g l =
-    Turned l.fn.table.entries l.table.entries l.place × (l.table ≡ record l.fn.table { entries = l.table.entries })
-    × (l.steps ≡ leaking (length l.fn.table.entries - l.place) ++ step.End reply.Done ∷ [])
+abbrev pub invariant-loop-nth : goal.invariant-loop-nth
+invariant-loop-nth g l =
+    Turned l.fn.table.entries l.table.entries l.nth × (l.table ≡ record l.fn.table { entries = l.table.entries })
+    × (l.steps ≡ leaking (length l.fn.table.entries - l.nth) ++ step.End reply.Done ∷ [])

@@ -1,5 +1,5 @@
 -- Lone calls of the machine, one after the other, are calls of the plain scheduler.
-use Rattle.std.proofs.Common.{◌≡◌, ℕ, suc, ◌<◌, ◌≤◌, ◌&&◌, not, Bool, true, false, List, [], ◌∷◌, length, Option, Some, None}
+use Rattle.std.proofs.Common.{◌≡◌, ℕ, suc, ◌<◌, ◌≤◌, ◌&&◌, ◌||◌, not, Bool, true, false, List, [], ◌∷◌, length, Option, Some, None}
 use Rattle.std.proofs.Common.{is_some as is_there, refl, sym, ap, ◌∙◌, arith}
 use Rattle.executor_parts.specs.Marks.{first_of}
 use Rattle.executor_model.specs.declared.call.Call.{Call}
@@ -10,7 +10,7 @@ use Rattle.executor_model.specs.declared.step.Step.{Step}
 use Rattle.executor_model.specs.declared.step.Step.TheVariants.{Begin}
 use Rattle.executor_model.specs.Quiet.{IsQuiet}
 use Rattle.executor_model.specs.Rows.{lending_of}
-use Rattle.executor_model.specs.Steps.{Machine, future_of, has_all, is_some, is_static_kind, is_unused, kept, mine, stack, start, top}
+use Rattle.executor_model.specs.Steps.{Machine, future_of, has_all, is_drop, is_some, is_static_kind, is_unused, kept, mine, stack, start, top}
 use Rattle.executor_model.specs.Steps.{waker_of}
 use Rattle.executor_model.specs.World.{done, task}
 use Rattle.executor_model.proofs.Quiet.Resting.{rests}
@@ -26,7 +26,7 @@ use Rattle.machine_roads.specs.Road.{Follows}
 use Rattle.machine_roads.specs.Alike.{begins, refused_first, refuses_first, refuses_second, upon}
 use Rattle.machine_roads.specs.Lone.{ends as ends_with, over}
 use Rattle.machine_roads.specs.Course.{AreLone, GoAlike, GoesBy, IsCall, IsChosen, ListsGoAlike, Lone, are_on_road, is_on_road}
-use Rattle.machine_roads.specs.Course.{cancel, copy, detach, drop_handle, drop_tick, is_empty, leak, new_run, new_tick, poll_handle}
+use Rattle.machine_roads.specs.Course.{cancel, copy, detach, drop_executor, drop_handle, drop_tick, is_empty, leak, new_run, new_tick, poll_handle}
 use Rattle.machine_roads.specs.Course.{poll_tick, release, spawn, try_tick, use_waker, wake}
 use Rattle.machine_roads.proofs.Calling.{begin_alike, cancels, copies_kept, detaches, empty_alike, handle_goes, spawns, uses_alike}
 use Rattle.machine_roads.proofs.Calling.{waker_goes, wakes_kept}
@@ -36,6 +36,7 @@ use Rattle.machine_roads.proofs.Inside.{cancel_inside, copy_inside, detach_insid
 use Rattle.machine_roads.proofs.Inside.{release_inside, run_inside, spawn_inside, tick_inside, use_inside, wake_inside}
 use Rattle.machine_roads.proofs.Leaking.{leak_inside}
 use Rattle.machine_roads.proofs.Lists.{clash}
+use Rattle.machine_roads.proofs.LoneCloses.{drop_ends_so}
 use Rattle.machine_roads.proofs.LoneLosing.{detach_loses_so, goes_with_output_so}
 use Rattle.machine_roads.proofs.LoneRuns.{both_true, lone_calls_so, tells}
 use Rattle.machine_roads.proofs.LoneTakes.{leaks_so, run_made_so}
@@ -58,21 +59,28 @@ granted_as : (b : Bool) → is_granted (refused_as b) ≡ not b
 granted_as true = refl
 granted_as false = refl
 
+-- what is chosen in a call of this machine, as memory is refused
+abbrev choice_in : Machine → Plain Output Waker → Refusal → Choice
+choice_in s q r =
+    record {
+      first = first_of s.world.urgent_turns;
+      keeps = [];
+      robs = 0;
+      moves = 0;
+      tells = suc (length q.lying);
+      refusal = r;
+    }
+
+more_by_one : (n : ℕ) → n < suc n
+more_by_one n = omega arith
+
 module _ (s : Machine) (reached : Reached s) (q : Plain Output Waker) (quiet : IsQuiet s.world.trace) (follows : Follows s.world q)
     (nowhere : q.inside ≡ []) (p : ℕ) (steps : List Step) (new : Machine) (later : new.world.gone ≡ false) where
   abbrev choice : Refusal → Choice
-  choice r =
-      record {
-        first = first_of s.world.urgent_turns;
-        keeps = [];
-        robs = 0;
-        moves = 0;
-        tells = suc (length q.lying);
-        refusal = r;
-      }
+  choice r = choice_in s q r
 
   below : length q.lying < suc (length q.lying)
-  below = omega arith
+  below = more_by_one (length q.lying)
 
   many : length q.lying ≤ suc (length q.lying)
   many = omega arith
@@ -269,16 +277,44 @@ module _ (s : Machine) (reached : Reached s) (q : Plain Output Waker) (quiet : I
       (leaks_so s reached q quiet follows p (choice Granted) steps nowhere many new later lone)
   one_call call.DropExecutor on_road lone = absurd cc
 
+-- the executor's drop
+one_drop : (s : Machine) → Reached s → (q : Plain Output Waker) → IsQuiet s.world.trace → Follows s.world q → q.inside ≡ [] → (p : ℕ)
+    (steps : List Step) (new : Machine) (c : Call) → is_drop c ≡ true → IsLoneCall p c steps s new
+    → (z : Plain Output Waker) × GoesBy s.world c q z × Follows new.world z
+one_drop s reached q quiet follows nowhere p steps new call.DropExecutor is lone =
+    let c : Choice = choice_in s q Granted in
+    let e = drop_ends_so s reached q quiet follows p c steps nowhere new lone in (
+      e.0,
+      record {
+        choice = c;
+        made = plain_calls.DropExecutor;
+        chosen = record { first = refl; tells = more_by_one (length q.lying) };
+        is = drop_executor;
+        ended = e.1;
+        inside = e.2;
+      },
+      e.3,
+    )
+one_drop s reached q quiet follows nowhere p steps new c is lone = absurd cc
+
 lists_go : (s : Machine) → Reached s → (q : Plain Output Waker) → IsQuiet s.world.trace → Follows s.world q → q.inside ≡ []
     → IsOpen s.world → (ls : List Lone) → AreLone s ls → are_on_road ls ≡ true → GoAlike s q ls
 lists_go s reached q quiet follows nowhere open_now [] lone on_road = follows
-lists_go s reached q quiet follows nowhere open_now (l ∷ ls) lone on_road =
-    let both = both_true (is_on_road l.call) (are_on_road ls) on_road in
+lists_go s reached q quiet follows nowhere open_now (l ∷ []) lone on_road = by (is_on_road l.call) refl on_road
+  where
+    by : (b : Bool) → is_on_road l.call ≡ b → (b || is_drop l.call) ≡ true → GoAlike s q (l ∷ [])
+    by false off drops = (follows, one_drop s reached q quiet follows nowhere l.party l.steps l.left l.call drops lone.0)
+    by true on drops =
+        let later = stays_open s l.left l.party l.call l.steps on lone.0 open_now in
+        let next = reached-more (Begin l.party l.call ∷ l.steps) s l.left reached lone.0.made in
+        (follows, one_call s reached q quiet follows nowhere l.party l.steps l.left (sym (tells l.left next) ∙ later) l.call on lone.0)
+lists_go s reached q quiet follows nowhere open_now (l ∷ m ∷ ls) lone on_road =
+    let both = both_true (is_on_road l.call) (are_on_road (m ∷ ls)) on_road in
     let next = reached-more (Begin l.party l.call ∷ l.steps) s l.left reached lone.0.made in
     let later = stays_open s l.left l.party l.call l.steps both.0 lone.0 open_now in
     let one =
     one_call s reached q quiet follows nowhere l.party l.steps l.left (sym (tells l.left next) ∙ later) l.call both.0 lone.0 in
-    (follows, (one.0, one.1, lists_go l.left next one.0 lone.0.ended one.2 (one.1.inside ∙ nowhere) later ls lone.1 both.1))
+    (follows, (one.0, one.1, lists_go l.left next one.0 lone.0.ended one.2 (one.1.inside ∙ nowhere) later (m ∷ ls) lone.1 both.1))
 
 pub lists : ListsGoAlike
 lists limit kind parties ls lone on_road =

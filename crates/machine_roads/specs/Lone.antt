@@ -1,5 +1,5 @@
 -- When a lone call of a machine at rest leaves it where the plain scheduler's call leaves that, as long as the executor's drop
--- hasn't begun.
+-- hasn't begun; and so does that drop.
 use Rattle.std.specs.Prelude.{◌≡◌, ℕ, ◌≤◌, ◌<◌, Bool, true, false, not, List, [], ◌∷◌, length, reverse, Some, None, Ok, is_some}
 use Rattle.executor_parts.specs.declared.mark.Mark.{Mark}
 use Rattle.executor_parts.specs.Marks.{first_of}
@@ -26,7 +26,7 @@ use Rattle.plain_scheduler.specs.Lists.{any}
 use Rattle.plain_scheduler.specs.Moves.{is_common}
 use Rattle.plain_scheduler.specs.Moves as plain
 use Rattle.plain_scheduler.specs.Calls.{does, is_granted, Spawn, Wake, Use, Copy, Release, Cancel, Detach, DropHandle, PollHandle}
-use Rattle.plain_scheduler.specs.Calls.{DropTick, Ends, EndsWith, IsEmpty, Leak, NewRun, NewTick, Pends, PollTick, TryTick}
+use Rattle.plain_scheduler.specs.Calls.{DropExecutor, DropTick, Ends, EndsWith, IsEmpty, Leak, NewRun, NewTick, Pends, PollTick, TryTick}
 use Rattle.plain_scheduler.specs.Calls as plain_calls
 use Rattle.machine_roads.specs.View.{Output, wakes}
 use Rattle.machine_roads.specs.Alike.{begins, LeavesAlike}
@@ -198,6 +198,12 @@ module _ (s : Machine) (q : Plain Output Waker) where
   LoneLeaks =
       (p : ℕ) (c : Choice) (steps : List Step) → q.inside ≡ [] → length q.lying ≤ c.tells
       → LeadsTo s p call.Leak steps (does wakes c Leak q)
+
+  -- the executor's drop, where no code is left in which a call stands: with the ends of all drops of futures
+  abbrev pub LoneDropEnds : Type 0
+  LoneDropEnds =
+      (p : ℕ) (c : Choice) (steps : List Step) → q.inside ≡ [] → (new : Machine) → IsLoneCall p call.DropExecutor steps s new
+      → (r : Plain Output Waker) × Ended (does wakes c DropExecutor q) r × (r.inside ≡ q.inside) × Follows new.world r
 
   abbrev pub LoneEmpty : Type 0
   LoneEmpty = (p : ℕ) (c : Choice) (steps : List Step) → LeadsTo s p call.IsEmpty steps (does wakes c IsEmpty q)

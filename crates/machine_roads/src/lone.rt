@@ -3,7 +3,7 @@ ghost use Rattle.executor_model.specs.Executions.{EveryMachine};
 ghost use Rattle.machine_roads.specs.Course.{ListsGoAlike};
 ghost use Rattle.machine_roads.specs.Lone.{EachLoneAlike, LoneCallIsAlone, LoneCancels, LoneCopies};
 ghost use Rattle.machine_roads.specs.Lone.{LoneEmpty, LoneLeaks, LoneRunIsMade, LoneSpawns, LoneUses, LoneWakerGoes};
-ghost use Rattle.machine_roads.specs.Lone.{LoneDetachLoses, LoneGoesWithOutput};
+ghost use Rattle.machine_roads.specs.Lone.{LoneDetachLoses, LoneDropEnds, LoneGoesWithOutput};
 ghost use Rattle.machine_roads.specs.Lone.{LoneDetaches, LoneHandleGoes, LoneHandlePolls};
 ghost use Rattle.machine_roads.specs.Lone.{LoneHandleWaits, LoneTickGoes, LoneTickIsMade};
 ghost use Rattle.machine_roads.specs.Lone.{LoneTickIsPolled, LoneTickLies, LoneTicksEnd, LoneTries};
@@ -98,6 +98,13 @@ pub fn lone_runs_are_made()
 /// So does a lone leak, where the plain scheduler stands in no code.
 pub fn lone_leaks_are_leaks()
     ensures { EachLoneAlike LoneLeaks }
+{}
+
+/// With the ends of all drops of futures that it comes to, a lone drop of the executor is that of the
+/// plain scheduler, where that stands in no code: from there on its queues are closed, and both stand
+/// alike.
+pub fn lone_drops_are_drops()
+    ensures { EachLoneAlike LoneDropEnds }
 {}
 
 /// And so it is asked alone whether the executor is empty.

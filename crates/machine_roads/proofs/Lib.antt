@@ -51,6 +51,7 @@ pub mod Rousing
 pub mod Sweeping
 pub mod Unborrowed
 pub mod LoneCloses
+pub mod LoneBehind
 pub mod RunsMade
 pub mod Inside
 pub mod Open

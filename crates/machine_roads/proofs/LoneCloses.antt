@@ -26,7 +26,7 @@ use Rattle.machine_roads.specs.View.{Output, wakes}
 use Rattle.machine_roads.specs.Road.{Follows, waking_in}
 use Rattle.machine_roads.specs.Alone.{alone, is_resting}
 use Rattle.machine_roads.specs.Alike.{begins, upon}
-use Rattle.machine_roads.specs.Lone.{EachLoneAlike, Ended, LoneDropEnds, ends as ends_with, over}
+use Rattle.machine_roads.specs.Lone.{EachLoneAlike, Ended, LoneDropEnds, NoneWaits, ends as ends_with, over, waits_for}
 use Rattle.machine_roads.proofs.Aside.{called_inside}
 use Rattle.machine_roads.proofs.Calling.{idles}
 use Rattle.machine_roads.proofs.Changing.{logs, sees}
@@ -37,7 +37,7 @@ use Rattle.machine_roads.proofs.Lists.{cons_is, equal}
 use Rattle.machine_roads.proofs.LoneCalls.{each as each_alike}
 use Rattle.machine_roads.proofs.LoneRuns.{Inside, Rests, Walks, Whole, goes_on_of, lone_calls_rest_of}
 use Rattle.machine_roads.proofs.LoneTicks.{may_begin}
-use Rattle.machine_roads.proofs.Nobody.{WaitAmong, each_mapped, waits_for}
+use Rattle.machine_roads.proofs.Nobody.{WaitAmong, each_freed, each_mapped, each_waits, freed_so, swept_none}
 use Rattle.machine_roads.proofs.Puts.{put_by}
 use Rattle.machine_roads.proofs.Rousing.{AreOpen}
 use Rattle.machine_roads.proofs.Stepping.{WayOf, next_of}
@@ -124,7 +124,8 @@ record IsClosing (w : World) (fs all : List ℕ) (codes : List (Code Output Wake
 
 -- all is done, or the call stands in the drop of the next one
 abbrev Closing : Choice → List ℕ → List (Code Output Waker) → List ℕ → Plain Output Waker → Done → Type 0
-Closing c all codes [] q end = (end.next ≡ []) × Follows end.world (close wakes c [] all q)
+Closing c all codes [] q end =
+    (end.next ≡ []) × Follows end.world (close wakes c [] all q) × NoneWaits (close wakes c [] all q)
 Closing c all codes (f ∷ rest) q end =
     (end.next ≡ op.User (user_op.Drop f) ∷ (closing_ops rest end.world.waking ++ ending))
     × IsClosing end.world rest all codes (gone_of f q)
@@ -137,9 +138,14 @@ module _ (p : ℕ) (end : Done) (rests : is_resting end.next ≡ true) (c : Choi
       let follows : Follows w (record q { inside = Close [] all ∷ q.inside }) =
       subst (λ codes. Follows w (record q { inside = Close [] all ∷ codes })) (sym is.inside)
       (subst (λ t. Follows (record w { table = t }) (record q { inside = Close [] all ∷ codes })) (sym is.table) is.follows) in
+      let r =
       closes_all p end rests c all w q follows (ap (λ codes. waking_in codes) is.inside ∙ is.nowhere) is.nobody is.opened is.table
-      is.unkept is.among_them
-      (subst (λ ws. WayOf HasIn p end w (closing_ops [] ws ++ ending)) whole way)
+      is.unkept is.among_them (subst (λ ws. WayOf HasIn p end w (closing_ops [] ws ++ ending)) whole way) in (
+        r.0,
+        r.1,
+        subst (λ z. NoneWaits (swept wakes c z)) (sym (each_freed c all q is.nobody))
+            (swept_none c (each all freed_so q) (each_waits all q is.among_them)),
+      )
   goes_close (f ∷ rest) w q is way =
       let e = event.Dropped p f in
       let waking : List ℕ = w.waking ++ f ∷ [] in
@@ -185,10 +191,10 @@ module _ (p : ℕ) (end : Done) (rests : is_resting end.next ≡ true) (c : Choi
       )
 
 -- a machine of any kind
-abbrev IsAny : Machine → Type 0
+abbrev pub IsAny : Machine → Type 0
 IsAny s = Unit {0}
 
-walks : Walks HasIn IsAny
+pub walks : Walks HasIn IsAny
 walks = record {
   easy = record { ends = λ w r held. tt; outside = λ w x. tt };
   gives = λ s p reached there any o is. has_in s p reached there o is;
@@ -198,11 +204,11 @@ walks = record {
 module _ (p : ℕ) (new : Machine) (last : Reached new) (quiet : IsQuiet new.world.trace) (c : Choice) (all : List ℕ)
     (codes : List (Code Output Waker)) where
   abbrev Result : Plain Output Waker → Type 0
-  Result r = (z : Plain Output Waker) × Ended r z × (z.inside ≡ codes) × Follows new.world z
+  Result r = (z : Plain Output Waker) × Ended r z × (z.inside ≡ codes) × Follows new.world z × NoneWaits z
 
   from_close : (fs : List ℕ) (q : Plain Output Waker) → q.inside ≡ codes → Rests p (λ e. Closing c all codes fs q e) new
       → Result (close wakes c fs all q)
-  from_close [] q same (Whole so) = (close wakes c [] all q, over (close wakes c [] all q), swept_inside c all q ∙ same, so.1)
+  from_close [] q same (Whole so) = (close wakes c [] all q, over (close wakes c [] all q), swept_inside c all q ∙ same, so.1, so.2)
   from_close [] q same (Inside x) = let none : x.first ∷ x.rest ≡ [] = x.so.0 in absurd cc
   from_close (f ∷ rest) q same (Whole so) =
       let none : [] ≡ op.User (user_op.Drop f) ∷ (closing_ops rest new.world.waking ++ ending) = so.0 in absurd cc
@@ -223,7 +229,7 @@ module _ (p : ℕ) (new : Machine) (last : Reached new) (quiet : IsQuiet new.wor
       let r = from_close rest q1 x.so.1.inside (goes_on_of HasIn IsAny walks p R S new tt last quiet x now) in
       let y : Plain Output Waker = close wakes c (f ∷ rest) all q in
       let few : length y.lying ≤ c.tells = subst (λ ls. length ls ≤ c.tells) (sym x.so.1.nobody) (least c.tells) in
-      (r.0, ends_with c Ends y r.0 refl few r.1, r.2, r.3)
+      (r.0, ends_with c Ends y r.0 refl few r.1, r.2, r.3, r.4)
     where
       least : (n : ℕ) → 0 ≤ n
       least n = omega arith
@@ -267,7 +273,7 @@ drop_ends_so s reached q quiet follows p c steps none new lone =
     let r =
     from_close p new (reached-more (Begin p call.DropExecutor ∷ steps) s new reached lone.made) lone.ended c all q.inside all q refl
     (lone_calls_rest_of HasIn IsAny walks s reached p call.DropExecutor steps new R quiet tt leads lone) in
-    (r.0, subst (λ fs. Ended (close wakes c fs fs q) r.0) follows.table r.1, r.2, r.3)
+    (r.0, subst (λ fs. Ended (close wakes c fs fs q) r.0) follows.table r.1, r.2, r.3, r.4)
 
 pub lone_drop_ends : EachLoneAlike LoneDropEnds
 lone_drop_ends = each_alike LoneDropEnds drop_ends_so

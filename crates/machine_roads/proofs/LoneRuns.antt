@@ -164,7 +164,9 @@ module _ (Asked : World → Op → Type 0) (Fine : Machine → Type 0) (walks : 
       reached = reached-step s t may reached;
       there = still_there t;
       is = goes.todo;
-      leads = subst (λ w. LeadsSoOf Asked p (done w (ended p d.world d.next).next) R) (sym goes.world) (leads_ended Asked walks.easy p R d.world d.next leads);
+      leads =
+          subst (λ w. LeadsSoOf Asked p (done w (ended p d.world d.next).next) R) (sym goes.world)
+          (leads_ended Asked walks.easy p R d.world d.next leads);
       made = made;
     }
 
@@ -224,7 +226,8 @@ module _ (Asked : World → Op → Type 0) (Fine : Machine → Type 0) (walks : 
               Further (onward_of (Answer p e) ts (done s.world os)
               (subst (λ (d : Done). Goes p s (after s (Answer p e)) (done d.world (d.next ++ os)))
               (ap (λ x. react p x e s.world) same) (answers p s there o os is e))
-              (leads_outside Asked walks.easy p R x s.world os (subst (λ x. LeadsSoOf Asked p (done s.world (x ∷ os)) R) same leads)) may made)
+              (leads_outside Asked walks.easy p R x s.world os (subst (λ x. LeadsSoOf Asked p (done s.world (x ∷ os)) R) same leads)) may
+              made)
           by (op.User (user_op.Poll f)) same ok = in_here (op.User (user_op.Poll f)) same ok refl
           by (op.User (user_op.Drop f)) same ok = in_here (op.User (user_op.Drop f)) same ok refl
           by (op.User (user_op.DropOutput f)) same ok = in_here (op.User (user_op.DropOutput f)) same ok refl
@@ -310,7 +313,8 @@ within n m is = grind (arith, nat_tests)
 upon_nothing : (d : Done) → upon [] d ≡ d
 upon_nothing d = ap (λ os. done d.world os) (append-nil d.next)
 
-pub lone_calls_rest_of : (Asked : World → Op → Type 0) (Fine : Machine → Type 0) → Walks Asked Fine → (s : Machine) → Reached s → (p : ℕ) (c : Call) (steps : List Step) (new : Machine) (R : Done → Type 0)
+pub lone_calls_rest_of : (Asked : World → Op → Type 0) (Fine : Machine → Type 0) → Walks Asked Fine → (s : Machine) → Reached s
+    → (p : ℕ) (c : Call) (steps : List Step) (new : Machine) (R : Done → Type 0)
     → IsQuiet s.world.trace → Fine new → LeadsSoOf Asked p (upon [] (begins p None c s.world)) R
     → IsLoneCall p c steps s new → Rests p R new
 lone_calls_rest_of Asked Fine walks s reached p c steps new R quiet later leaves lone =

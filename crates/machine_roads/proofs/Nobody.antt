@@ -1,6 +1,8 @@
 -- Where nobody lies it is nothing to tell; and where no task waits for a wake, a waker that is called queues nothing.
 use Rattle.std.proofs.Common.{◌≡◌, ℕ, ◌-◌, ◌==◌, ◌&&◌, not, Bool, true, false, List, [], ◌∷◌, ◌++◌, length, map}
 use Rattle.std.proofs.Common.{Option, Some, None, is_some, slice_get, if◌then◌else◌, refl, sym, ap, subst, ◌∙◌}
+use Rattle.std.specs.Prelude.{filter}
+use Rattle.executor_parts.specs.declared.mark.Mark.TheVariants.{Plain as PlainMark, Urgent}
 use Rattle.task_moves.specs.AbstractTask as abstract
 use Rattle.task_moves.specs.AbstractTask.{AbstractTask, Phase, Idle, Queued, Polling, PollingWoken, Finished}
 use Rattle.task_moves.specs.LocalTask.{info_of}
@@ -8,11 +10,12 @@ use Rattle.executor_model.specs.declared.op.Waker.{Waker}
 use Rattle.executor_model.specs.World.{among}
 use Rattle.plain_scheduler.specs.State.{Calls, Choice, Due, Future, Plain}
 use Rattle.plain_scheduler.specs.Lists.{each, on, or}
-use Rattle.plain_scheduler.specs.Moves.{appended, becomes, called, no_task, put, release, see, task, tell, used, wake}
-use Rattle.plain_scheduler.specs.Calls.{closed, freed}
+use Rattle.plain_scheduler.specs.Moves.{appended, becomes, called, is_common, no_task, put, release, see, task, tell, used, wake}
+use Rattle.plain_scheduler.specs.Calls.{closed, freed, swept}
 use Rattle.machine_roads.specs.View.{Output, wakes}
-use Rattle.machine_roads.specs.Road.{is_told}
-use Rattle.machine_roads.proofs.Lists.{clash, equal, same_of, turned}
+use Rattle.machine_roads.specs.Road.{futures_in, is_told}
+use Rattle.machine_roads.specs.Lone.{NoneWaits, waits_for}
+use Rattle.machine_roads.proofs.Lists.{clash, map_append, same_of, turned}
 use Rattle.machine_roads.proofs.Puts.{put_at, put_lying, task_past, task_put}
 use Rattle.machine_roads.proofs.Telling.{tells_none}
 use Rattle.machine_roads.proofs.Used.{lower, none_told}
@@ -59,10 +62,6 @@ each_freed c (w ∷ ws) q none =
 pub each_lying : (ws : List ℕ) (q : Plain Output Waker) → (each ws freed_so q).lying ≡ q.lying
 each_lying [] q = refl
 each_lying (w ∷ ws) q = each_lying ws (freed_so w q) ∙ freed_lying w q
-
--- a wake would queue it
-abbrev pub waits_for : AbstractTask Output Waker → Bool
-waits_for t = abstract.is_idle t.phase && not t.closed
 
 never : (b : Bool) → (b && false) ≡ false
 never true = refl
@@ -165,12 +164,9 @@ module _ (g : ℕ) (new : AbstractTask Output Waker) (q : Plain Output Waker) wh
       by true is = put_waits calm f is
       by false is = put_waits calm f is
 
--- only these wait, and none does
+-- only these wait
 abbrev pub WaitAmong : List ℕ → Plain Output Waker → Type 0
 WaitAmong ws q = (f : ℕ) → waits_for (task f q) ≡ true → among f ws ≡ true
-
-abbrev pub NoneWaits : Plain Output Waker → Type 0
-NoneWaits q = (f : ℕ) → waits_for (task f q) ≡ false
 
 freed_waits : (g : ℕ) (ws : List ℕ) (q : Plain Output Waker) → WaitAmong (g ∷ ws) q → WaitAmong ws (freed_so g q)
 freed_waits g ws q all f is =
@@ -195,6 +191,19 @@ used_so g q = put g (abstract.release (abstract.wake (task g q))) q
 abbrev pub call_so : Waker → Plain Output Waker → Plain Output Waker
 call_so a q = or (wakes a) (λ g. used_so g q) (see (Calls a) q)
 
+pub release_calmly : (more : Plain Output Waker → Plain Output Waker) (f : ℕ) (q : Plain Output Waker) → waits_for (task f q) ≡ false
+    → release wakes more f q ≡ put f (abstract.release (task f q)) q
+release_calmly more f q calm =
+    let new = abstract.release (task f q) in
+    ap (λ b. if b then more (appended f (put f new q)) else put f new q)
+    (none_told (task f q) new (ap (λ (t : AbstractTask Output Waker). t.infos) (calm_release (task f q) calm)))
+
+pub wake_calmly : (more : Plain Output Waker → Plain Output Waker) (f : ℕ) (q : Plain Output Waker) → waits_for (task f q) ≡ false
+    → wake wakes more f q ≡ put f (abstract.wake (task f q)) q
+wake_calmly more f q calm =
+    let new = abstract.wake (task f q) in
+    ap (λ b. if b then more (appended f (put f new q)) else put f new q) (none_told (task f q) new (calm_infos (task f q) calm))
+
 pub used_calmly : (more : Plain Output Waker → Plain Output Waker) (g : ℕ) (q : Plain Output Waker) → NoneWaits q
     → used wakes more g q ≡ used_so g q
 used_calmly more g q none =
@@ -209,7 +218,7 @@ called_calmly more a q none = by (wakes a)
     by None = refl
     by (Some g) = used_calmly more g q none
 
-put_none : (g : ℕ) (new : AbstractTask Output Waker) (q : Plain Output Waker) → waits_for new ≡ false → NoneWaits q
+pub put_none : (g : ℕ) (new : AbstractTask Output Waker) (q : Plain Output Waker) → waits_for new ≡ false → NoneWaits q
     → NoneWaits (put g new q)
 put_none g new q calm none f = by (waits_for (task f (put g new q))) refl
   where
@@ -299,3 +308,43 @@ pub each_mapped : {B C S : Type 0} (of : B → C) (xs : List B) (go : C → S �
     → each xs (λ x. go (of x)) s ≡ each (map of xs) go s
 each_mapped of [] go s = refl
 each_mapped of (x ∷ xs) go s = each_mapped of xs go (go (of x) s)
+
+-- what stands in the queues is dropped
+module _ (c : Choice) (q : Plain Output Waker) (none : NoneWaits q) where
+  abbrev urgents : List ℕ
+  urgents = futures_in (is_common Urgent) q.due
+
+  abbrev plains : List ℕ
+  plains = futures_in (is_common PlainMark) q.due
+
+  abbrev last_by : List Due → Plain Output Waker
+  last_by ds = each plains closed_so (record (each urgents closed_so q) { due = ds })
+
+  pub swept_calmly : (ds : List Due) → record (last_by ds) { due = [] } ≡ swept wakes c q
+  swept_calmly ds =
+      ap (λ (z : Plain Output Waker). record z { due = [] }) (each_due ds plains (each urgents closed_so q))
+      ∙ (sym (each_due [] plains (each urgents closed_so q))
+      ∙ (ap (each plains closed_so) (sym (each_due [] urgents q))
+      ∙ (sym (each_closed c plains (each urgents closed_so bare) (each_closed c urgents bare none).1).0
+      ∙ (ap (each plains close_one) (sym (each_closed c urgents bare none).0)
+      ∙ (sym (each_more urgents plains close_one bare)
+      ∙ (ap (λ fs. each fs close_one bare)
+      (sym (map_append of_due (filter (is_common Urgent) q.due) (filter (is_common PlainMark) q.due)))
+      ∙ sym (each_mapped of_due both close_one bare)))))))
+    where
+      bare : Plain Output Waker
+      bare = record q { due = [] }
+
+      close_one : ℕ → Plain Output Waker → Plain Output Waker
+      close_one = closed wakes c
+
+      of_due : Due → ℕ
+      of_due d = d.future
+
+      both : List Due
+      both = filter (is_common Urgent) q.due ++ filter (is_common PlainMark) q.due
+
+  pub swept_none : NoneWaits (swept wakes c q)
+  swept_none =
+      subst (λ z. NoneWaits z) (swept_calmly q.due)
+      (each_closed c plains (record (each urgents closed_so q) { due = q.due }) (each_closed c urgents q none).1).1

@@ -1,7 +1,6 @@
 -- In the executor's drop each future that was dropped is woken by its waker there, which goes; nobody lies who could be told.
-use Rattle.std.proofs.Common.{◌≡◌, ℕ, ◌-◌, ◌+◌, ◌<◌, ◌++◌, ◌&&◌, not, nat_lt, Bool, true, false, List, [], ◌∷◌, length}
-use Rattle.std.proofs.Common.{Option, is_some, if◌then◌else◌, refl, sym, ap, subst, ◌∙◌}
-use Rattle.std.proofs.Common.{append_assoc}
+use Rattle.std.proofs.Common.{◌≡◌, ℕ, ◌<◌, ◌++◌, ◌&&◌, not, nat_lt, Bool, true, false, List, [], ◌∷◌, length}
+use Rattle.std.proofs.Common.{Option, is_some, if◌then◌else◌, refl, sym, ap, subst, ◌∙◌, append_assoc}
 use Rattle.queue_steps.specs.ClosableQueue.{appended as appended_to}
 use Rattle.executor_parts.specs.declared.mark.Mark.{Mark}
 use Rattle.executor_parts.specs.declared.mark.Mark.TheVariants.{Plain as PlainMark, Urgent}
@@ -11,37 +10,39 @@ use Rattle.task_moves.specs.AbstractTask as abstract
 use Rattle.task_moves.specs.AbstractTask.{AbstractTask}
 use Rattle.task_moves.specs.LocalTask.{info_of, told}
 use Rattle.task_moves.specs.Moves as moves
+use Rattle.executor_model.specs.declared.call.Reply.TheVariants as reply
+use Rattle.executor_model.specs.declared.event.Event.TheVariants as event
 use Rattle.executor_model.specs.declared.op.ClosingOp.TheVariants as closing_op
+use Rattle.executor_model.specs.declared.op.Hold.{Hold}
 use Rattle.executor_model.specs.declared.op.Op.{Op}
 use Rattle.executor_model.specs.declared.op.Op.TheVariants as op
 use Rattle.executor_model.specs.declared.op.QueueOp.TheVariants as queue_op
 use Rattle.executor_model.specs.declared.op.SleeperOp.TheVariants as sleeper_op
 use Rattle.executor_model.specs.declared.op.Waker.{Waker}
-use Rattle.executor_model.specs.Acts.{append_by, closing_ops, move_task, takes_more}
-use Rattle.executor_model.specs.Acts.{wake_next_by}
+use Rattle.executor_model.specs.Acts.{append_by, closing_ops, move_task, takes_more, wake_next_by}
 use Rattle.executor_model.specs.ActsOfSleepers.{exchange_by}
 use Rattle.executor_model.specs.Carried.{owed_ops}
 use Rattle.executor_model.specs.Queues.{queue_in}
-use Rattle.executor_model.specs.World.{World, Done, among, awaiter_of, mark_of, put_queue, queue_of}
+use Rattle.executor_model.specs.World.{World, Done, done, among, awaiter_of, log, mark_of, put_queue, queue_of}
 use Rattle.executor_model.specs.World as world
-use Rattle.plain_scheduler.specs.State.{Close, Code, Plain}
+use Rattle.plain_scheduler.specs.State.{Answers, Close, Code, Plain, Done as DoneAnswer}
 use Rattle.plain_scheduler.specs.Lists.{each}
-use Rattle.plain_scheduler.specs.Moves.{appended, becomes, put, release, task, wake}
+use Rattle.plain_scheduler.specs.Moves.{answers, appended, becomes, put, release, task, wake}
 use Rattle.machine_roads.specs.View.{Output, view, waker_in, wakes}
 use Rattle.machine_roads.specs.Moving.{IsMove}
 use Rattle.machine_roads.specs.Road.{Follows, is_told}
 use Rattle.machine_roads.specs.Alone.{is_resting}
+use Rattle.machine_roads.proofs.Calling.{idles}
 use Rattle.machine_roads.proofs.Calm.{release_calm, wake_calm}
-use Rattle.machine_roads.proofs.Changing.{appends}
+use Rattle.machine_roads.proofs.Changing.{appends, sees}
 use Rattle.machine_roads.proofs.Having.{HasIn}
 use Rattle.machine_roads.proofs.Leaking.{becomes_blind, take_all}
 use Rattle.machine_roads.proofs.Lists.{clash}
 use Rattle.machine_roads.proofs.Marks.{queue_if, released_owes, released_stored, used_owes, woken_stored}
 use Rattle.machine_roads.proofs.Moved.{MovedSo, moved_so}
 use Rattle.machine_roads.proofs.Moving.{releases_alike, wakes_alike}
-use Rattle.machine_roads.proofs.Nobody.{becomes_here, calm_release}
-use Rattle.machine_roads.proofs.Nobody.{freed_lying, freed_so, told_waits}
-use Rattle.machine_roads.proofs.Nobody.{waits_for, woken_waits}
+use Rattle.machine_roads.specs.Lone.{waits_for}
+use Rattle.machine_roads.proofs.Nobody.{becomes_here, calm_release, freed_lying, freed_so, release_calmly, told_waits, woken_waits}
 use Rattle.machine_roads.proofs.Puts.{put_lying}
 use Rattle.machine_roads.proofs.Stepping.{WayOf, next_of}
 use Rattle.machine_roads.proofs.Unseen.{woken_so}
@@ -61,6 +62,45 @@ closed_last w f Urgent Urgent = refl
 module _ (p : ℕ) (end : Done) (rests : is_resting end.next ≡ true) where
   abbrev Left : World → List Op → Type 0
   Left = WayOf HasIn p end
+
+  -- where it doesn't wait, a task is let go by a waker and nothing is queued
+  pub releases_in : (f : ℕ) (w : World) (os : List Op) (r : Plain Output Waker) → Follows w r → waits_for (task f r) ≡ false
+      → Left w (op.Move move.Release f ∷ os) → MovedSo Left w os (put f (abstract.release (task f r)) r)
+  releases_in f w os r follows calm way =
+      let step = next_of HasIn p end rests (op.Move move.Release f) w os refl way in
+      let s = world.task w f in
+      let a = waker_in (awaiter_of w f) in
+      let al : IsMove (moves.release s) s a (abstract.release (view s a)) = releases_alike s a step.has.1 in
+      let t : AbstractTask Output Waker = task f r in
+      let tk : t ≡ view s a = follows.tasks f step.has.0 in
+      let last : AbstractTask Output Waker = abstract.release t in
+      let m =
+      moved_so Left p move.Release f w os r last refl (λ q g. refl) follows step.has.0
+      (al.task ∙ ap (λ t. told (abstract.release t)) (sym tk))
+      (released_stored (awaiter_of w f) s (follows.stored f step.has.0)) (release_calm t (follows.calm f step.has.0)) step.way in
+      let none : is_some (info_of t last) ≡ false =
+      none_told t last (ap (λ (t : AbstractTask Output Waker). t.infos) (calm_release t calm)) in
+      let off : is_some (moves.release s).owed.schedule ≡ false =
+      al.queues ∙ (sym (ap (λ t. is_some (info_of t (abstract.release t))) tk) ∙ none) in
+      record {
+        world = m.world;
+        follows = m.follows;
+        queues = m.queues;
+        own = m.own;
+        table = m.table;
+        way =
+            subst (λ ops. Left m.world (ops ++ os)) (released_owes (among f w.table) f s ∙ ap (λ b. queue_if b f) off) m.way;
+      }
+
+  -- a call is answered that it is done
+  pub ends_in : (w : World) (q : Plain Output Waker) (held : Hold) → Follows w q → Left w (op.End reply.Done held ∷ [])
+      → (end.next ≡ []) × Follows end.world (answers DoneAnswer q)
+  ends_in w q held follows way =
+      let e = event.CallEnded p reply.Done in
+      let step = next_of HasIn p end rests (op.End reply.Done held) w [] refl way in
+      let there : done (log w e) [] ≡ end = sym (idles p step.way.hints [] (log w e) refl) ∙ step.way.is in
+      subst (λ (d : Done). (d.next ≡ []) × Follows d.world (answers DoneAnswer q)) there
+      (refl, sees w q follows e (Answers DoneAnswer) refl)
 
   -- a future was woken by a waker that went
   pub record Freed (f : ℕ) (r : Plain Output Waker) (w : World) (os : List Op) (q : Plain Output Waker) : Type 0 where
@@ -136,33 +176,16 @@ module _ (p : ℕ) (end : Done) (rests : is_resting end.next ≡ true) where
         let one =
         queued_in m b (ap (λ t. is_some (info_of t (abstract.wake t))) tk ∙ sym al.queues) (used_owes (among f w.table) f s) in
         let r1 : Plain Output Waker = becomes wakes (λ s. s) f new r in
-        let step = next_of HasIn p end rests (op.Move move.Release f) one.world os refl one.way in
-        let s1 = world.task one.world f in
-        let a1 = waker_in (awaiter_of one.world f) in
-        let al1 : IsMove (moves.release s1) s1 a1 (abstract.release (view s1 a1)) = releases_alike s1 a1 step.has.1 in
-        let t1 : AbstractTask Output Waker = task f r1 in
-        let tk1 : t1 ≡ view s1 a1 = one.follows.tasks f step.has.0 in
-        let last : AbstractTask Output Waker = abstract.release t1 in
-        let m1 =
-        moved_so Left p move.Release f one.world os r1 last refl (λ q g. refl) one.follows step.has.0
-        (al1.task ∙ ap (λ t. told (abstract.release t)) (sym tk1))
-        (released_stored (awaiter_of one.world f) s1 (one.follows.stored f step.has.0))
-        (release_calm t1 (one.follows.calm f step.has.0)) step.way in
-        let calm : waits_for t1 ≡ false = becomes_here f new r (woken_waits (task f r)) in
-        let none : is_some (info_of t1 last) ≡ false =
-        none_told t1 last (ap (λ (t : AbstractTask Output Waker). t.infos) (calm_release t1 calm)) in
-        let off : is_some (moves.release s1).owed.schedule ≡ false =
-        al1.queues ∙ (sym (ap (λ t. is_some (info_of t (abstract.release t))) tk1) ∙ none) in
+        let calm : waits_for (task f r1) ≡ false = becomes_here f new r (woken_waits (task f r)) in
+        let two = releases_in f one.world os r1 one.follows calm one.way in
         record {
-          world = m1.world;
-          follows = subst (Follows m1.world) (sym (ap (λ b. if b then appended f (put f last r1) else put f last r1) none)) m1.follows;
-          own = m1.own ∙ one.own;
-          table = m1.table ∙ one.table;
-          shut = λ n. ap (λ qs. (queue_in n qs).closed) m1.queues ∙ one.shut n;
-          still = λ calm. m1.queues ∙ one.still calm;
-          way =
-              subst (λ ops. Left m1.world (ops ++ os))
-              (released_owes (among f one.world.table) f s1 ∙ ap (λ b. queue_if b f) off) m1.way;
+          world = two.world;
+          follows = subst (Follows two.world) (sym (release_calmly (λ s. s) f r1 calm)) two.follows;
+          own = two.own ∙ one.own;
+          table = two.table ∙ one.table;
+          shut = λ n. ap (λ qs. (queue_in n qs).closed) two.queues ∙ one.shut n;
+          still = λ calm. two.queues ∙ one.still calm;
+          way = two.way;
         }
 
   -- each that is still to be woken is woken

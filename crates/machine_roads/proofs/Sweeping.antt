@@ -25,7 +25,7 @@ use Rattle.executor_model.specs.declared.op.Polled.TheVariants as of
 use Rattle.executor_model.specs.declared.op.Waker.{Waker}
 use Rattle.executor_model.specs.declared.op.Waker.TheVariants.{Task, Outside}
 use Rattle.executor_model.specs.declared.op.WakerOp.TheVariants as waker_op
-use Rattle.executor_model.specs.Acts.{call_waker, closing_ops, drain_by, told as told_ops}
+use Rattle.executor_model.specs.Acts.{call_waker, closing_ops, drain_by, move_task, told as told_ops}
 use Rattle.executor_model.specs.Carried.{owed_ops}
 use Rattle.executor_model.specs.Good.{IsKnownWaker}
 use Rattle.executor_model.specs.Queues.{Queues, queue_in}
@@ -39,7 +39,7 @@ use Rattle.machine_roads.specs.View.{Output, view, waker_in, wakes}
 use Rattle.machine_roads.specs.Moving.{IsQueued}
 use Rattle.machine_roads.specs.Road.{Follows, IsStored, futures_in, waking_in}
 use Rattle.machine_roads.specs.Alone.{is_resting}
-use Rattle.machine_roads.proofs.Calling.{idles}
+use Rattle.machine_roads.specs.Lone.{NoneWaits, waits_for}
 use Rattle.machine_roads.proofs.Cancelling.{emptied, took_of}
 use Rattle.machine_roads.proofs.Changing.{logs, puts, sees, settles}
 use Rattle.machine_roads.proofs.Ending.{gave_up, gave_up_owes}
@@ -48,12 +48,11 @@ use Rattle.machine_roads.proofs.Leaking.{freed_inside}
 use Rattle.machine_roads.proofs.Lists.{clash, get_below, length_set, map_append, set_twice}
 use Rattle.machine_roads.proofs.Moved.{moved_so}
 use Rattle.machine_roads.proofs.Moving.{state}
-use Rattle.machine_roads.proofs.Nobody.{NoneWaits, WaitAmong, call_so, called_calmly, closed_due}
-use Rattle.machine_roads.proofs.Nobody.{closed_none, closed_so, each_closed, each_due, each_freed, each_mapped, each_more, each_waits}
-use Rattle.machine_roads.proofs.Nobody.{freed_so, last_none, last_of, put_waits, used_calmly, used_so}
-use Rattle.machine_roads.proofs.Nobody.{waits_for}
+use Rattle.machine_roads.proofs.Nobody.{WaitAmong, call_so, called_calmly, closed_due}
+use Rattle.machine_roads.proofs.Nobody.{closed_none, closed_so, each_closed, each_due, each_freed, each_waits}
+use Rattle.machine_roads.proofs.Nobody.{freed_so, last_none, last_of, put_waits, swept_calmly, used_calmly, used_so}
 use Rattle.machine_roads.proofs.Puts.{put_is, task_is, task_put}
-use Rattle.machine_roads.proofs.Rousing.{AreOpen, frees_in, wakes_on}
+use Rattle.machine_roads.proofs.Rousing.{AreOpen, ends_in, frees_in, wakes_on}
 use Rattle.machine_roads.proofs.Slowly.{used_slowly}
 use Rattle.machine_roads.proofs.Stepping.{WayOf, next_of, past_outside_of}
 use Rattle.machine_roads.proofs.Trying.{takes_first}
@@ -128,6 +127,26 @@ module _ (p : ℕ) (end : Done) (rests : is_resting end.next ≡ true) where
     pub table : world.table ≡ w.table
     pub way : Left world os
 
+  -- where none waits, a waker is called, and goes
+  pub uses_in : (f : ℕ) (w : World) (os : List Op) (r : Plain Output Waker) → Follows w r → NoneWaits r → f < length w.tasks
+      → Left (move_task move.Wake p w f).world ((move_task move.Wake p w f).next ++ os) → Kept w os (used_so f r)
+  uses_in f w os r follows none at way =
+      let one = frees_in p end rests f w os r follows at (λ waits. absurd (clash (none f) waits)) way in
+      let x = get_below r.futures f (subst (λ n. f < n) follows.many at) in
+      let same : freed_so f r ≡ used_so f r =
+      used_slowly wakes f (λ s. s) (λ q x is still. record { future = x; there = is; still = still; same = refl }) r x.0 x.1
+      (sym (ap (λ (t : AbstractTask Output Waker). t.infos) (task_is f r x.0 x.1))
+      ∙ ap (λ (t : AbstractTask Output Waker). t.infos) (follows.tasks f at))
+      ∙ used_calmly (λ s. s) f r none in
+      record {
+        world = one.world;
+        follows = subst (Follows one.world) same one.follows;
+        queues = one.still (none f);
+        own = one.own;
+        table = one.table;
+        way = one.way;
+      }
+
   -- who awaits a task is called
   calls_in : (f : ℕ) (a : Waker) (k : ℕ) (w : World) (os : List Op) (r : Plain Output Waker) → Follows w r → NoneWaits r
       → Left w (op.Waker (waker_op.CallAwaiter f a k) ∷ os) → Kept w os (call_so a r)
@@ -139,21 +158,8 @@ module _ (p : ℕ) (end : Done) (rests : is_resting end.next ≡ true) where
           → Left (call_waker p w (of.Handle f) a k).world ((call_waker p w (of.Handle f) a k).next ++ os) → Kept w os (call_so a r)
       by (Task g) at way =
           let e = event.WakerCalled p (of.Handle f) k (Task g) in
-          let one = frees_in p end rests g (log w e) os r (logs w r follows e refl) at (λ waits. absurd (clash (none g) waits)) way in
-          let x = get_below r.futures g (subst (λ n. g < n) follows.many at) in
-          let same : freed_so g r ≡ used_so g r =
-          used_slowly wakes g (λ s. s) (λ q x is still. record { future = x; there = is; still = still; same = refl }) r x.0 x.1
-          (sym (ap (λ (t : AbstractTask Output Waker). t.infos) (task_is g r x.0 x.1))
-          ∙ ap (λ (t : AbstractTask Output Waker). t.infos) (follows.tasks g at))
-          ∙ used_calmly (λ s. s) g r none in
-          record {
-            world = one.world;
-            follows = subst (Follows one.world) same one.follows;
-            queues = one.still (none g);
-            own = one.own;
-            table = one.table;
-            way = one.way;
-          }
+          let u = uses_in g (log w e) os r (logs w r follows e refl) none at way in
+          record { world = u.world; follows = u.follows; queues = u.queues; own = u.own; table = u.table; way = u.way }
       by (Outside x) at way =
           let e = event.WakerCalled p (of.Handle f) k (Outside x) in
           record {
@@ -440,16 +446,10 @@ module _ (p : ℕ) (end : Done) (rests : is_resting end.next ≡ true) where
       lines_so dp.world.queues [] dp.world (record z2 { due = dp.due }) dp.follows
       (nothing_left dp.world dp.empty (dp.others ∙ du.empty))
       (λ r. ap (λ qs. slice_index_or qs r []) (dp.own ∙ du.own) ∙ unkept r) in
-      let w5 = log dp.world (event.DropEnded p) in
-      let five =
-      next_of HasIn p end rests (op.End reply.Done hold.Nothing) w5 [] refl
-      (subst (λ fs. Left (drain_by p dp.world PlainMark fs).world ((drain_by p dp.world PlainMark fs).next ++ ending)) dp.empty four.way) in
-      let e = event.CallEnded p reply.Done in
-      let there : done (log w5 e) [] ≡ end = sym (idles p five.way.hints [] (log w5 e) refl) ∙ five.way.is in
-      let last : Follows (log w5 e) (answers DoneAnswer q3) =
-      sees w5 q3 (logs dp.world q3 bare (event.DropEnded p) refl) e (Answers DoneAnswer) refl in
-      subst (λ (d : Done). (d.next ≡ []) × Follows d.world (answers DoneAnswer (swept wakes c q))) there
-      (refl, subst (λ z. Follows (log w5 e) (answers DoneAnswer z)) (swept_is du.due) last)
+      let e = event.DropEnded p in
+      subst (λ z. (end.next ≡ []) × Follows end.world (answers DoneAnswer z)) (swept_calmly c q none du.due)
+      (ends_in p end rests (log dp.world e) q3 hold.Nothing (logs dp.world q3 bare e refl)
+      (subst (λ fs. Left (drain_by p dp.world PlainMark fs).world ((drain_by p dp.world PlainMark fs).next ++ ending)) dp.empty four.way))
     where
       same_items : (w : World) (q : Plain Output Waker) → Follows w q → (m : Mark)
           → (queue_in m (shut_both w).queues).items ≡ futures_in (is_common m) q.due
@@ -460,36 +460,6 @@ module _ (p : ℕ) (end : Done) (rests : is_resting end.next ≡ true) where
           → (queue_of w m).items ≡ []
       nothing_left w plain urgent PlainMark = plain
       nothing_left w plain urgent Urgent = urgent
-
-      us : List ℕ
-      us = futures_in (is_common Urgent) q.due
-
-      ps : List ℕ
-      ps = futures_in (is_common PlainMark) q.due
-
-      bare : Plain Output Waker
-      bare = record q { due = [] }
-
-      close_one : ℕ → Plain Output Waker → Plain Output Waker
-      close_one = closed wakes c
-
-      of_due : Due → ℕ
-      of_due d = d.future
-
-      both : List Due
-      both = filter (is_common Urgent) q.due ++ filter (is_common PlainMark) q.due
-
-      swept_is : (ds : List Due)
-          → record (each ps closed_so (record (each us closed_so q) { due = ds })) { due = [] } ≡ swept wakes c q
-      swept_is ds =
-          ap (λ (z : Plain Output Waker). record z { due = [] }) (each_due ds ps (each us closed_so q))
-          ∙ (sym (each_due [] ps (each us closed_so q))
-          ∙ (ap (each ps closed_so) (sym (each_due [] us q))
-          ∙ (sym (each_closed c ps (each us closed_so bare) (each_closed c us bare none).1).0
-          ∙ (ap (each ps close_one) (sym (each_closed c us bare none).0)
-          ∙ (sym (each_more us ps close_one bare)
-          ∙ (ap (λ fs. each fs close_one bare) (sym (map_append of_due (filter (is_common Urgent) q.due) (filter (is_common PlainMark) q.due)))
-          ∙ sym (each_mapped of_due both close_one bare)))))))
 
   -- from where the last future was dropped
   pub closes_all : (c : Choice) (ws : List ℕ) (w : World) (q : Plain Output Waker)

@@ -37,11 +37,12 @@ use Rattle.plain_scheduler.specs.Lists.{or}
 use Rattle.plain_scheduler.specs.Moves.{lies, no_task, task}
 use Rattle.machine_roads.specs.View.{Output}
 use Rattle.machine_roads.specs.Road.{Follows, place_in, who_of}
+use Rattle.machine_roads.specs.Lone.{waits_for}
 use Rattle.machine_roads.proofs.Having.{heard_here, same_self}
 use Rattle.machine_roads.proofs.Lists.{clash, equal}
 use Rattle.machine_roads.proofs.LoneRuns.{passed}
 use Rattle.machine_roads.proofs.LoneTicks.{unrefused}
-use Rattle.machine_roads.proofs.Nobody.{WaitAmong, waits_for}
+use Rattle.machine_roads.proofs.Nobody.{WaitAmong}
 
 -- its drop hasn't begun, and no tick or run lives
 pub record IsUnborrowed (w : World) : Type 0 where

@@ -11,10 +11,10 @@ use Rattle.machine_roads.specs.View.{Output}
 use Rattle.machine_roads.specs.Road.{AreNumbered, Follows, place_in, waking_in, who_of}
 use Rattle.machine_roads.proofs.Numbers.{numbered_still}
 
--- whether the executor's drop has begun and which futures that has still to drop, the machine's lock and turns, which futures are out to be polled, which wakers are kept, which ticks there are and how many may
--- sleep; and in which code the plain scheduler's calls stand
-unseen : (gone : Bool) (leaving : List ℕ) (lock : Lock) (kind : Bool) (waking : List ℕ) (turn : ℕ) (out : List Bool) (kept : List (Option ℕ)) (ticks : List Ticker)
-    (rooms : ℕ) (codes : List (Code Output Waker)) (w : World) (q : Plain Output Waker) → Follows w q
+-- whether the executor's drop has begun and which futures that has still to drop, the machine's lock and turns, which futures are out
+-- to be polled, which wakers are kept, which ticks there are and how many may sleep; and in which code the plain scheduler's calls stand
+unseen : (gone : Bool) (leaving : List ℕ) (lock : Lock) (kind : Bool) (waking : List ℕ) (turn : ℕ) (out : List Bool)
+    (kept : List (Option ℕ)) (ticks : List Ticker) (rooms : ℕ) (codes : List (Code Output Waker)) (w : World) (q : Plain Output Waker) → Follows w q
     → ((x : TickOrRun) → length (filter (lies (who_of x)) q.lying) ≡ sleeps (place_in ticks w.runs x))
     → AreNumbered ticks w.runs w.sleepers.wakers → waking ≡ waking_in codes
     → Follows
@@ -91,20 +91,23 @@ pub roomed : (ticks : List Ticker) (rooms : ℕ) (w : World) (q : Plain Output W
 roomed ticks rooms w q r same still =
     subst (λ b. Follows (record w { ticks = ticks; sleepers = record w.sleepers { rooms = rooms } }) (record q { is_static = b }))
     r.kind
-    (unseen w.gone w.leaving w.lock w.is_static w.waking w.urgent_turns w.inside w.wakers ticks rooms q.inside w q r (λ x. r.asleep x ∙ sym (same x))
+    (unseen w.gone w.leaving w.lock w.is_static w.waking w.urgent_turns w.inside w.wakers ticks rooms q.inside w q r
+    (λ x. r.asleep x ∙ sym (same x))
     (numbered_still w.ticks w.runs ticks w.runs still w.sleepers.wakers r.numbered) r.waking)
 
 -- the table has no wakers any more, and these are still to be woken
 pub leaked_so : (waking : List ℕ) (codes : List (Code Output Waker)) (w : World) (q : Plain Output Waker) → Follows w q
     → waking ≡ waking_in codes → Follows (record w { is_static = true; waking = waking }) (record q { is_static = true; inside = codes })
 leaked_so waking codes w q r woken =
-    unseen w.gone w.leaving w.lock true waking w.urgent_turns w.inside w.wakers w.ticks w.sleepers.rooms codes w q r r.asleep r.numbered woken
+    unseen w.gone w.leaving w.lock true waking w.urgent_turns w.inside w.wakers w.ticks w.sleepers.rooms codes w q r r.asleep
+    r.numbered woken
 
 -- the lock of the list of queues is taken or given back
 pub locked : (lock : Lock) (w : World) (q : Plain Output Waker) → Follows w q → Follows (record w { lock = lock }) q
 locked lock w q r =
     subst (λ b. Follows (record w { lock = lock }) (record q { is_static = b })) r.kind
-    (unseen w.gone w.leaving lock w.is_static w.waking w.urgent_turns w.inside w.wakers w.ticks w.sleepers.rooms q.inside w q r r.asleep r.numbered
+    (unseen w.gone w.leaving lock w.is_static w.waking w.urgent_turns w.inside w.wakers w.ticks w.sleepers.rooms q.inside w q r
+    r.asleep r.numbered
     r.waking)
 
 -- the executor's drop begins, or has come so far

@@ -23,12 +23,19 @@ pub record IsChosen (w : World) (q : Plain Output Waker) (c : Choice) : Type 0 w
   pub first : c.first ≡ first_of w.urgent_turns
   pub tells : length q.lying < c.tells
 
--- all calls but the polls and drops of runs; behind the executor's drop none is spoken of
+-- all calls but the polls and drops of runs, up to the executor's drop
 abbrev pub is_on_road : Call → Bool
 is_on_road (call.PollRun r b) = false
 is_on_road (call.DropRun r) = false
 is_on_road call.DropExecutor = false
 is_on_road _ = true
+
+-- calls by kept wakers, which may stand behind that
+abbrev pub is_behind : Call → Bool
+is_behind (call.Wake k) = true
+is_behind (call.WakeByRef k) = true
+is_behind (call.DropWaker k) = true
+is_behind _ = false
 
 -- which call of the plain scheduler it is: a kept waker is that of its future
 pub data IsCall (w : World) : Call → plain.Call Output Waker → Type 0 where
@@ -71,10 +78,13 @@ abbrev pub AreLone : Machine → List Lone → Type 0
 AreLone s [] = Unit {0}
 AreLone s (l ∷ ls) = IsLoneCall l.party l.call l.steps s l.left × AreLone l.left ls
 
+abbrev pub are_behind : List Lone → Bool
+are_behind [] = true
+are_behind (l ∷ ls) = is_behind l.call && are_behind ls
+
 abbrev pub are_on_road : List Lone → Bool
 are_on_road [] = true
-are_on_road (l ∷ []) = is_on_road l.call || is_drop l.call
-are_on_road (l ∷ ls) = is_on_road l.call && are_on_road ls
+are_on_road (l ∷ ls) = (is_on_road l.call && are_on_road ls) || (is_drop l.call && are_behind ls)
 
 -- both stand alike at each moment at which a call has ended
 abbrev pub GoAlike : Machine → Plain Output Waker → List Lone → Type 0

@@ -7,7 +7,8 @@ ghost use Rattle.machine_roads.specs.Lone.{LoneDetachLoses, LoneDropEnds, LoneGo
 ghost use Rattle.machine_roads.specs.Lone.{LoneDetaches, LoneHandleGoes, LoneHandlePolls};
 ghost use Rattle.machine_roads.specs.Lone.{LoneHandleWaits, LoneTickGoes, LoneTickIsMade};
 ghost use Rattle.machine_roads.specs.Lone.{LoneTickIsPolled, LoneTickLies, LoneTicksEnd, LoneTries};
-ghost use Rattle.machine_roads.specs.Lone.{LoneTriesEnd, LoneWakes};
+ghost use Rattle.machine_roads.specs.Lone.{LoneTriesEnd, LoneUsesBehind, LoneWakerGoesBehind, LoneWakes};
+ghost use Rattle.machine_roads.specs.Lone.{LoneWakesBehind};
 
 /// What a call leaves of the world, however it is told, a lone call leaves of each machine at rest,
 /// as long as the executor's drop hasn't begun: so it is here and below.
@@ -107,6 +108,14 @@ pub fn lone_drops_are_drops()
     ensures { EachLoneAlike LoneDropEnds }
 {}
 
+/// Behind that no task waits for a wake; and where none does, wakes by kept wakers, and the drops of
+/// these, leave both alike, whether the executor was dropped or not.
+pub fn lone_wakers_go_on_behind()
+    ensures uses { EachLoneAlike LoneUsesBehind }
+    ensures wakes { EachLoneAlike LoneWakesBehind }
+    ensures drops { EachLoneAlike LoneWakerGoesBehind }
+{}
+
 /// And so it is asked alone whether the executor is empty.
 pub fn lone_questions_are_answered()
     ensures { EachLoneAlike LoneEmpty }
@@ -114,7 +123,8 @@ pub fn lone_questions_are_answered()
 
 /// Lists of such calls of a new machine, one after the other, are lists of calls of the new plain
 /// scheduler, which looks first at the mark that the turn names and tells who lay down last: all calls
-/// but polls and drops of runs and the executor's drop.
+/// but polls and drops of runs, and then, if it comes to that, the executor's drop, with wakes by kept
+/// wakers and these wakers' drops behind it.
 pub fn lists_of_lone_calls_go_alike()
     ensures { ListsGoAlike }
 {}

@@ -24,12 +24,12 @@ use Rattle.plain_scheduler.specs.Moves.{appended, becomes, called, put, task}
 use Rattle.machine_roads.specs.View.{Output, view, wakes, waker_in}
 use Rattle.machine_roads.specs.Moving.{cancelled, CancelsAlike}
 use Rattle.machine_roads.specs.Road.{Follows, IsStored}
-use Rattle.machine_roads.specs.Alone.{is_resting}
+use Rattle.machine_roads.specs.Alone.{is_resting, Has}
 use Rattle.machine_roads.proofs.Calm.{cancelled_calm}
 use Rattle.machine_roads.proofs.Lists.{get_below, set_twice}
 use Rattle.machine_roads.proofs.Moving.{cancels_alike, cancels_over, cancels_open, cancels_queued}
 use Rattle.machine_roads.proofs.Marks.{queue_if, notify_if, cancelled_stored, cancelled_owes}
-use Rattle.machine_roads.proofs.Stepping.{Way, next}
+use Rattle.machine_roads.proofs.Stepping.{Way, WayOf, next, next_of}
 use Rattle.machine_roads.proofs.Puts.{put_asks, put_lying}
 use Rattle.machine_roads.proofs.Changing.{put_again, settles}
 use Rattle.machine_roads.proofs.Used.{unawaited, unawaits, used_asks}
@@ -76,38 +76,43 @@ cancel_output more keeps f q =
     by true = keeps f (appended f (put f left.task q)) ∙ put_so
     by false = put_so
 
-module _ (p : ℕ) (end : Done) (rests : is_resting end.next ≡ true) where
-  -- on the machine, it is left to be called or let go
-  pub record Took (f : ℕ) (mine : Bool) (w : World) (os : List Op) : Type 0 where
-    pub at : f < length w.tasks
-    pub same : Bool
-    pub way : Way p end (emptied f w) (told_ops (mine && same) f (awaiter_of w f) ++ os)
+-- on the machine, it is left to be called or let go
+pub record TookOf (Asked : World → Op → Type 0) (p : ℕ) (end : Done) (f : ℕ) (mine : Bool) (w : World) (os : List Op) : Type 0 where
+  pub at : f < length w.tasks
+  pub same : Bool
+  pub way : WayOf Asked p end (emptied f w) (told_ops (mine && same) f (awaiter_of w f) ++ os)
 
-  pub took : (f : ℕ) (mine : Bool) (w : World) (os : List Op) → (f < length w.tasks → IsStored (world.task w f) (awaiter_of w f))
-      → Way p end w (op.Handle (handle_op.Notify f mine) ∷ os) → Took f mine w os
-  took f mine w os is_stored way =
-      let one = next p end rests (op.Handle (handle_op.Notify f mine)) w os refl way in
-      let at : f < length w.tasks = one.has in
-      let s = world.task w f in
-      let stored = is_stored at in
-      let free : (s.notifying || s.registering) ≡ false =
-      ap (λ b. b || s.registering) stored.notifying ∙ stored.registering in
-      let first : World = world.put w f (moves.notify_by false s).state in
-      let two =
-      next p end rests (op.Handle (handle_op.EndNotify f mine)) first os refl
-      (subst (λ b. Way p end (notify_by b w f mine).world ((notify_by b w f mine).next ++ os)) free one.way) in
-      let here : world.task first f ≡ (moves.notify_by false s).state =
-      get_or-set_same w.tasks f (moves.notify_by false s).state blank at in
-      let last : State = record s { awaiter = false; notifying = false } in
-      let same : put_awaiter (world.put first f (moves.end_notify (world.task first f)).state) f None ≡ emptied f w =
-      ap (λ t. put_awaiter (world.put first f (moves.end_notify t).state) f None) here
-      ∙ ap (λ ts. record w { tasks = ts; awaiters = slice_set w.awaiters f None })
-      (set_twice w.tasks f (moves.notify_by false s).state last) in
-      record {
-        at = at;
-        same = two.hint.same;
-        way = subst (λ w. Way p end w (told_ops (mine && two.hint.same) f (awaiter_of first f) ++ os)) same two.way;
-      }
+pub took_of : (Asked : World → Op → Type 0) (p : ℕ) (end : Done) → is_resting end.next ≡ true → (f : ℕ) (mine : Bool) (w : World)
+    (os : List Op) → f < length w.tasks → IsStored (world.task w f) (awaiter_of w f)
+    → WayOf Asked p end w (op.Handle (handle_op.Notify f mine) ∷ os) → TookOf Asked p end f mine w os
+took_of Asked p end rests f mine w os at stored way =
+    let one = next_of Asked p end rests (op.Handle (handle_op.Notify f mine)) w os refl way in
+    let s = world.task w f in
+    let free : (s.notifying || s.registering) ≡ false =
+    ap (λ b. b || s.registering) stored.notifying ∙ stored.registering in
+    let first : World = world.put w f (moves.notify_by false s).state in
+    let two =
+    next_of Asked p end rests (op.Handle (handle_op.EndNotify f mine)) first os refl
+    (subst (λ b. WayOf Asked p end (notify_by b w f mine).world ((notify_by b w f mine).next ++ os)) free one.way) in
+    let here : world.task first f ≡ (moves.notify_by false s).state =
+    get_or-set_same w.tasks f (moves.notify_by false s).state blank at in
+    let last : State = record s { awaiter = false; notifying = false } in
+    let same : put_awaiter (world.put first f (moves.end_notify (world.task first f)).state) f None ≡ emptied f w =
+    ap (λ t. put_awaiter (world.put first f (moves.end_notify t).state) f None) here
+    ∙ ap (λ ts. record w { tasks = ts; awaiters = slice_set w.awaiters f None })
+    (set_twice w.tasks f (moves.notify_by false s).state last) in
+    record {
+      at = at;
+      same = two.hint.same;
+      way = subst (λ w. WayOf Asked p end w (told_ops (mine && two.hint.same) f (awaiter_of first f) ++ os)) same two.way;
+    }
+
+pub took : (p : ℕ) (end : Done) → is_resting end.next ≡ true → (f : ℕ) (mine : Bool) (w : World) (os : List Op)
+    → (f < length w.tasks → IsStored (world.task w f) (awaiter_of w f)) → Way p end w (op.Handle (handle_op.Notify f mine) ∷ os)
+    → TookOf Has p end f mine w os
+took p end rests f mine w os is_stored way =
+    let at : f < length w.tasks = (next p end rests (op.Handle (handle_op.Notify f mine)) w os refl way).has in
+    took_of Has p end rests f mine w os at (is_stored at) way
 
 module _ (p : ℕ) (end : Done) (rests : is_resting end.next ≡ true) (more : Plain Output Waker → Plain Output Waker)
     (P : Plain Output Waker → Type 0) (teller : Tells p end more P) where

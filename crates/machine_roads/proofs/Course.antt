@@ -1,7 +1,8 @@
 -- Lone calls of the machine, one after the other, are calls of the plain scheduler.
-use Rattle.std.proofs.Common.{◌≡◌, ℕ, suc, ◌<◌, ◌≤◌, ◌&&◌, not, Bool, true, false, List, [], ◌∷◌, length, Option, Some, None}
-use Rattle.std.proofs.Common.{is_some as is_there, refl, sym, ap, ◌∙◌, arith}
+use Rattle.std.proofs.Common.{◌≡◌, ℕ, suc, ◌<◌, ◌≤◌, ◌&&◌, ◌||◌, not, Bool, true, false, List, [], ◌∷◌, length, Option, Some, None}
+use Rattle.std.proofs.Common.{is_some as is_there, refl, sym, ap, subst, ◌∙◌, arith}
 use Rattle.executor_parts.specs.Marks.{first_of}
+use Rattle.task_moves.specs.AbstractTask as abstract
 use Rattle.executor_model.specs.declared.call.Call.{Call}
 use Rattle.executor_model.specs.declared.call.Call.TheVariants as call
 use Rattle.executor_model.specs.declared.op.Op.{Op}
@@ -10,8 +11,8 @@ use Rattle.executor_model.specs.declared.step.Step.{Step}
 use Rattle.executor_model.specs.declared.step.Step.TheVariants.{Begin}
 use Rattle.executor_model.specs.Quiet.{IsQuiet}
 use Rattle.executor_model.specs.Rows.{lending_of}
-use Rattle.executor_model.specs.Steps.{Machine, future_of, has_all, is_some, is_static_kind, is_unused, kept, mine, stack, start, top}
-use Rattle.executor_model.specs.Steps.{waker_of}
+use Rattle.executor_model.specs.Steps.{Machine, future_of, has_all, is_drop, is_some, is_static_kind, is_unused, kept, mine, stack}
+use Rattle.executor_model.specs.Steps.{start, top, waker_of}
 use Rattle.executor_model.specs.World.{done, task}
 use Rattle.executor_model.proofs.Quiet.Resting.{rests}
 use Rattle.executor_model.proofs.Steps.Reached.{Reached, deep-here, reached-more, run-first}
@@ -24,10 +25,11 @@ use Rattle.plain_scheduler.specs.Calls.{does, is_granted, new as new_plain}
 use Rattle.machine_roads.specs.View.{Output, wakes}
 use Rattle.machine_roads.specs.Road.{Follows}
 use Rattle.machine_roads.specs.Alike.{begins, refused_first, refuses_first, refuses_second, upon}
-use Rattle.machine_roads.specs.Lone.{ends as ends_with, over}
-use Rattle.machine_roads.specs.Course.{AreLone, GoAlike, GoesBy, IsCall, IsChosen, ListsGoAlike, Lone, are_on_road, is_on_road}
-use Rattle.machine_roads.specs.Course.{cancel, copy, detach, drop_handle, drop_tick, is_empty, leak, new_run, new_tick, poll_handle}
-use Rattle.machine_roads.specs.Course.{poll_tick, release, spawn, try_tick, use_waker, wake}
+use Rattle.machine_roads.specs.Lone.{NoneWaits, ends as ends_with, over}
+use Rattle.machine_roads.specs.Course.{AreLone, GoAlike, GoesBy, IsCall, IsChosen, ListsGoAlike, Lone, are_behind, are_on_road}
+use Rattle.machine_roads.specs.Course.{is_behind, is_on_road}
+use Rattle.machine_roads.specs.Course.{cancel, copy, detach, drop_executor, drop_handle, drop_tick, is_empty, leak, new_run, new_tick}
+use Rattle.machine_roads.specs.Course.{poll_handle, poll_tick, release, spawn, try_tick, use_waker, wake}
 use Rattle.machine_roads.proofs.Calling.{begin_alike, cancels, copies_kept, detaches, empty_alike, handle_goes, spawns, uses_alike}
 use Rattle.machine_roads.proofs.Calling.{waker_goes, wakes_kept}
 use Rattle.machine_roads.proofs.Cancelling.{cancel_output}
@@ -36,12 +38,15 @@ use Rattle.machine_roads.proofs.Inside.{cancel_inside, copy_inside, detach_insid
 use Rattle.machine_roads.proofs.Inside.{release_inside, run_inside, spawn_inside, tick_inside, use_inside, wake_inside}
 use Rattle.machine_roads.proofs.Leaking.{leak_inside}
 use Rattle.machine_roads.proofs.Lists.{clash}
+use Rattle.machine_roads.proofs.LoneBehind.{goes_behind_so, uses_behind_so, wakes_behind_so}
+use Rattle.machine_roads.proofs.LoneCloses.{drop_ends_so}
 use Rattle.machine_roads.proofs.LoneLosing.{detach_loses_so, goes_with_output_so}
 use Rattle.machine_roads.proofs.LoneRuns.{both_true, lone_calls_so, tells}
 use Rattle.machine_roads.proofs.LoneTakes.{leaks_so, run_made_so}
 use Rattle.machine_roads.proofs.LoneTicks.{may_begin, there_all}
 use Rattle.machine_roads.proofs.LoneTries.{ticks_end_so, tries_end_so}
 use Rattle.machine_roads.proofs.Open.{IsOpen, stays_open}
+use Rattle.machine_roads.proofs.Nobody.{put_none, release_calmly, released_waits, used_calmly, wake_calmly, woken_waits}
 use Rattle.machine_roads.proofs.PollCalls.{polls}
 use Rattle.machine_roads.proofs.Ticking.{makes_tick, tick_goes}
 use Rattle.machine_roads.proofs.Tying.{Leads}
@@ -58,21 +63,28 @@ granted_as : (b : Bool) → is_granted (refused_as b) ≡ not b
 granted_as true = refl
 granted_as false = refl
 
+-- what is chosen in a call of this machine, as memory is refused
+abbrev choice_in : Machine → Plain Output Waker → Refusal → Choice
+choice_in s q r =
+    record {
+      first = first_of s.world.urgent_turns;
+      keeps = [];
+      robs = 0;
+      moves = 0;
+      tells = suc (length q.lying);
+      refusal = r;
+    }
+
+more_by_one : (n : ℕ) → n < suc n
+more_by_one n = omega arith
+
 module _ (s : Machine) (reached : Reached s) (q : Plain Output Waker) (quiet : IsQuiet s.world.trace) (follows : Follows s.world q)
     (nowhere : q.inside ≡ []) (p : ℕ) (steps : List Step) (new : Machine) (later : new.world.gone ≡ false) where
   abbrev choice : Refusal → Choice
-  choice r =
-      record {
-        first = first_of s.world.urgent_turns;
-        keeps = [];
-        robs = 0;
-        moves = 0;
-        tells = suc (length q.lying);
-        refusal = r;
-      }
+  choice r = choice_in s q r
 
   below : length q.lying < suc (length q.lying)
-  below = omega arith
+  below = more_by_one (length q.lying)
 
   many : length q.lying ≤ suc (length q.lying)
   many = omega arith
@@ -269,16 +281,116 @@ module _ (s : Machine) (reached : Reached s) (q : Plain Output Waker) (quiet : I
       (leaks_so s reached q quiet follows p (choice Granted) steps nowhere many new later lone)
   one_call call.DropExecutor on_road lone = absurd cc
 
+-- a call by a kept waker, where no task waits for a wake
+module _ (s : Machine) (reached : Reached s) (q : Plain Output Waker) (quiet : IsQuiet s.world.trace) (follows : Follows s.world q)
+    (none : NoneWaits q) (p : ℕ) (steps : List Step) (new : Machine) where
+  abbrev Behind : Call → Type 0
+  Behind c = (z : Plain Output Waker) × GoesBy s.world c q z × Follows new.world z × NoneWaits z
+
+  abbrev its_choice : Choice
+  its_choice = choice_in s q Granted
+
+  abbrev telling : Plain Output Waker → Plain Output Waker
+  telling q = tell wakes its_choice q
+
+  all_there : (c : Call) → IsLoneCall p c steps s new → has_all s.world s.parties (top (stack s p)) c ≡ true
+  all_there c lone =
+      there_all s.world s.parties (top (stack s p)) c (may_begin s p c (run-first (Begin p c) steps s new lone.made).0)
+
+  kept_there : (k : ℕ) → (is_some (kept s.world k) && is_unused (lending_of k) s.parties) ≡ true
+      → (f : ℕ) × (kept s.world k ≡ Some f)
+  kept_there k is = some_kept (kept s.world k) (both_true (is_some (kept s.world k)) (is_unused (lending_of k) s.parties) is).0
+
+  behind : (c : Call) (x : plain_calls.Call Output Waker) → IsCall s.world c x → (does wakes its_choice x q).inside ≡ q.inside
+      → Follows new.world (does wakes its_choice x q) → NoneWaits (does wakes its_choice x q) → Behind c
+  behind c x is inside leaves calm =
+      let z : Plain Output Waker = does wakes its_choice x q in (
+        z,
+        record {
+          choice = its_choice;
+          made = x;
+          chosen = record { first = refl; tells = more_by_one (length q.lying) };
+          is = is;
+          ended = over z;
+          inside = inside;
+        },
+        leaves,
+        calm,
+      )
+
+  one_behind : (c : Call) → is_behind c ≡ true → IsLoneCall p c steps s new → Behind c
+  one_behind (call.Wake k) is lone =
+      let f = kept_there k (all_there (call.Wake k) lone) in
+      let t = plain.task f.0 q in
+      behind (call.Wake k) (plain_calls.Use f.0) (use_waker k f.0 f.1) (use_inside its_choice q f.0)
+      (uses_behind_so s reached q quiet follows p k f.0 its_choice steps none f.1 new lone)
+      (subst (λ z. NoneWaits z) (sym (used_calmly telling f.0 q none))
+      (put_none f.0 (abstract.release (abstract.wake t)) q (released_waits (abstract.wake t) (woken_waits t)) none))
+  one_behind (call.WakeByRef k) is lone =
+      let f = some_kept (kept s.world k) (all_there (call.WakeByRef k) lone) in
+      let t = plain.task f.0 q in
+      behind (call.WakeByRef k) (plain_calls.Wake f.0) (wake k f.0 f.1) (wake_inside its_choice q f.0)
+      (wakes_behind_so s reached q quiet follows p k f.0 its_choice steps none f.1 new lone)
+      (subst (λ z. NoneWaits z) (sym (wake_calmly telling f.0 q (none f.0))) (put_none f.0 (abstract.wake t) q (woken_waits t) none))
+  one_behind (call.DropWaker k) is lone =
+      let f = kept_there k (all_there (call.DropWaker k) lone) in
+      let t = plain.task f.0 q in
+      behind (call.DropWaker k) (plain_calls.Release f.0) (release k f.0 f.1) (release_inside its_choice q f.0)
+      (goes_behind_so s reached q quiet follows p k f.0 its_choice steps none f.1 new lone)
+      (subst (λ z. NoneWaits z) (sym (release_calmly telling f.0 q (none f.0)))
+      (put_none f.0 (abstract.release t) q (released_waits t (none f.0)) none))
+  one_behind c is lone = absurd cc
+
+behind_go : (s : Machine) → Reached s → (q : Plain Output Waker) → IsQuiet s.world.trace → Follows s.world q → NoneWaits q
+    → (ls : List Lone) → AreLone s ls → are_behind ls ≡ true → GoAlike s q ls
+behind_go s reached q quiet follows none [] lone on_road = follows
+behind_go s reached q quiet follows none (l ∷ ls) lone on_road =
+    let both = both_true (is_behind l.call) (are_behind ls) on_road in
+    let next = reached-more (Begin l.party l.call ∷ l.steps) s l.left reached lone.0.made in
+    let one = one_behind s reached q quiet follows none l.party l.steps l.left l.call both.0 lone.0 in
+    (follows, (one.0, one.1, behind_go l.left next one.0 lone.0.ended one.2 one.3 ls lone.1 both.1))
+
+-- the executor's drop, behind which no task waits
+one_drop : (s : Machine) → Reached s → (q : Plain Output Waker) → IsQuiet s.world.trace → Follows s.world q → q.inside ≡ [] → (p : ℕ)
+    (steps : List Step) (new : Machine) (c : Call) → is_drop c ≡ true → IsLoneCall p c steps s new
+    → (z : Plain Output Waker) × GoesBy s.world c q z × Follows new.world z × NoneWaits z
+one_drop s reached q quiet follows nowhere p steps new call.DropExecutor is lone =
+    let c : Choice = choice_in s q Granted in
+    let e = drop_ends_so s reached q quiet follows p c steps nowhere new lone in (
+      e.0,
+      record {
+        choice = c;
+        made = plain_calls.DropExecutor;
+        chosen = record { first = refl; tells = more_by_one (length q.lying) };
+        is = drop_executor;
+        ended = e.1;
+        inside = e.2;
+      },
+      e.3,
+      e.4,
+    )
+one_drop s reached q quiet follows nowhere p steps new c is lone = absurd cc
+
 lists_go : (s : Machine) → Reached s → (q : Plain Output Waker) → IsQuiet s.world.trace → Follows s.world q → q.inside ≡ []
     → IsOpen s.world → (ls : List Lone) → AreLone s ls → are_on_road ls ≡ true → GoAlike s q ls
 lists_go s reached q quiet follows nowhere open_now [] lone on_road = follows
 lists_go s reached q quiet follows nowhere open_now (l ∷ ls) lone on_road =
-    let both = both_true (is_on_road l.call) (are_on_road ls) on_road in
+    by (is_on_road l.call && are_on_road ls) refl on_road (λ on.
+    let both = both_true (is_on_road l.call) (are_on_road ls) on in
     let next = reached-more (Begin l.party l.call ∷ l.steps) s l.left reached lone.0.made in
     let later = stays_open s l.left l.party l.call l.steps both.0 lone.0 open_now in
     let one =
     one_call s reached q quiet follows nowhere l.party l.steps l.left (sym (tells l.left next) ∙ later) l.call both.0 lone.0 in
-    (follows, (one.0, one.1, lists_go l.left next one.0 lone.0.ended one.2 (one.1.inside ∙ nowhere) later ls lone.1 both.1))
+    (follows, (one.0, one.1, lists_go l.left next one.0 lone.0.ended one.2 (one.1.inside ∙ nowhere) later ls lone.1 both.1)))
+  where
+    by : (b : Bool) → (is_on_road l.call && are_on_road ls) ≡ b → (b || (is_drop l.call && are_behind ls)) ≡ true
+        → ((is_on_road l.call && are_on_road ls) ≡ true → GoAlike s q (l ∷ ls)) → GoAlike s q (l ∷ ls)
+    by true on drops goes = goes on
+    by false off drops goes =
+        let both = both_true (is_drop l.call) (are_behind ls) drops in
+        let next = reached-more (Begin l.party l.call ∷ l.steps) s l.left reached lone.0.made in
+        let one = one_drop s reached q quiet follows nowhere l.party l.steps l.left l.call both.0 lone.0 in
+        (follows, (one.0, one.1, behind_go l.left next one.0 lone.0.ended one.2 one.3 ls lone.1 both.1))
 
 pub lists : ListsGoAlike
 lists limit kind parties ls lone on_road =

@@ -69,14 +69,14 @@ last_one k is = omega (arith, one k is)
     one : (k : ℕ) → (k == 1) ≡ true → k ≡ 1
     one k is = grind (arith, nat_tests)
 
-gave_up : (s : State) → (moves.give_up s).state ≡ record s { references = s.references - 1 }
+pub gave_up : (s : State) → (moves.give_up s).state ≡ record s { references = s.references - 1 }
 gave_up s = by (moves.is_last s) refl
   where
     by : (b : Bool) → moves.is_last s ≡ b → (moves.give_up_by b s).state ≡ record s { references = s.references - 1 }
     by false is = refl
     by true is = ap (λ k. record s { references = k }) (last_one s.references (one_of (s.references == 1) (not s.handle) is))
 
-gave_up_owes : (there : Bool) (f : ℕ) (b : Bool) (s : State) → owed_ops there f (moves.give_up_by b s).owed ≡ []
+pub gave_up_owes : (there : Bool) (f : ℕ) (b : Bool) (s : State) → owed_ops there f (moves.give_up_by b s).owed ≡ []
 gave_up_owes there f true s = refl
 gave_up_owes there f false s = refl
 

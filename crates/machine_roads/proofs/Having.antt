@@ -1,11 +1,13 @@
 -- In each machine of which the executor's drop hasn't begun, what the next thing to do speaks of is there.
-use Rattle.std.proofs.Common.{◌≡◌, ℕ, ◌<◌, ◌≤◌, ◌&&◌, ◌||◌, not, nat_lt, Bool, true, false, [], ◌∷◌, length}
+use Rattle.std.proofs.Common.{◌≡◌, ℕ, ◌<◌, ◌≤◌, ◌&&◌, ◌||◌, not, nat_lt, Bool, true, false, List, [], ◌∷◌, length}
 use Rattle.std.proofs.Common.{Some, if◌then◌else◌, refl, sym, ap, subst, ◌∙◌, arith}
 use Rattle.std.proofs.Common.{inl, ⊎_elim}
 use Rattle.std.proofs.lemmas.Bool.Decides.{nat_tests}
+use Rattle.task_moves.specs.declared.moves.owed.Move.{Move}
 use Rattle.task_moves.specs.declared.moves.owed.Move.TheVariants as move
 use Rattle.task_moves.specs.LocalTask.{token}
 use Rattle.task_moves.specs.Moves.{is_going}
+use Rattle.executor_model.specs.declared.op.ClosingOp.{ClosingOp}
 use Rattle.executor_model.specs.declared.op.ClosingOp.TheVariants as closing_op
 use Rattle.executor_model.specs.declared.op.HandleOp.TheVariants as handle_op
 use Rattle.executor_model.specs.declared.op.Op.{Op}
@@ -37,6 +39,24 @@ use Rattle.executor_model.proofs.Table.LeavingExecutions.{has-place}
 use Rattle.machine_roads.specs.Alone.{CanCopy, Has, SleepsAlone}
 use Rattle.machine_roads.specs.Moving.{IsQueued}
 use Rattle.machine_roads.proofs.Lists.{clash}
+
+-- what is there at each moment, also once the executor's drop has begun: a place in the queue, whether that is closed or not
+abbrev pub MoveHasIn : Move → World → ℕ → Type 0
+MoveHasIn move.Release w f = token (task w f) < (task w f).references
+MoveHasIn move.DropRunnable w f = IsQueued (task w f)
+MoveHasIn m w f = Unit {0}
+
+abbrev pub ClosingHasIn : World → ClosingOp → Type 0
+ClosingHasIn w closing_op.DropNext = (f : ℕ) (rest : List ℕ) → w.leaving ≡ f ∷ rest → IsKnown w f
+ClosingHasIn w closing_op.WakeNext = (f : ℕ) (rest : List ℕ) → w.waking ≡ f ∷ rest → IsKnown w f
+ClosingHasIn w _ = Unit {0}
+
+abbrev pub HasIn : World → Op → Type 0
+HasIn w (op.Move m f) = IsKnown w f × MoveHasIn m w f
+HasIn w (op.Queue (queue_op.Append f)) = nat_lt (length (queue_of w (mark_of w f)).items) w.limit ≡ true
+HasIn w (op.Waker (waker_op.CallAwaiter f a k)) = IsKnownWaker w a
+HasIn w (op.Closing o) = ClosingHasIn w o
+HasIn w _ = Unit {0}
 
 pub heard_here : (s : Machine) → Reached s → Heard s
 heard_here s r = subst Heard (sym r.is) (heard r.limit r.kind r.parties r.steps)
@@ -116,10 +136,24 @@ module _ (s : Machine) (p : ℕ) (reached : Reached s) (there : p < length s.par
       by false off few =
           ap (λ b. not b && nat_lt (length (queue_of s.world (mark_of s.world f)).items) s.world.limit) off ∙ few
 
+  -- who has a Runnable in hand has that of a queued task
+  in_hand : (f : ℕ) → 1 ≤ (pend f s.parties).waiting → IsQueued (task s.world f)
+  in_hand f waits =
+      let k : Sound s.world f (pend f s.parties) = good.sound f in
+      record {
+        scheduled = k.carries (omega (arith, waits));
+        running = resting (task s.world f).running refl;
+        completed = k.live (omega (arith, waits));
+        counted = omega (arith, waits, k.counted);
+      }
+    where
+      resting : (b : Bool) → (task s.world f).running ≡ b → (task s.world f).running ≡ false
+      resting false off = off
+      resting true on = absurd (omega (arith, waits, (good.sound f).one, (good.sound f).going on))
+
   taken_up : (f : ℕ) → s.world.gone ≡ false → top (stack s p) ≡ Some (op.Move move.TakeUp f)
       → IsQueued (task s.world f) × (among f s.world.table ≡ true)
   taken_up f open_still is =
-      let k : Sound s.world f (pend f s.parties) = good.sound f in
       let x = (heard_here s reached).placed.leaves f in
       let waits : 1 ≤ (pend f s.parties).waiting =
       omega (
@@ -128,20 +162,11 @@ module _ (s : Machine) (p : ℕ) (reached : Reached s) (there : p < length s.par
             (topped (stack s p) (op.Move move.TakeUp f) is),
         same_self f,
       ) in (
-        record {
-          scheduled = k.carries (omega (arith, waits));
-          running = resting waits (task s.world f).running refl;
-          completed = k.live (omega (arith, waits));
-          counted = omega (arith, waits, k.counted);
-        },
+        in_hand f waits,
         entry (among f s.world.table) refl
             (omega (arith, waits, x.runs (omega (arith, waits)), x.stay open_still, x.table (inl open_still))),
       )
     where
-      resting : 1 ≤ (pend f s.parties).waiting → (b : Bool) → (task s.world f).running ≡ b → (task s.world f).running ≡ false
-      resting waits false off = off
-      resting waits true on = absurd (omega (arith, waits, (good.sound f).one, (good.sound f).going on))
-
       entry : (b : Bool) → among f s.world.table ≡ b → 1 ≤ times f s.world.table → among f s.world.table ≡ true
       entry true here some = here
       entry false none some =
@@ -194,3 +219,35 @@ module _ (s : Machine) (p : ℕ) (reached : Reached s) (there : p < length s.par
       (open_still, λ f rest here. (needs s p (op.Closing closing_op.LeakNext) there is good f rest here).0)
   has_here (op.Handle o) open_still is = needs s p (op.Handle o) there is good
   has_here o open_still is = tt
+
+  -- a Runnable that comes to its queue finds a place there, and one that is dropped is that of a queued task
+  placed : (f : ℕ) → top (stack s p) ≡ Some (op.Queue (queue_op.Append f))
+      → nat_lt (length (queue_of s.world (mark_of s.world f)).items) s.world.limit ≡ true
+  placed f is =
+      below_test (length (queue_of s.world (mark_of s.world f)).items) s.world.limit
+      (has-place s p f (below_top (stack s p)) there (topped (stack s p) (op.Queue (queue_op.Append f)) is) good
+      (heard_here s reached).placed (mark_of s.world f))
+
+  dropped : (f : ℕ) → top (stack s p) ≡ Some (op.Move move.DropRunnable f) → IsQueued (task s.world f)
+  dropped f is =
+      in_hand f
+      (omega (
+        arith,
+        split (waiting_of f) s.parties p (op.Move move.DropRunnable f ∷ []) (below_top (stack s p)) there
+            (topped (stack s p) (op.Move move.DropRunnable f) is),
+        same_self f,
+      ))
+
+  -- whatever has begun
+  pub has_in : (o : Op) → top (stack s p) ≡ Some o → HasIn s.world o
+  has_in (op.Move move.Release f) is = ((needs s p (op.Move move.Release f) there is good).0.0, released f is)
+  has_in (op.Move move.DropRunnable f) is = ((needs s p (op.Move move.DropRunnable f) there is good).0.0, dropped f is)
+  has_in (op.Move m f) is = ((needs s p (op.Move m f) there is good).0.0, tt)
+  has_in (op.Queue (queue_op.Append f)) is = placed f is
+  has_in (op.Waker (waker_op.CallAwaiter f a k)) is =
+      known_by s.world a (needs s p (op.Waker (waker_op.CallAwaiter f a k)) there is good)
+  has_in (op.Closing closing_op.DropNext) is =
+      λ f rest here. subst (λ n. f < n) good.fits.inside (needs s p (op.Closing closing_op.DropNext) there is good f rest here)
+  has_in (op.Closing closing_op.WakeNext) is =
+      λ f rest here. (needs s p (op.Closing closing_op.WakeNext) there is good f rest here).0
+  has_in o is = tt

@@ -49,7 +49,7 @@ module _ (codes : List (Code Output Waker)) where
       by None = refl
       by (Some x) = refl
 
-  becomes_blind : (more : Plain Output Waker → Plain Output Waker) → IsBlind more → (g : ℕ) (new : AbstractTask Output Waker)
+  pub becomes_blind : (more : Plain Output Waker → Plain Output Waker) → IsBlind more → (g : ℕ) (new : AbstractTask Output Waker)
       → IsBlind (becomes wakes more g new)
   becomes_blind more blind g new q = by (is_some (info_of (task g q) new))
     where
@@ -92,14 +92,14 @@ module _ (codes : List (Code Output Waker)) where
       (becomes_blind (tell wakes c) (tell_blind c) f (abstract.wake (task f q)) q)
       ∙ becomes_blind (tell wakes c) (tell_blind c) f (abstract.release (task f z)) z
 
-freed_inside : (c : Choice) (ws : List ℕ) (q : Plain Output Waker) → (each ws (freed wakes c) q).inside ≡ q.inside
+pub freed_inside : (c : Choice) (ws : List ℕ) (q : Plain Output Waker) → (each ws (freed wakes c) q).inside ≡ q.inside
 freed_inside c [] q = refl
 freed_inside c (f ∷ ws) q =
     let z : Plain Output Waker = wake wakes (tell wakes c) f q in
     freed_inside c ws (freed wakes c f q)
     ∙ (becomes_inside c f (abstract.release (task f z)) z ∙ becomes_inside c f (abstract.wake (task f q)) q)
 
-take_all : (ws : List ℕ) → take (length ws - 0) ws ≡ ws
+pub take_all : (ws : List ℕ) → take (length ws - 0) ws ≡ ws
 take_all ws = ap (λ n. take n ws) (nothing_less (length ws)) ∙ all ws
   where
     nothing_less : (n : ℕ) → n - 0 ≡ n

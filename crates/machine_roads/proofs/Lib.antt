@@ -46,6 +46,12 @@ pub mod LoneTicks
 pub mod LoneTakes
 pub mod LoneTries
 pub mod Leaking
+pub mod Nobody
+pub mod Rousing
+pub mod Sweeping
+pub mod Unborrowed
+pub mod LoneCloses
+pub mod LoneBehind
 pub mod RunsMade
 pub mod Inside
 pub mod Open

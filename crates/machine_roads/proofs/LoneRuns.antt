@@ -37,8 +37,8 @@ use Rattle.machine_roads.specs.Road.{Follows}
 use Rattle.machine_roads.specs.Lone.{LoneCallIsAlone}
 use Rattle.machine_roads.proofs.Lists.{clash, same_of}
 use Rattle.machine_roads.proofs.Having.{has_here, heard_here}
-use Rattle.machine_roads.proofs.Tying.{AtEnd, Goes, Leads, LeadsSo, answers, ended, goes, leads_ended, leads_on, leads_outside}
-use Rattle.machine_roads.proofs.Tying.{leads_rest, none_of, settles, top_of}
+use Rattle.machine_roads.proofs.Tying.{AtEnd, Goes, IsEasy, Leads, LeadsSo, LeadsSoOf, answers, ended, goes, has_easy, leads_ended}
+use Rattle.machine_roads.proofs.Tying.{leads_on, leads_outside, leads_rest, none_of, settles, top_of}
 
 pub made_is : (s new : Machine) → ◌≡◌ {A = Result Machine StepError} (Ok s) (Ok new) → s ≡ new
 made_is s new is = ap (λ (r : Result Machine StepError). by r) is
@@ -98,17 +98,25 @@ pub both_true : (a b : Bool) → (a && b) ≡ true → (a ≡ true) × (b ≡ tr
 both_true true b is = (refl, is)
 both_true false b is = absurd cc
 
-module _ (p : ℕ) (R : Done → Type 0) where
-  -- one step, and what is then left of it
-  pub record Onward (new : Machine) (ts : List Step) : Type 0 where
-    pub machine : Machine
-    pub todo : List Op
-    pub reached : Reached machine
-    pub there : p < length machine.parties
-    pub is : reverse (stack machine p) ≡ todo
-    pub leads : LeadsSo p (done machine.world todo) R
-    pub made : run_all ts machine ≡ Ok new
+-- in a machine of this kind each thing to do has what is asked of it, and so it is in those before
+pub record Walks (Asked : World → Op → Type 0) (Fine : Machine → Type 0) : Type 0 where
+  pub easy : IsEasy Asked
+  pub gives : (s : Machine) (p : ℕ) → Reached s → p < length s.parties → Fine s → (o : Op) → top (stack s p) ≡ Some o
+      → Asked s.world o
+  pub back : (ts : List Step) (s new : Machine) → Reached s → run_all ts s ≡ Ok new → Fine new → Fine s
 
+-- where the executor's drop hasn't begun
+abbrev pub IsBefore : Machine → Type 0
+IsBefore s = s.world.gone ≡ false
+
+pub before : Walks Has IsBefore
+before = record {
+  easy = has_easy;
+  gives = λ s p reached there open_still o is. has_here s p reached there o open_still is;
+  back = gone_before;
+}
+
+module _ (p : ℕ) (R : Done → Type 0) where
   -- it rests in user code, which ends so, and goes on
   pub record InCode (new : Machine) : Type 0 where
     pub machine : Machine
@@ -124,28 +132,41 @@ module _ (p : ℕ) (R : Done → Type 0) where
     pub made : run_all (Answer p end ∷ steps) machine ≡ Ok new
     pub follow : are_onward_of p steps ≡ true
 
-  data Comes (new : Machine) (ts : List Step) : Type 0 where
-    Further : Onward new ts → Comes new ts
-    Stands : InCode new → Comes new ts
-
   -- where it rests first: at its end, or in user code
   pub data Rests (new : Machine) : Type 0 where
     Whole : R (done new.world []) → Rests new
     Inside : InCode new → Rests new
 
-  module _ (s new : Machine) (reached : Reached s) (there : p < length s.parties) (later : new.world.gone ≡ false) where
+module _ (Asked : World → Op → Type 0) (Fine : Machine → Type 0) (walks : Walks Asked Fine) (p : ℕ) (R : Done → Type 0) where
+  -- one step, and what is then left of it
+  pub record OnwardOf (new : Machine) (ts : List Step) : Type 0 where
+    pub machine : Machine
+    pub todo : List Op
+    pub reached : Reached machine
+    pub there : p < length machine.parties
+    pub is : reverse (stack machine p) ≡ todo
+    pub leads : LeadsSoOf Asked p (done machine.world todo) R
+    pub made : run_all ts machine ≡ Ok new
+
+  data Comes (new : Machine) (ts : List Step) : Type 0 where
+    Further : OnwardOf new ts → Comes new ts
+    Stands : InCode p R new → Comes new ts
+
+  module _ (s new : Machine) (reached : Reached s) (there : p < length s.parties) (later : Fine new) where
     still_there : (t : Step) → p < length (after s t).parties
     still_there t = subst (λ n. p < n) (sym (length-set s.parties _ _)) there
 
-    pub onward : (t : Step) (ts : List Step) (d : Done) → Goes p s (after s t) d → LeadsSo p (done d.world d.next) R
-        → refusal s t ≡ None → run_all ts (after s t) ≡ Ok new → Onward new ts
-    onward t ts d goes leads may made = record {
+    pub onward_of : (t : Step) (ts : List Step) (d : Done) → Goes p s (after s t) d → LeadsSoOf Asked p (done d.world d.next) R
+        → refusal s t ≡ None → run_all ts (after s t) ≡ Ok new → OnwardOf new ts
+    onward_of t ts d goes leads may made = record {
       machine = after s t;
       todo = (ended p d.world d.next).next;
       reached = reached-step s t may reached;
       there = still_there t;
       is = goes.todo;
-      leads = subst (λ w. LeadsSo p (done w (ended p d.world d.next).next) R) (sym goes.world) (leads_ended p R d.world d.next leads);
+      leads =
+          subst (λ w. LeadsSoOf Asked p (done w (ended p d.world d.next).next) R) (sym goes.world)
+          (leads_ended Asked walks.easy p R d.world d.next leads);
       made = made;
     }
 
@@ -162,10 +183,10 @@ module _ (p : ℕ) (R : Done → Type 0) where
         ∙ (sym (refusal-there s (Answer p e) there) ∙ (ap (λ n. refusal s (Answer n e)) (same_of p q on) ∙ may)) in
         cc
 
-    module _ (o : Op) (os : List Op) (is : reverse (stack s p) ≡ o ∷ os) (leads : LeadsSo p (done s.world (o ∷ os)) R)
+    module _ (o : Op) (os : List Op) (is : reverse (stack s p) ≡ o ∷ os) (leads : LeadsSoOf Asked p (done s.world (o ∷ os)) R)
         (ts : List Step) where
-      by_go : (h : Hint) → refusal s (Go p h) ≡ None → run_all ts (after s (Go p h)) ≡ Ok new → s.world.gone ≡ false
-          → Onward new ts
+      by_go : (h : Hint) → refusal s (Go p h) ≡ None → run_all ts (after s (Go p h)) ≡ Ok new → Fine s
+          → OnwardOf new ts
       by_go h may made open_still =
           let its_top = (top_of (stack s p) o os is).0 in
           let goes_on : unless (not (waits o)) WrongAnswer (unless (not (is_locked_out s.world.lock o)) Waits None) ≡ None =
@@ -173,8 +194,8 @@ module _ (p : ℕ) (R : Done → Type 0) where
           let free =
           not_true (waits o)
           (passed (not (waits o)) WrongAnswer (unless (not (is_locked_out s.world.lock o)) Waits None) goes_on) in
-          onward (Go p h) ts (done (act p h o s.world).world ((act p h o s.world).next ++ os)) (goes p s there o os is h)
-          (leads_on p R h o s.world os free (has_here s p reached there o open_still its_top) leads) may made
+          onward_of (Go p h) ts (done (act p h o s.world).world ((act p h o s.world).next ++ os)) (goes p s there o os is h)
+          (leads_on Asked walks.easy p R h o s.world os free (walks.gives s p reached there open_still o its_top) leads) may made
 
       by_answer : (e : UserEnd) → are_onward_of p ts ≡ true → run_all (Answer p e ∷ ts) s ≡ Ok new → refusal s (Answer p e) ≡ None
           → run_all ts (after s (Answer p e)) ≡ Ok new → Comes new ts
@@ -194,7 +215,7 @@ module _ (p : ℕ) (R : Done → Type 0) where
             reached = reached;
             there = there;
             is = is;
-            so = leads_rest p R s.world (o ∷ os) (ap (λ x. is_resting (x ∷ os)) same ∙ resting) leads;
+            so = leads_rest Asked walks.easy p R s.world (o ∷ os) (ap (λ x. is_resting (x ∷ os)) same ∙ resting) leads;
             accepted = ap (λ x. accepts x e) same ∙ ok;
             made = whole;
             follow = follow;
@@ -202,10 +223,11 @@ module _ (p : ℕ) (R : Done → Type 0) where
 
           by : (o_is : Op) → o ≡ o_is → accepts o_is e ≡ true → Comes new ts
           by (op.User (user_op.CallOutside x)) same ok =
-              Further (onward (Answer p e) ts (done s.world os)
+              Further (onward_of (Answer p e) ts (done s.world os)
               (subst (λ (d : Done). Goes p s (after s (Answer p e)) (done d.world (d.next ++ os)))
               (ap (λ x. react p x e s.world) same) (answers p s there o os is e))
-              (leads_outside p R x s.world os (subst (λ x. LeadsSo p (done s.world (x ∷ os)) R) same leads)) may made)
+              (leads_outside Asked walks.easy p R x s.world os (subst (λ x. LeadsSoOf Asked p (done s.world (x ∷ os)) R) same leads)) may
+              made)
           by (op.User (user_op.Poll f)) same ok = in_here (op.User (user_op.Poll f)) same ok refl
           by (op.User (user_op.Drop f)) same ok = in_here (op.User (user_op.Drop f)) same ok refl
           by (op.User (user_op.DropOutput f)) same ok = in_here (op.User (user_op.DropOutput f)) same ok refl
@@ -214,37 +236,65 @@ module _ (p : ℕ) (R : Done → Type 0) where
           by o_is same ok = absurd cc
 
   step_by : (t : Step) (ts : List Step) (s new : Machine) (os : List Op) → Reached s → p < length s.parties
-      → new.world.gone ≡ false → reverse (stack s p) ≡ os → LeadsSo p (done s.world os) R → is_onward_of p t ≡ true
+      → Fine new → reverse (stack s p) ≡ os → LeadsSoOf Asked p (done s.world os) R → is_onward_of p t ≡ true
       → are_onward_of p ts ≡ true → run_all (t ∷ ts) s ≡ Ok new → Comes new ts
   step_by t ts s new [] reached there later is leads on_it follow made =
       absurd (idle s new reached there later t on_it is (run-first t ts s new made).0)
   step_by (Begin q c) ts s new (o ∷ os) reached there later is leads on_it follow made = absurd cc
   step_by (Go q h) ts s new (o ∷ os) reached there later is leads on_it follow made =
       let k = run-first (Go p h) ts s new (subst (λ n. run_all (Go n h ∷ ts) s ≡ Ok new) (sym (same_of p q on_it)) made) in
-      Further (by_go s new reached there later o os is leads ts h k.0 k.1 (gone_before (Go q h ∷ ts) s new reached made later))
+      Further (by_go s new reached there later o os is leads ts h k.0 k.1 (walks.back (Go q h ∷ ts) s new reached made later))
   step_by (Answer q e) ts s new (o ∷ os) reached there later is leads on_it follow made =
       let whole = subst (λ n. run_all (Answer n e ∷ ts) s ≡ Ok new) (sym (same_of p q on_it)) made in
       let k = run-first (Answer p e) ts s new whole in
       by_answer s new reached there later o os is leads ts e follow whole k.0 k.1
 
-  rest_by : (new : Machine) (ts : List Step) → (Onward new ts → Rests new) → Comes new ts → Rests new
+  rest_by : (new : Machine) (ts : List Step) → (OnwardOf new ts → Rests p R new) → Comes new ts → Rests p R new
   rest_by new ts goes (Further m) = goes m
   rest_by new ts goes (Stands x) = Inside x
 
-  pub all_rests : (ts : List Step) (s new : Machine) (os : List Op) → Reached s → p < length s.parties → new.world.gone ≡ false
-      → reverse (stack s p) ≡ os → LeadsSo p (done s.world os) R → are_onward_of p ts ≡ true → run_all ts s ≡ Ok new
-      → stack new p ≡ [] → Rests new
-  all_rests [] s new os reached there later is leads follow made empty =
+  pub rests_of : (ts : List Step) (s new : Machine) (os : List Op) → Reached s → p < length s.parties → Fine new
+      → reverse (stack s p) ≡ os → LeadsSoOf Asked p (done s.world os) R → are_onward_of p ts ≡ true → run_all ts s ≡ Ok new
+      → stack new p ≡ [] → Rests p R new
+  rests_of [] s new os reached there later is leads follow made empty =
       let same = made_is s new made in
       let none : os ≡ [] = sym is ∙ ap (λ (m : Machine). reverse (stack m p)) same ∙ ap (λ (ys : List Op). reverse ys) empty in
       Whole
       (subst (λ (m : Machine). R (done m.world [])) same
-      (subst (λ xs. R (done s.world xs)) none (leads_rest p R s.world os (ap is_resting none) leads)))
-  all_rests (t ∷ ts) s new os reached there later is leads follow made empty =
+      (subst (λ xs. R (done s.world xs)) none (leads_rest Asked walks.easy p R s.world os (ap is_resting none) leads)))
+  rests_of (t ∷ ts) s new os reached there later is leads follow made empty =
       let two = both_true (is_onward_of p t) (are_onward_of p ts) follow in
       rest_by new ts
-      (λ m. all_rests ts m.machine new m.todo m.reached m.there later m.is m.leads two.1 m.made empty)
+      (λ m. rests_of ts m.machine new m.todo m.reached m.there later m.is m.leads two.1 m.made empty)
       (step_by t ts s new os reached there later is leads two.0 two.1 made)
+
+-- from the end of user code on
+pub goes_on_of : (Asked : World → Op → Type 0) (Fine : Machine → Type 0) → Walks Asked Fine → (p : ℕ) (R S : Done → Type 0)
+    (new : Machine) → Fine new → Reached new → IsQuiet new.world.trace → (x : InCode p R new)
+    → LeadsSoOf Asked p (done (react p x.first x.end x.machine.world).world ((react p x.first x.end x.machine.world).next ++ x.rest)) S
+    → Rests p S new
+goes_on_of Asked Fine walks p R S new later last quiet x leads =
+    let m = x.machine in
+    let k = run-first (Answer p x.end) x.steps m new x.made in
+    let o =
+    onward_of Asked Fine walks p S m new x.reached x.there later (Answer p x.end) x.steps
+    (done (react p x.first x.end m.world).world ((react p x.first x.end m.world).next ++ x.rest))
+    (answers p m x.there x.first x.rest x.is x.end) leads k.0 k.1 in
+    rests_of Asked Fine walks p S x.steps o.machine new o.todo o.reached o.there later o.is o.leads x.follow o.made
+    (rests new (deep-here new last) quiet p)
+
+module _ (p : ℕ) (R : Done → Type 0) where
+  pub onward : (s new : Machine) → Reached s → p < length s.parties → new.world.gone ≡ false → (t : Step) (ts : List Step) (d : Done)
+      → Goes p s (after s t) d → LeadsSo p (done d.world d.next) R → refusal s t ≡ None → run_all ts (after s t) ≡ Ok new
+      → OnwardOf Has IsBefore before p R new ts
+  onward s new reached there later t ts d goes leads may made =
+      onward_of Has IsBefore before p R s new reached there later t ts d goes leads may made
+
+  pub all_rests : (ts : List Step) (s new : Machine) (os : List Op) → Reached s → p < length s.parties → new.world.gone ≡ false
+      → reverse (stack s p) ≡ os → LeadsSo p (done s.world os) R → are_onward_of p ts ≡ true → run_all ts s ≡ Ok new
+      → stack new p ≡ [] → Rests p R new
+  all_rests ts s new os reached there later is leads follow made empty =
+      rests_of Has IsBefore before p R ts s new os reached there later is leads follow made empty
 
 -- a call that rests at its end alone has ended
 pub ends_so : (p : ℕ) (P : World → Type 0) (new : Machine) → Rests p (AtEnd P) new → P new.world
@@ -263,10 +313,11 @@ within n m is = grind (arith, nat_tests)
 upon_nothing : (d : Done) → upon [] d ≡ d
 upon_nothing d = ap (λ os. done d.world os) (append-nil d.next)
 
-pub lone_calls_rest : (s : Machine) → Reached s → (p : ℕ) (c : Call) (steps : List Step) (new : Machine) (R : Done → Type 0)
-    → IsQuiet s.world.trace → new.world.gone ≡ false → LeadsSo p (upon [] (begins p None c s.world)) R
+pub lone_calls_rest_of : (Asked : World → Op → Type 0) (Fine : Machine → Type 0) → Walks Asked Fine → (s : Machine) → Reached s
+    → (p : ℕ) (c : Call) (steps : List Step) (new : Machine) (R : Done → Type 0)
+    → IsQuiet s.world.trace → Fine new → LeadsSoOf Asked p (upon [] (begins p None c s.world)) R
     → IsLoneCall p c steps s new → Rests p R new
-lone_calls_rest s reached p c steps new R quiet later leaves lone =
+lone_calls_rest_of Asked Fine walks s reached p c steps new R quiet later leaves lone =
     let k = run-first (Begin p c) steps s new lone.made in
     let there : p < length s.parties =
     within p (length s.parties)
@@ -286,11 +337,17 @@ lone_calls_rest s reached p c steps new R quiet later leaves lone =
     (onto p (begun p (log s.world (event.CallBegun p c)) (mine (top (stack s p))) c) (stack s p)).todo [] there
     ∙ ap (λ (l : Part). l.todo) part)
     ∙ e.todo in
-    all_rests p R steps first new (ended p d.world d.next).next (reached-step s (Begin p c) k.0 reached)
+    rests_of Asked Fine walks p R steps first new (ended p d.world d.next).next (reached-step s (Begin p c) k.0 reached)
     (subst (λ n. p < n) (sym (length-set s.parties p _)) there) later todo
-    (subst (λ w. LeadsSo p (done w (ended p d.world d.next).next) R) (sym world)
-    (leads_ended p R d.world d.next (subst (λ d. LeadsSo p d R) (upon_nothing d) leaves)))
+    (subst (λ w. LeadsSoOf Asked p (done w (ended p d.world d.next).next) R) (sym world)
+    (leads_ended Asked walks.easy p R d.world d.next (subst (λ d. LeadsSoOf Asked p d R) (upon_nothing d) leaves)))
     lone.alone k.1 (rests new (deep-here new (reached-more (Begin p c ∷ steps) s new reached lone.made)) lone.ended p)
+
+pub lone_calls_rest : (s : Machine) → Reached s → (p : ℕ) (c : Call) (steps : List Step) (new : Machine) (R : Done → Type 0)
+    → IsQuiet s.world.trace → new.world.gone ≡ false → LeadsSo p (upon [] (begins p None c s.world)) R
+    → IsLoneCall p c steps s new → Rests p R new
+lone_calls_rest s reached p c steps new R quiet later leaves lone =
+    lone_calls_rest_of Has IsBefore before s reached p c steps new R quiet later leaves lone
 
 pub lone_calls_so : (s : Machine) → Reached s → (p : ℕ) (c : Call) (steps : List Step) (new : Machine) (P : World → Type 0)
     → IsQuiet s.world.trace → new.world.gone ≡ false → Leads p (upon [] (begins p None c s.world)) P

@@ -50,7 +50,7 @@ one_more taker final below inside os codes (drops_given f) = inr refl
 no_longer : (n m : ℕ) → n ≡ suc m → n ≡ m → ⊥
 no_longer n m longer same = omega (arith, longer, same)
 
-unrefused : (x : Bool) (e : StepError) (more : Option StepError) → unless x e more ≡ None → more ≡ None
+pub unrefused : (x : Bool) (e : StepError) (more : Option StepError) → unless x e more ≡ None → more ≡ None
 unrefused true e more is = is
 unrefused false e more is = absurd cc
 

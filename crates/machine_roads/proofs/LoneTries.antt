@@ -14,7 +14,7 @@ use Rattle.executor_model.specs.declared.op.Op.TheVariants as op
 use Rattle.executor_model.specs.declared.op.TableOp.TheVariants as table_op
 use Rattle.executor_model.specs.declared.op.UserOp.TheVariants as user_op
 use Rattle.executor_model.specs.declared.op.Waker.{Waker}
-use Rattle.executor_model.specs.declared.step.Step.TheVariants.{Answer, Begin}
+use Rattle.executor_model.specs.declared.step.Step.TheVariants.{Begin}
 use Rattle.executor_model.specs.declared.step.UserEnd.{UserEnd}
 use Rattle.executor_model.specs.declared.step.UserEnd.TheVariants as end
 use Rattle.executor_model.specs.Acts.{is_last_waker}
@@ -22,7 +22,6 @@ use Rattle.executor_model.specs.Quiet.{IsQuiet}
 use Rattle.executor_model.specs.Steps.{Machine, accepts, react, waker_of}
 use Rattle.executor_model.specs.World.{World, Done, done, task}
 use Rattle.executor_model.specs.World as world
-use Rattle.executor_model.proofs.Quiet.Resting.{rests}
 use Rattle.executor_model.proofs.Steps.Reached.{Reached, deep-here, reached-more, run-first}
 use Rattle.plain_scheduler.specs.State.{Choice, Closed, Code, Drop, End, Future, Lose, Plain, Poll, Refusal, Taker, Tick, Try}
 use Rattle.plain_scheduler.specs.Lists.{on}
@@ -31,6 +30,7 @@ use Rattle.plain_scheduler.specs.Calls as plain_calls
 use Rattle.plain_scheduler.specs.Calls.{does, Ends, EndsWith, Pends, PollTick, TryTick}
 use Rattle.machine_roads.specs.View.{Output, wakes}
 use Rattle.machine_roads.specs.Road.{Follows, waking_in}
+use Rattle.machine_roads.specs.Alone.{Has}
 use Rattle.machine_roads.specs.Dropped.{Drops, IsEnding, answered, loses, rest_of, without_run}
 use Rattle.machine_roads.specs.Forgotten.{IsForgotten, IsLastPoll, StopsForgetting, unawaited, without_awaiter}
 use Rattle.machine_roads.specs.Lone.{EachLoneAlike, Ended, LoneTicksEnd, LoneTriesEnd, ends as ends_with, is_end, over}
@@ -39,7 +39,7 @@ use Rattle.machine_roads.proofs.Aside.{called_inside}
 use Rattle.machine_roads.proofs.Forgetting.{forgets_so, forgotten_goes, forgotten_inside}
 use Rattle.machine_roads.proofs.Lists.{cons_is}
 use Rattle.machine_roads.proofs.LoneCalls.{each}
-use Rattle.machine_roads.proofs.LoneRuns.{InCode, Inside, Rests, Whole, all_rests, ends_so, lone_calls_rest, onward}
+use Rattle.machine_roads.proofs.LoneRuns.{InCode, Inside, IsBefore, Rests, Whole, before, ends_so, goes_on_of, lone_calls_rest}
 use Rattle.machine_roads.proofs.LoneTicks.{can_poll, may_begin}
 use Rattle.machine_roads.proofs.LyingDown.{polls_tick_so}
 use Rattle.machine_roads.proofs.Pending.{gives_so, pends_so}
@@ -47,7 +47,7 @@ use Rattle.machine_roads.proofs.Puts.{put_at, put_by}
 use Rattle.machine_roads.proofs.RunEnding.{drops, loses_in_take}
 use Rattle.machine_roads.proofs.Standing.{Answered, Behind, InDrop, InPoll, IsGoing, IsTaken, Stands, StandsSo, Stays, StaysSo}
 use Rattle.machine_roads.proofs.Trying.{final_inside, tries_so, yes}
-use Rattle.machine_roads.proofs.Tying.{AtEnd, Leads, LeadsSo, answers}
+use Rattle.machine_roads.proofs.Tying.{AtEnd, Leads, LeadsSo}
 use Rattle.machine_roads.proofs.Unseen.{stands_in}
 
 module _ (p : ℕ) (new : Machine) (later : new.world.gone ≡ false) (last : Reached new) (quiet : IsQuiet new.world.trace)
@@ -63,15 +63,7 @@ module _ (p : ℕ) (new : Machine) (later : new.world.gone ≡ false) (last : Re
   goes_on : (R S : Done → Type 0) (x : InCode p R new)
       → LeadsSo p (done (react p x.first x.end x.machine.world).world ((react p x.first x.end x.machine.world).next ++ x.rest)) S
       → Rests p S new
-  goes_on R S x leads =
-      let m = x.machine in
-      let k = run-first (Answer p x.end) x.steps m new x.made in
-      let o =
-      onward p S m new x.reached x.there later (Answer p x.end) x.steps
-      (done (react p x.first x.end m.world).world ((react p x.first x.end m.world).next ++ x.rest))
-      (answers p m x.there x.first x.rest x.is x.end) leads k.0 k.1 in
-      all_rests p S x.steps o.machine new o.todo o.reached o.there later o.is o.leads x.follow o.made
-      (rests new (deep-here new last) quiet p)
+  goes_on R S x leads = goes_on_of Has IsBefore before p R S new later last quiet x leads
 
   least : (n : ℕ) → n ≤ n
   least n = omega arith

@@ -2,6 +2,7 @@
 use Rattle.std.proofs.Common.{◌≡◌, ℕ, ◌<◌, ◌++◌, Bool, true, false, List, [], ◌∷◌, length, Option, Some, None, is_some}
 use Rattle.std.proofs.Common.{slice_get, if◌then◌else◌, refl, sym, ap, subst, ◌∙◌}
 use Rattle.task_moves.specs.declared.moves.owed.Move.{Move}
+use Rattle.task_moves.specs.declared.moves.state.State.{State}
 use Rattle.task_moves.specs.declared.moves.owed.Move.TheVariants as move
 use Rattle.task_moves.specs.AbstractTask as abstract
 use Rattle.task_moves.specs.AbstractTask.{AbstractTask}
@@ -60,8 +61,77 @@ pub record Tells (p : ℕ) (end : Done) (more : Plain Output Waker → Plain Out
   pub outputs : (f : ℕ) (q : Plain Output Waker) → (task f (more q)).output ≡ (task f q).output
   pub polls : (f : ℕ) (q : Plain Output Waker) → abstract.polled (task f (more q)) ≡ abstract.polled (task f q)
 
+-- a move was made: both stand alike, and what it owes is left to do
+pub record MovedSo (Left : World → List Op → Type 0) (w : World) (os : List Op) (q : Plain Output Waker) : Type 0 where
+  pub world : World
+  pub follows : Follows world q
+  pub queues : world.queues ≡ w.queues
+  pub own : world.own ≡ w.own
+  pub table : world.table ≡ w.table
+  pub way : Left world os
+
+pub moved_so : (Left : World → List Op → Type 0) (p : ℕ) (m : Move) (f : ℕ) (w : World) (os : List Op) (r : Plain Output Waker)
+    (new : AbstractTask Output Waker) → stands_alone m ≡ true → ((q g : ℕ) → heard (told_as m q g) ≡ []) → Follows w r
+    → f < length w.tasks → view (moves.after m (world.task w f)).state (waker_in (awaiter_of w f)) ≡ told new
+    → IsStored (moves.after m (world.task w f)).state (awaiter_of w f) → IsCalm new
+    → Left (move_task m p w f).world ((move_task m p w f).next ++ os)
+    → MovedSo Left w (owed_ops (among f w.table) f (moves.after m (world.task w f)).owed ++ os) (put f new r)
+moved_so Left p m f w os r new stands unheard follows at same stored calm way =
+    by (is_last_waker m (world.task w f)) (is_told m (world.task w f))
+    (subst (λ b. Left (move_by b m p w f).world ((move_by b m p w f).next ++ os)) stands way)
+  where
+    s : State
+    s = (moves.after m (world.task w f)).state
+
+    by : (last b : Bool)
+        → Left (world.put (told_of last b m p w f) f s)
+        (owed_ops (among f (told_of last b m p w f).table) f (moves.after m (world.task w f)).owed ++ os)
+        → MovedSo Left w (owed_ops (among f w.table) f (moves.after m (world.task w f)).owed ++ os) (put f new r)
+    by true true way =
+        let one = log w (told_as m p f) in
+        let two = log one (event.LastWaker p f) in
+        record {
+          world = world.put two f s;
+          follows =
+              puts two r (logs one r (logs w r follows (told_as m p f) (unheard p f)) (event.LastWaker p f) refl) f at s new same
+              stored calm;
+          queues = refl;
+          own = refl;
+          table = refl;
+          way = way;
+        }
+    by true false way =
+        let two = log w (event.LastWaker p f) in
+        record {
+          world = world.put two f s;
+          follows = puts two r (logs w r follows (event.LastWaker p f) refl) f at s new same stored calm;
+          queues = refl;
+          own = refl;
+          table = refl;
+          way = way;
+        }
+    by false true way =
+        let one = log w (told_as m p f) in
+        record {
+          world = world.put one f s;
+          follows = puts one r (logs w r follows (told_as m p f) (unheard p f)) f at s new same stored calm;
+          queues = refl;
+          own = refl;
+          table = refl;
+          way = way;
+        }
+    by false false way =
+        record {
+          world = world.put w f s;
+          follows = puts w r follows f at s new same stored calm;
+          queues = refl;
+          own = refl;
+          table = refl;
+          way = way;
+        }
+
 module _ (p : ℕ) (end : Done) (rests : is_resting end.next ≡ true) where
-  -- a move is made, and what it owes is left to do; what is done to the world behind it leaves both alike
+  -- what is done to the world behind it leaves both alike
   moved_then : (after : World → World) → ((w : World) (r : Plain Output Waker) → Follows w r → Follows (after w) r) → (m : Move)
       (f : ℕ) (w : World) (os : List Op) (r : Plain Output Waker) (new : AbstractTask Output Waker)
       → stands_alone m ≡ true → ((q g : ℕ) → heard (told_as m q g) ≡ []) → Follows w r → f < length w.tasks
@@ -70,53 +140,8 @@ module _ (p : ℕ) (end : Done) (rests : is_resting end.next ≡ true) where
       → Way p end (after (move_task m p w f).world) ((move_task m p w f).next ++ os)
       → Then p end (owed_ops (among f w.table) f (moves.after m (world.task w f)).owed ++ os) (put f new r)
   moved_then after keeps m f w os r new stands unheard follows at same stored calm way =
-      by (is_last_waker m (world.task w f)) (is_told m (world.task w f))
-      (subst (λ b. Way p end (after (move_by b m p w f).world) ((move_by b m p w f).next ++ os)) stands way)
-    where
-      by : (last b : Bool)
-          → Way p end (after (world.put (told_of last b m p w f) f (moves.after m (world.task w f)).state))
-          (owed_ops (among f (told_of last b m p w f).table) f (moves.after m (world.task w f)).owed ++ os)
-          → Then p end (owed_ops (among f w.table) f (moves.after m (world.task w f)).owed ++ os) (put f new r)
-      by true true way =
-          let one = log w (told_as m p f) in
-          let two = log one (event.LastWaker p f) in
-          let three = world.put two f (moves.after m (world.task w f)).state in
-          record {
-            world = after three;
-            follows =
-                keeps three (put f new r)
-                (puts two r (logs one r (logs w r follows (told_as m p f) (unheard p f)) (event.LastWaker p f) refl) f at
-                (moves.after m (world.task w f)).state new same stored calm);
-            way = way;
-          }
-      by true false way =
-          let two = log w (event.LastWaker p f) in
-          let three = world.put two f (moves.after m (world.task w f)).state in
-          record {
-            world = after three;
-            follows =
-                keeps three (put f new r)
-                (puts two r (logs w r follows (event.LastWaker p f) refl) f at (moves.after m (world.task w f)).state new same stored calm);
-            way = way;
-          }
-      by false true way =
-          let one = log w (told_as m p f) in
-          let three = world.put one f (moves.after m (world.task w f)).state in
-          record {
-            world = after three;
-            follows =
-                keeps three (put f new r)
-                (puts one r (logs w r follows (told_as m p f) (unheard p f)) f at (moves.after m (world.task w f)).state new same
-                stored calm);
-            way = way;
-          }
-      by false false way =
-          let three = world.put w f (moves.after m (world.task w f)).state in
-          record {
-            world = after three;
-            follows = keeps three (put f new r) (puts w r follows f at (moves.after m (world.task w f)).state new same stored calm);
-            way = way;
-          }
+      let m = moved_so (λ w os. Way p end (after w) os) p m f w os r new stands unheard follows at same stored calm way in
+      record { world = after m.world; follows = keeps m.world (put f new r) m.follows; way = m.way }
 
   pub moved : (m : Move) (f : ℕ) (w : World) (os : List Op) (r : Plain Output Waker) (new : AbstractTask Output Waker)
       → stands_alone m ≡ true → ((q g : ℕ) → heard (told_as m q g) ≡ []) → Follows w r → f < length w.tasks

@@ -25,7 +25,7 @@ use Rattle.plain_scheduler.specs.Moves.{answers, is_called, leaves, let_go, lies
 use Rattle.plain_scheduler.specs.Calls.{does, is_granted, DropTick, NewTick}
 use Rattle.machine_roads.specs.View.{Output, wakes}
 use Rattle.machine_roads.specs.Road.{Follows, place_in}
-use Rattle.machine_roads.specs.Alone.{alone, is_resting}
+use Rattle.machine_roads.specs.Alone.{alone, is_resting, Has}
 use Rattle.machine_roads.specs.Ticking.{TickGoesAlike, TickIsMadeAlike}
 use Rattle.machine_roads.proofs.Calling.{ends}
 use Rattle.machine_roads.proofs.Changing.{logs}
@@ -35,7 +35,7 @@ use Rattle.machine_roads.proofs.Lists.{clash}
 use Rattle.machine_roads.proofs.Moved.{Then}
 use Rattle.machine_roads.proofs.Numbers.{Rests, asleep_last, asleep_set, down, rests_if, sleeps_last, sleeps_set, up as is_up}
 use Rattle.machine_roads.proofs.Polling.{lets_go_so}
-use Rattle.machine_roads.proofs.Stepping.{Step, Way, next}
+use Rattle.machine_roads.proofs.Stepping.{StepOf, Way, next}
 use Rattle.machine_roads.proofs.Unseen.{roomed}
 
 abbrev given_if : Bool → Sleepers Sleeping → Sleepers Sleeping
@@ -190,7 +190,7 @@ module _ (p : ℕ) (here : Option Waker) (below : List Op) (w : World) (q : Plai
     goes : Way p end w0 (op.Tick (tick_op.Leave (tick_or_run.Tick t)) ∷ os) → Leaves (does wakes c (DropTick t) q)
     goes way = by (rests_if t w0 q follows0 (λ n is. step.has))
       where
-        step : Step p end (op.Tick (tick_op.Leave (tick_or_run.Tick t))) w0 os
+        step : StepOf Has p end (op.Tick (tick_op.Leave (tick_or_run.Tick t))) w0 os
         step = next p end rests (op.Tick (tick_op.Leave (tick_or_run.Tick t))) w0 os refl way
 
         by : Rests w0 q t → Leaves (does wakes c (DropTick t) q)

@@ -4,6 +4,8 @@ use Rattle.std.proofs.Common.{length, Option, Some, refl, sym, ap, subst, ◌∙
 use Rattle.std.specs.Prelude.{reverse}
 use Rattle.std.proofs.lemmas.List.{reverse-append, reverse-reverse}
 use Rattle.executor_model.specs.declared.event.Event.TheVariants as event
+use Rattle.executor_model.specs.declared.call.Reply.{Reply}
+use Rattle.executor_model.specs.declared.op.Hold.{Hold}
 use Rattle.executor_model.specs.declared.op.Op.{Op}
 use Rattle.executor_model.specs.declared.op.Op.TheVariants as op
 use Rattle.executor_model.specs.declared.op.UserOp.TheVariants as user_op
@@ -17,7 +19,7 @@ use Rattle.executor_model.specs.World.{World, Done, done, log}
 use Rattle.executor_model.proofs.Steps.Lift.{topped}
 use Rattle.executor_model.proofs.SpawnWants.Tops.{flipped}
 use Rattle.executor_model.proofs.Table.Spawning.{top-last}
-use Rattle.machine_roads.specs.Alone.{alone, is_resting, one_by, Has, HasAll}
+use Rattle.machine_roads.specs.Alone.{alone, is_resting, one_by, Has, HasAllOf}
 
 abbrev later_of : List Op → List Op
 later_of [] = []
@@ -62,9 +64,12 @@ settles p w xs (o ∷ os) is =
     }
 
 -- whatever it is told from here on, where it rests it is so
+abbrev pub LeadsSoOf : (World → Op → Type 0) → ℕ → Done → (Done → Type 0) → Type 0
+LeadsSoOf Asked p d R =
+    (hints : List Hint) → HasAllOf Asked p hints d → is_resting (alone p hints d).next ≡ true → R (alone p hints d)
+
 abbrev pub LeadsSo : ℕ → Done → (Done → Type 0) → Type 0
-LeadsSo p d R =
-    (hints : List Hint) → HasAll p hints d → is_resting (alone p hints d).next ≡ true → R (alone p hints d)
+LeadsSo p d R = LeadsSoOf Has p d R
 
 -- it has come to its end, and left the world so
 abbrev pub AtEnd : (World → Type 0) → Done → Type 0
@@ -76,31 +81,39 @@ Leads p d P = LeadsSo p d (AtEnd P)
 abbrev pub no_hint : Hint
 no_hint = record { refused = false; same = false; start = 0 }
 
-module _ (p : ℕ) (R : Done → Type 0) where
+-- of a call's end, and of the call of an outside waker, nothing is asked
+pub record IsEasy (Asked : World → Op → Type 0) : Type 0 where
+  pub ends : (w : World) (r : Reply) (held : Hold) → Asked w (op.End r held)
+  pub outside : (w : World) (x : ℕ) → Asked w (op.User (user_op.CallOutside x))
+
+pub has_easy : IsEasy Has
+has_easy = record { ends = λ w r held. tt; outside = λ w x. tt }
+
+module _ (Asked : World → Op → Type 0) (easy : IsEasy Asked) (p : ℕ) (R : Done → Type 0) where
   -- a thing is done
-  pub leads_on : (h : Hint) (o : Op) (w : World) (os : List Op) → waits o ≡ false → Has w o → LeadsSo p (done w (o ∷ os)) R
-      → LeadsSo p (done (act p h o w).world ((act p h o w).next ++ os)) R
+  pub leads_on : (h : Hint) (o : Op) (w : World) (os : List Op) → waits o ≡ false → Asked w o → LeadsSoOf Asked p (done w (o ∷ os)) R
+      → LeadsSoOf Asked p (done (act p h o w).world ((act p h o w).next ++ os)) R
   leads_on h o w os goes has leads hints all rests =
       subst
-      (λ b. HasAll p hints (one_by b p h o w os) → is_resting (alone p hints (one_by b p h o w os)).next ≡ true
+      (λ b. HasAllOf Asked p hints (one_by b p h o w os) → is_resting (alone p hints (one_by b p h o w os)).next ≡ true
       → R (alone p hints (one_by b p h o w os)))
       goes
       (λ all rests. leads (h ∷ hints) (has, all) rests)
       all rests
 
   -- the call of an outside waker ends
-  pub leads_outside : (x : ℕ) (w : World) (os : List Op) → LeadsSo p (done w (op.User (user_op.CallOutside x) ∷ os)) R
-      → LeadsSo p (done w os) R
-  leads_outside x w os leads hints all rests = leads (no_hint ∷ hints) (tt, all) rests
+  pub leads_outside : (x : ℕ) (w : World) (os : List Op) → LeadsSoOf Asked p (done w (op.User (user_op.CallOutside x) ∷ os)) R
+      → LeadsSoOf Asked p (done w os) R
+  leads_outside x w os leads hints all rests = leads (no_hint ∷ hints) (easy.outside w x, all) rests
 
   -- and a call, where its end is all that is left of it
-  pub leads_ended : (w : World) (os : List Op) → LeadsSo p (done w os) R → LeadsSo p (ended p w os) R
+  pub leads_ended : (w : World) (os : List Op) → LeadsSoOf Asked p (done w os) R → LeadsSoOf Asked p (ended p w os) R
   leads_ended w [] leads = leads
-  leads_ended w (op.End r held ∷ os) leads = λ hints all rests. leads (no_hint ∷ hints) (tt, all) rests
+  leads_ended w (op.End r held ∷ os) leads = λ hints all rests. leads (no_hint ∷ hints) (easy.ends w r held, all) rests
   leads_ended w (o ∷ os) leads = leads
 
   -- where user code has to answer, it rests
-  pub leads_rest : (w : World) (os : List Op) → is_resting os ≡ true → LeadsSo p (done w os) R → R (done w os)
+  pub leads_rest : (w : World) (os : List Op) → is_resting os ≡ true → LeadsSoOf Asked p (done w os) R → R (done w os)
   leads_rest w os rests leads = leads [] tt rests
 
 -- by a step to this part of the machine

@@ -11,14 +11,16 @@ use Rattle.machine_roads.specs.View.{Output}
 use Rattle.machine_roads.specs.Road.{AreNumbered, Follows, place_in, waking_in, who_of}
 use Rattle.machine_roads.proofs.Numbers.{numbered_still}
 
--- the machine's lock and turns, which futures are out to be polled, which wakers are kept, which ticks there are and how many may
--- sleep; and in which code the plain scheduler's calls stand
-unseen : (lock : Lock) (kind : Bool) (waking : List ℕ) (turn : ℕ) (out : List Bool) (kept : List (Option ℕ)) (ticks : List Ticker)
-    (rooms : ℕ) (codes : List (Code Output Waker)) (w : World) (q : Plain Output Waker) → Follows w q
+-- whether the executor's drop has begun and which futures that has still to drop, the machine's lock and turns, which futures are out
+-- to be polled, which wakers are kept, which ticks there are and how many may sleep; and in which code the plain scheduler's calls stand
+unseen : (gone : Bool) (leaving : List ℕ) (lock : Lock) (kind : Bool) (waking : List ℕ) (turn : ℕ) (out : List Bool)
+    (kept : List (Option ℕ)) (ticks : List Ticker) (rooms : ℕ) (codes : List (Code Output Waker)) (w : World) (q : Plain Output Waker) → Follows w q
     → ((x : TickOrRun) → length (filter (lies (who_of x)) q.lying) ≡ sleeps (place_in ticks w.runs x))
     → AreNumbered ticks w.runs w.sleepers.wakers → waking ≡ waking_in codes
     → Follows
     (record w {
+      gone = gone;
+      leaving = leaving;
       lock = lock;
       is_static = kind;
       waking = waking;
@@ -29,7 +31,7 @@ unseen : (lock : Lock) (kind : Bool) (waking : List ℕ) (turn : ℕ) (out : Lis
       sleepers = record w.sleepers { rooms = rooms };
     })
     (record q { is_static = kind; inside = codes })
-unseen lock kind waking turn out kept ticks rooms codes w q r asleep numbered woken = record {
+unseen gone leaving lock kind waking turn out kept ticks rooms codes w q r asleep numbered woken = record {
   limit = r.limit;
   kind = refl;
   many = r.many;
@@ -61,7 +63,7 @@ alike waking turn out kept codes w q r woken =
     (λ b. Follows (record w { waking = waking; urgent_turns = turn; inside = out; wakers = kept })
     (record q { is_static = b; inside = codes }))
     r.kind
-    (unseen w.lock w.is_static waking turn out kept w.ticks w.sleepers.rooms codes w q r r.asleep r.numbered woken)
+    (unseen w.gone w.leaving w.lock w.is_static waking turn out kept w.ticks w.sleepers.rooms codes w q r r.asleep r.numbered woken)
 
 pub stands_in : (codes : List (Code Output Waker)) (w : World) (q : Plain Output Waker) → Follows w q
     → waking_in codes ≡ waking_in q.inside → Follows w (record q { inside = codes })
@@ -89,18 +91,33 @@ pub roomed : (ticks : List Ticker) (rooms : ℕ) (w : World) (q : Plain Output W
 roomed ticks rooms w q r same still =
     subst (λ b. Follows (record w { ticks = ticks; sleepers = record w.sleepers { rooms = rooms } }) (record q { is_static = b }))
     r.kind
-    (unseen w.lock w.is_static w.waking w.urgent_turns w.inside w.wakers ticks rooms q.inside w q r (λ x. r.asleep x ∙ sym (same x))
+    (unseen w.gone w.leaving w.lock w.is_static w.waking w.urgent_turns w.inside w.wakers ticks rooms q.inside w q r
+    (λ x. r.asleep x ∙ sym (same x))
     (numbered_still w.ticks w.runs ticks w.runs still w.sleepers.wakers r.numbered) r.waking)
 
 -- the table has no wakers any more, and these are still to be woken
 pub leaked_so : (waking : List ℕ) (codes : List (Code Output Waker)) (w : World) (q : Plain Output Waker) → Follows w q
     → waking ≡ waking_in codes → Follows (record w { is_static = true; waking = waking }) (record q { is_static = true; inside = codes })
 leaked_so waking codes w q r woken =
-    unseen w.lock true waking w.urgent_turns w.inside w.wakers w.ticks w.sleepers.rooms codes w q r r.asleep r.numbered woken
+    unseen w.gone w.leaving w.lock true waking w.urgent_turns w.inside w.wakers w.ticks w.sleepers.rooms codes w q r r.asleep
+    r.numbered woken
 
 -- the lock of the list of queues is taken or given back
 pub locked : (lock : Lock) (w : World) (q : Plain Output Waker) → Follows w q → Follows (record w { lock = lock }) q
 locked lock w q r =
     subst (λ b. Follows (record w { lock = lock }) (record q { is_static = b })) r.kind
-    (unseen lock w.is_static w.waking w.urgent_turns w.inside w.wakers w.ticks w.sleepers.rooms q.inside w q r r.asleep r.numbered
+    (unseen w.gone w.leaving lock w.is_static w.waking w.urgent_turns w.inside w.wakers w.ticks w.sleepers.rooms q.inside w q r
+    r.asleep r.numbered
     r.waking)
+
+-- the executor's drop begins, or has come so far
+pub closing_so : (gone : Bool) (leaving waking : List ℕ) (out : List Bool) (codes : List (Code Output Waker)) (w : World)
+    (q : Plain Output Waker) → Follows w q → waking ≡ waking_in codes
+    → Follows (record w { gone = gone; leaving = leaving; waking = waking; inside = out }) (record q { inside = codes })
+closing_so gone leaving waking out codes w q r woken =
+    subst
+    (λ b. Follows (record w { gone = gone; leaving = leaving; waking = waking; inside = out })
+    (record q { is_static = b; inside = codes }))
+    r.kind
+    (unseen gone leaving w.lock w.is_static waking w.urgent_turns out w.wakers w.ticks w.sleepers.rooms codes w q r r.asleep
+    r.numbered woken)

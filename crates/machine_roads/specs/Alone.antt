@@ -124,11 +124,15 @@ Has w (op.Tick o) = TickHas w o
 Has w (op.Closing o) = ClosingHas w o
 Has w _ = Unit {0}
 
-abbrev pub HasFirst : World → List Op → Type 0
-HasFirst w [] = Unit {0}
-HasFirst w (o ∷ os) = Has w o
+-- or what else is asked of it, of the first one
+abbrev pub HasFirst : (World → Op → Type 0) → World → List Op → Type 0
+HasFirst Asked w [] = Unit {0}
+HasFirst Asked w (o ∷ os) = Asked w o
 
 -- at each moment
+abbrev pub HasAllOf : (World → Op → Type 0) → ℕ → List Hint → Done → Type 0
+HasAllOf Asked p [] d = Unit {0}
+HasAllOf Asked p (h ∷ hs) d = HasFirst Asked d.world d.next × HasAllOf Asked p hs (one p h d)
+
 abbrev pub HasAll : ℕ → List Hint → Done → Type 0
-HasAll p [] d = Unit {0}
-HasAll p (h ∷ hs) d = HasFirst d.world d.next × HasAll p hs (one p h d)
+HasAll p hints d = HasAllOf Has p hints d

@@ -1,5 +1,5 @@
 -- Lists of lone calls of a machine are lists of calls of the plain scheduler, with one definition of what is chosen.
-use Rattle.std.specs.Prelude.{◌≡◌, ℕ, ◌<◌, Bool, true, false, ◌&&◌, List, [], ◌∷◌, length, Some, None}
+use Rattle.std.specs.Prelude.{◌≡◌, ℕ, ◌<◌, Bool, true, false, ◌&&◌, ◌||◌, List, [], ◌∷◌, length, Some, None}
 use Rattle.executor_parts.specs.declared.mark.Mark.{Mark}
 use Rattle.executor_parts.specs.Marks.{first_of}
 use Rattle.executor_model.specs.declared.call.By.{By}
@@ -8,7 +8,7 @@ use Rattle.executor_model.specs.declared.call.Call.TheVariants as call
 use Rattle.executor_model.specs.declared.kind.Kind.{Kind}
 use Rattle.executor_model.specs.declared.op.Waker.{Waker}
 use Rattle.executor_model.specs.declared.step.Step.{Step}
-use Rattle.executor_model.specs.Steps.{Machine, is_static_kind, kept, start, waker_of}
+use Rattle.executor_model.specs.Steps.{Machine, is_drop, is_static_kind, kept, start, waker_of}
 use Rattle.executor_model.specs.World.{World}
 use Rattle.executor_laws.specs.LoneEnds.{IsLoneCall}
 use Rattle.plain_scheduler.specs.State.{Choice, Plain}
@@ -23,12 +23,19 @@ pub record IsChosen (w : World) (q : Plain Output Waker) (c : Choice) : Type 0 w
   pub first : c.first ≡ first_of w.urgent_turns
   pub tells : length q.lying < c.tells
 
--- all calls but the polls and drops of runs and the executor's drop
+-- all calls but the polls and drops of runs, up to the executor's drop
 abbrev pub is_on_road : Call → Bool
 is_on_road (call.PollRun r b) = false
 is_on_road (call.DropRun r) = false
 is_on_road call.DropExecutor = false
 is_on_road _ = true
+
+-- calls by kept wakers, which may stand behind that
+abbrev pub is_behind : Call → Bool
+is_behind (call.Wake k) = true
+is_behind (call.WakeByRef k) = true
+is_behind (call.DropWaker k) = true
+is_behind _ = false
 
 -- which call of the plain scheduler it is: a kept waker is that of its future
 pub data IsCall (w : World) : Call → plain.Call Output Waker → Type 0 where
@@ -48,6 +55,7 @@ pub data IsCall (w : World) : Call → plain.Call Output Waker → Type 0 where
   drop_tick : (t : ℕ) → IsCall w (call.DropTick t) (plain.DropTick t)
   new_run : IsCall w call.NewRun plain.NewRun
   leak : IsCall w call.Leak plain.Leak
+  drop_executor : IsCall w call.DropExecutor plain.DropExecutor
 
 -- the plain scheduler makes that call, with what is chosen so, and the code that it comes to ends
 pub record GoesBy (w : World) (c : Call) (q r : Plain Output Waker) : Type 0 where
@@ -70,9 +78,13 @@ abbrev pub AreLone : Machine → List Lone → Type 0
 AreLone s [] = Unit {0}
 AreLone s (l ∷ ls) = IsLoneCall l.party l.call l.steps s l.left × AreLone l.left ls
 
+abbrev pub are_behind : List Lone → Bool
+are_behind [] = true
+are_behind (l ∷ ls) = is_behind l.call && are_behind ls
+
 abbrev pub are_on_road : List Lone → Bool
 are_on_road [] = true
-are_on_road (l ∷ ls) = is_on_road l.call && are_on_road ls
+are_on_road (l ∷ ls) = (is_on_road l.call && are_on_road ls) || (is_drop l.call && are_behind ls)
 
 -- both stand alike at each moment at which a call has ended
 abbrev pub GoAlike : Machine → Plain Output Waker → List Lone → Type 0

@@ -1,9 +1,10 @@
 -- When a lone call of a machine at rest leaves it where the plain scheduler's call leaves that, as long as the executor's drop
--- hasn't begun.
-use Rattle.std.specs.Prelude.{◌≡◌, ℕ, ◌≤◌, ◌<◌, Bool, true, false, not, List, [], ◌∷◌, length, reverse, Some, None, Ok, is_some}
+-- hasn't begun; and so does that drop.
+use Rattle.std.specs.Prelude.{◌≡◌, ℕ, ◌≤◌, ◌<◌, Bool, true, false, ◌&&◌, not, List, [], ◌∷◌, length, reverse, Some, None, Ok, is_some}
 use Rattle.executor_parts.specs.declared.mark.Mark.{Mark}
 use Rattle.executor_parts.specs.Marks.{first_of}
 use Rattle.task_moves.specs.AbstractTask as abstract
+use Rattle.task_moves.specs.AbstractTask.{AbstractTask}
 use Rattle.task_moves.specs.AbstractTask.Polled.{Waits}
 use Rattle.executor_model.specs.declared.call.By.{By}
 use Rattle.executor_model.specs.declared.call.Call.{Call}
@@ -26,7 +27,7 @@ use Rattle.plain_scheduler.specs.Lists.{any}
 use Rattle.plain_scheduler.specs.Moves.{is_common}
 use Rattle.plain_scheduler.specs.Moves as plain
 use Rattle.plain_scheduler.specs.Calls.{does, is_granted, Spawn, Wake, Use, Copy, Release, Cancel, Detach, DropHandle, PollHandle}
-use Rattle.plain_scheduler.specs.Calls.{DropTick, Ends, EndsWith, IsEmpty, Leak, NewRun, NewTick, Pends, PollTick, TryTick}
+use Rattle.plain_scheduler.specs.Calls.{DropExecutor, DropTick, Ends, EndsWith, IsEmpty, Leak, NewRun, NewTick, Pends, PollTick, TryTick}
 use Rattle.plain_scheduler.specs.Calls as plain_calls
 use Rattle.machine_roads.specs.View.{Output, wakes}
 use Rattle.machine_roads.specs.Alike.{begins, LeavesAlike}
@@ -43,6 +44,13 @@ LoneCallIsAlone s =
 -- these steps of a lone call lead there
 abbrev pub LeadsTo : Machine → ℕ → Call → List Step → Plain Output Waker → Type 0
 LeadsTo s p c steps q = (new : Machine) → new.world.gone ≡ false → IsLoneCall p c steps s new → Follows new.world q
+
+-- a wake would queue it; and where none does so wait, as once the executor's drop has ended
+abbrev pub waits_for : AbstractTask Output Waker → Bool
+waits_for t = abstract.is_idle t.phase && not t.closed
+
+abbrev pub NoneWaits : Plain Output Waker → Type 0
+NoneWaits q = (f : ℕ) → waits_for (plain.task f q) ≡ false
 
 -- on the way to this machine its party rests first, with nothing left to do or in user code, so
 pub record RestsFirst (p : ℕ) (So : Done → Type 0) (new : Machine) : Type 0 where
@@ -198,6 +206,29 @@ module _ (s : Machine) (q : Plain Output Waker) where
   LoneLeaks =
       (p : ℕ) (c : Choice) (steps : List Step) → q.inside ≡ [] → length q.lying ≤ c.tells
       → LeadsTo s p call.Leak steps (does wakes c Leak q)
+
+  -- the executor's drop, where no code is left in which a call stands: with the ends of all drops of futures
+  abbrev pub LoneDropEnds : Type 0
+  LoneDropEnds =
+      (p : ℕ) (c : Choice) (steps : List Step) → q.inside ≡ [] → (new : Machine) → IsLoneCall p call.DropExecutor steps s new
+      → (r : Plain Output Waker) × Ended (does wakes c DropExecutor q) r × (r.inside ≡ q.inside) × Follows new.world r
+      × NoneWaits r
+
+  -- wakes by kept wakers, and these wakers' drops, whether the executor was dropped before or not
+  abbrev pub LoneUsesBehind : Type 0
+  LoneUsesBehind =
+      (p k f : ℕ) (c : Choice) (steps : List Step) → NoneWaits q → kept s.world k ≡ Some f → (new : Machine)
+      → IsLoneCall p (call.Wake k) steps s new → Follows new.world (does wakes c (Use f) q)
+
+  abbrev pub LoneWakesBehind : Type 0
+  LoneWakesBehind =
+      (p k f : ℕ) (c : Choice) (steps : List Step) → NoneWaits q → kept s.world k ≡ Some f → (new : Machine)
+      → IsLoneCall p (call.WakeByRef k) steps s new → Follows new.world (does wakes c (Wake f) q)
+
+  abbrev pub LoneWakerGoesBehind : Type 0
+  LoneWakerGoesBehind =
+      (p k f : ℕ) (c : Choice) (steps : List Step) → NoneWaits q → kept s.world k ≡ Some f → (new : Machine)
+      → IsLoneCall p (call.DropWaker k) steps s new → Follows new.world (does wakes c (Release f) q)
 
   abbrev pub LoneEmpty : Type 0
   LoneEmpty = (p : ℕ) (c : Choice) (steps : List Step) → LeadsTo s p call.IsEmpty steps (does wakes c IsEmpty q)

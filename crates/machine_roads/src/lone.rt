@@ -3,11 +3,12 @@ ghost use Rattle.executor_model.specs.Executions.{EveryMachine};
 ghost use Rattle.machine_roads.specs.Course.{ListsGoAlike};
 ghost use Rattle.machine_roads.specs.Lone.{EachLoneAlike, LoneCallIsAlone, LoneCancels, LoneCopies};
 ghost use Rattle.machine_roads.specs.Lone.{LoneEmpty, LoneLeaks, LoneRunIsMade, LoneSpawns, LoneUses, LoneWakerGoes};
-ghost use Rattle.machine_roads.specs.Lone.{LoneDetachLoses, LoneGoesWithOutput};
+ghost use Rattle.machine_roads.specs.Lone.{LoneDetachLoses, LoneDropEnds, LoneGoesWithOutput};
 ghost use Rattle.machine_roads.specs.Lone.{LoneDetaches, LoneHandleGoes, LoneHandlePolls};
 ghost use Rattle.machine_roads.specs.Lone.{LoneHandleWaits, LoneTickGoes, LoneTickIsMade};
 ghost use Rattle.machine_roads.specs.Lone.{LoneTickIsPolled, LoneTickLies, LoneTicksEnd, LoneTries};
-ghost use Rattle.machine_roads.specs.Lone.{LoneTriesEnd, LoneWakes};
+ghost use Rattle.machine_roads.specs.Lone.{LoneTriesEnd, LoneUsesBehind, LoneWakerGoesBehind, LoneWakes};
+ghost use Rattle.machine_roads.specs.Lone.{LoneWakesBehind};
 
 /// What a call leaves of the world, however it is told, a lone call leaves of each machine at rest,
 /// as long as the executor's drop hasn't begun: so it is here and below.
@@ -100,6 +101,21 @@ pub fn lone_leaks_are_leaks()
     ensures { EachLoneAlike LoneLeaks }
 {}
 
+/// With the ends of all drops of futures that it comes to, a lone drop of the executor is that of the
+/// plain scheduler, where that stands in no code: from there on its queues are closed, and both stand
+/// alike.
+pub fn lone_drops_are_drops()
+    ensures { EachLoneAlike LoneDropEnds }
+{}
+
+/// Behind that no task waits for a wake; and where none does, wakes by kept wakers, and the drops of
+/// these, leave both alike, whether the executor was dropped or not.
+pub fn lone_wakers_go_on_behind()
+    ensures uses { EachLoneAlike LoneUsesBehind }
+    ensures wakes { EachLoneAlike LoneWakesBehind }
+    ensures drops { EachLoneAlike LoneWakerGoesBehind }
+{}
+
 /// And so it is asked alone whether the executor is empty.
 pub fn lone_questions_are_answered()
     ensures { EachLoneAlike LoneEmpty }
@@ -107,7 +123,8 @@ pub fn lone_questions_are_answered()
 
 /// Lists of such calls of a new machine, one after the other, are lists of calls of the new plain
 /// scheduler, which looks first at the mark that the turn names and tells who lay down last: all calls
-/// but polls and drops of runs and the executor's drop.
+/// but polls and drops of runs, and then, if it comes to that, the executor's drop, with wakes by kept
+/// wakers and these wakers' drops behind it.
 pub fn lists_of_lone_calls_go_alike()
     ensures { ListsGoAlike }
 {}

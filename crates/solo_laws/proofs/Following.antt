@@ -75,5 +75,14 @@ pub mod Walking
 pub mod RunWalking
 pub mod RunLeaving
 pub mod Running
+pub mod Lasting
+pub mod Kept
+pub mod NoneLost
+pub mod BeginKept
+pub mod AtHome
 pub mod Resleeping
 pub mod Keeping
+pub mod InVain
+pub mod RunResting
+pub mod RunGoing
+pub mod RunEnding

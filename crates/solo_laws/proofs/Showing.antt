@@ -7,5 +7,6 @@ pub mod Taking
 pub mod Ending
 pub mod Losing
 pub mod Courses
+pub mod AllThere
 pub mod AfterClose
 pub mod LastCalls

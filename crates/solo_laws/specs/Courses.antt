@@ -12,17 +12,15 @@ use Rattle.solo.specs.declared.owed.Spawned.{Spawned}
 use Rattle.solo.specs.declared.owed.SpawnError.{SpawnError}
 use Rattle.solo.specs.declared.runs.Runner.{Runner}
 use Rattle.solo.specs.declared.solo.Solo.{Solo}
-use Rattle.solo.specs.declared.steals.Source.TheVariants.{Common}
-use Rattle.solo.specs.Lines.{mark_of_turn, search_answer}
+use Rattle.solo.specs.Lines.{mark_of_turn}
 use Rattle.solo.specs.Solo as solo
 use Rattle.solo.specs.Closing as closing
-use Rattle.solo.specs.OwnQueues.{count_of as count_of_own, first_of}
-use Rattle.solo.specs.Steals as steals
+use Rattle.solo.specs.OwnQueues.{count_of as count_of_own}
 use Rattle.solo.specs.Ticks as ticks
 use Rattle.solo.specs.Runs as runs
 use Rattle.plain_scheduler.specs.State.{Answer, ARun, DropOwn, Finished, PollOwn}
 use Rattle.plain_scheduler.specs.State.{Event, Who, ATick, Answers, Pending, Choice, Code, Poll, Drop, Lose, Closed, Gave, Taker, Plain}
-use Rattle.plain_scheduler.specs.State.{Made, NoMemory, Yes, No, Done, Drops, Granted, AtOnce, Later}
+use Rattle.plain_scheduler.specs.State.{Made, NoMemory, Yes, No, Done, Drops, Granted, AtOnce, Later, Loses, Run}
 use Rattle.plain_scheduler.specs.Moves.{lies, task}
 use Rattle.plain_scheduler.specs.Calls.{Call, Spawn, TryTick, IsEmpty, Wake, Use, Copy, Release, PollHandle, Cancel, Detach, DropHandle}
 use Rattle.plain_scheduler.specs.Calls.{DropRun, Leak, Pends, EndsWith, Ends, NewTick, PollRun, PollTick, DropTick, NewRun, is_granted}
@@ -36,10 +34,8 @@ use Rattle.solo_laws.specs.Numbered.{ticker_of}
 use Rattle.solo_laws.specs.Ticking.{CanCopy, number_after, rest_answer, rested, tick_shows, looks_again, slept_answer, slept_once}
 use Rattle.solo_laws.specs.Spawning.{said, is_memory}
 use Rattle.solo_laws.specs.Running.{run_left, run_shows}
-use Rattle.solo_laws.specs.RunTaking.{searched_further}
-use Rattle.solo_laws.specs.Stealing.{share_of, so_many, stolen_marks}
+use Rattle.solo_laws.specs.RunGoing.{IsEnding, RunsOn, Searches, Stage, code_at, in_try}
 use Rattle.solo_laws.specs.Tabled.{goes_on, named}
-use Rattle.solo_laws.specs.Walking.{robbed, robs_more, searched_none}
 
 -- an executor becomes another by what its owner does for a call, and shows this; that of a future that isn't known isn't made, nor
 -- where a queue has accepted as many tasks as it may
@@ -97,7 +93,7 @@ pub data Makes {F T X : Type 0} (its : ℕ → Lent) (c : Choice) (s : Solo F T 
       → p.inside ≡ Lose awaiter by ∷ rest → HasLife 2 s.lines
       → Makes its c s p Ends (call_shows awaiter by s) (calls awaiter s)
 
--- and so with ticks, and with runs until they have taken a future: each that lies has a number
+-- and so with ticks, and with runs: each that lies has a number
 pub data Acts {F T X : Type 0} (its : ℕ → Lent) (number : Who → ℕ) (c : Choice) (s : Solo F T X) (p : Plain T (SoloWaker X))
     : Call T (SoloWaker X) → List (Event T (SoloWaker X)) → (Who → ℕ) → Solo F T X → Type 0 where
   makes : (call : Call T (SoloWaker X)) (shown : List (Event T (SoloWaker X))) (z : Solo F T X) → Makes its c s p call shown z
@@ -127,41 +123,25 @@ pub data Acts {F T X : Type 0} (its : ℕ → Lent) (number : Who → ℕ) (c : 
       → Acts its number c s p (PollRun r w) (Answers Finished ∷ []) number s
   own_ready : (r : ℕ) (w : SoloWaker X) (v : T) (rest : List (Code T (SoloWaker X))) → p.inside ≡ PollOwn r w ∷ rest
       → Acts its number c s p (EndsWith v) [] number s
-  -- its own future is pending, and it takes what it keeps, or what nobody does, or what another keeps
-  run_takes_own : (runner : Runner) (w : SoloWaker X) (rest : List (Code T (SoloWaker X))) (start : ℕ) (task : Task)
-      → p.inside ≡ PollOwn runner.number w ∷ rest → goes_on runner.number p ≡ true → first_of runner.number s.runs ≡ Some task
-      → c.keeps
-      ≡ stolen_marks (runs.is_steal_due runner) runner.number
-      (runs.told (ticker_of number (ARun runner.number) p.lying) (steals.own_popped runner.number s))
-      → HasLife 5 s.lines
-      → Acts its number c s p Pends (tick_shows (runs.found_answer runner (ticker_of number (ARun runner.number) p.lying) None task false
-      (steals.own_popped runner.number s)).ticked) number
-      (runs.searched runner (ticker_of number (ARun runner.number) p.lying) start s)
-  run_takes : (runner : Runner) (w : SoloWaker X) (rest : List (Code T (SoloWaker X))) (start : ℕ) (task : Task)
-      → p.inside ≡ PollOwn runner.number w ∷ rest → goes_on runner.number p ≡ true → first_of runner.number s.runs ≡ None
-      → solo.sought s ≡ Some task → c.first ≡ mark_of_turn s.lines.turn
-      → c.keeps
-      ≡ so_many (share_of (Common (search_answer s.lines).mark) runner.number (solo.popped (steals.own_popped runner.number s)))
-      (search_answer s.lines).mark
-      ++ stolen_marks (runs.is_steal_due runner) runner.number
-      (runs.told (ticker_of number (ARun runner.number) p.lying) (searched_further runner.number s))
-      → HasLife 5 s.lines
-      → Acts its number c s p Pends (tick_shows (runs.found_answer runner (ticker_of number (ARun runner.number) p.lying) None task false
-      (searched_further runner.number s)).ticked) number
-      (runs.searched runner (ticker_of number (ARun runner.number) p.lying) start s)
-  run_robs : (runner : Runner) (w : SoloWaker X) (rest : List (Code T (SoloWaker X))) (start : ℕ) (task : Task)
-      → p.inside ≡ PollOwn runner.number w ∷ rest → goes_on runner.number p ≡ true → first_of runner.number s.runs ≡ None
-      → solo.sought s ≡ None → c.first ≡ mark_of_turn s.lines.turn
-      → (steals.whole_round runner.number start (searched_none runner.number s)).0 ≡ Some task
-      → c.robs ≡ (robbed runner.number start (searched_none runner.number s)).0
-      → c.moves ≡ robs_more runner.number start (searched_none runner.number s)
-      → c.keeps
-      ≡ stolen_marks (runs.is_steal_due runner) runner.number
-      (runs.told (ticker_of number (ARun runner.number) p.lying) (steals.walked runner.number start (searched_none runner.number s)))
-      → HasLife 5 s.lines
-      → Acts its number c s p Pends (tick_shows (runs.found_answer runner (ticker_of number (ARun runner.number) p.lying) None task false
-      (steals.walked runner.number start (searched_none runner.number s))).ticked) number
-      (runs.searched runner (ticker_of number (ARun runner.number) p.lying) start s)
+  -- its own future is pending, and it looks for one to take, or lies down
+  run_looks : (runner : Runner) (w : SoloWaker X) (rest : List (Code T (SoloWaker X))) (shown : List (Event T (SoloWaker X)))
+      (now : Who → ℕ) (z : Solo F T X) → p.inside ≡ PollOwn runner.number w ∷ rest → goes_on runner.number p ≡ true
+      → Searches its number c runner w s (record p { inside = rest }) shown now z → Acts its number c s p Pends shown now z
+  -- the poll or drop of one that it took ends as in a try, and then the run goes on; or one is dropped first, or its output
+  run_goes_on : (stage : Stage T (SoloWaker X)) (runner : Runner) (w : SoloWaker X) (rest : List (Code T (SoloWaker X)))
+      (call : Call T (SoloWaker X)) (shown others : List (Event T (SoloWaker X))) (now : Who → ℕ) (y z : Solo F T X)
+      → p.inside ≡ code_at stage (Run runner.number w) ∷ rest → IsEnding stage call
+      → Makes its c s (in_try stage rest p) call (shown ++ Answers Yes ∷ []) y
+      → RunsOn its number c runner w y (record (does wakes_of c call (in_try stage rest p)) { events = p.events ++ shown }) others now z
+      → Acts its number c s p call (shown ++ others) now z
+  run_drops : (stage : Stage T (SoloWaker X)) (r : ℕ) (w : SoloWaker X) (rest : List (Code T (SoloWaker X))) (call : Call T (SoloWaker X))
+      (shown : List (Event T (SoloWaker X))) (f : ℕ) (z : Solo F T X) → p.inside ≡ code_at stage (Run r w) ∷ rest
+      → IsEnding stage call → Makes its c s (in_try stage rest p) call (shown ++ Drops f ∷ []) z
+      → Acts its number c s p call (shown ++ Drops f ∷ []) number z
+  run_loses : (stage : Stage T (SoloWaker X)) (r : ℕ) (w : SoloWaker X) (rest : List (Code T (SoloWaker X))) (call : Call T (SoloWaker X))
+      (shown : List (Event T (SoloWaker X))) (v : T) (z : Solo F T X) → p.inside ≡ code_at stage (Run r w) ∷ rest
+      → IsEnding stage call → Makes its c s (in_try stage rest p) call (shown ++ Loses v ∷ []) z
+      → Acts its number c s p call (shown ++ Loses v ∷ []) number z
   run_dropped : (r : ℕ) → goes_on r p ≡ true → Acts its number c s p (DropRun r) [] number s
   over_dropped : (r : ℕ) → goes_on r p ≡ false → Acts its number c s p (DropRun r) (Answers Done ∷ []) number s
   run_leaves : (runner : Runner) (answer : Answer T) (rest : List (Code T (SoloWaker X)))

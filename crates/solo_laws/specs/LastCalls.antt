@@ -9,10 +9,10 @@ use Rattle.plain_scheduler.specs.State.{Event, Drops, Answers, Done, Choice, Cod
 use Rattle.plain_scheduler.specs.Calls.{Call, Wake, Use, Copy, Release, PollHandle, Cancel, Detach, DropHandle, DropExecutor, Ends}
 use Rattle.plain_scheduler.specs.Calls.{living_from, does}
 use Rattle.solo_laws.specs.Alike.{calls}
-use Rattle.solo_laws.specs.Closing.{AllThere, Drains}
+use Rattle.solo_laws.specs.Closing.{Drains}
 use Rattle.solo_laws.specs.Courses.{Makes}
 use Rattle.solo_laws.specs.Dropping.{ends_one}
-use Rattle.solo_laws.specs.Road.{HasLife, count_of, wakes as wakes_of}
+use Rattle.solo_laws.specs.Road.{HasLife, count_of, drops, lents, wakes as wakes_of}
 use Rattle.solo_laws.specs.Shown.{call_shows}
 
 -- by its waker or its handle
@@ -66,10 +66,11 @@ pub data Closes {F T X : Type 0} (its : ℕ → Lent) (all : List ℕ)
       → Closes its all gone [] ((c, Ends) ∷ rest) s p ((shown ++ Answers Done ∷ []) ++ others) z
 
 module _ {F T X : Type 0} (its : ℕ → Lent) (s : Solo F T X) (p : Plain T (SoloWaker X)) where
-  -- an executor that isn't static is dropped: none of its futures is out of it
+  -- an executor that isn't static is dropped, and no user's code polls or drops one of its futures
   pub record IsDropped (c : Choice) : Type 0 where
     pub owned : p.is_static ≡ false
-    pub there : AllThere s.table.entries
+    pub unpolled : lents p.inside ≡ []
+    pub undropped : drops p.inside ≡ []
     pub few : length p.lying ≤ c.tells
     pub life : HasLife (6 * length s.table.entries + 2) s.lines
     pub leaving : count_of s.leaving.accepted + length s.table.entries ≤ most_accepted

@@ -13,6 +13,7 @@ pub mod Spawning
 pub mod Dropping
 pub mod Leaking
 pub mod Closing
+pub mod NoneLost
 pub mod Shown
 pub mod Courses
 pub mod LastCalls
@@ -22,6 +23,8 @@ pub mod Running
 pub mod Stealing
 pub mod RunTaking
 pub mod Walking
+pub mod RunGoing
+pub mod RunResting
 pub mod Going
 pub mod Seen
 pub mod Done

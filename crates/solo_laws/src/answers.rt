@@ -1,5 +1,5 @@
 //! What the plain scheduler sees of a call is what an executor of one owner hands out and answers.
-ghost use Rattle.std.specs.Prelude.{◌≡◌, ℕ, List, ◌++◌, Bool, not};
+ghost use Rattle.std.specs.Prelude.{◌≡◌, ℕ, List, [], ◌++◌, Bool, not};
 ghost use Rattle.solo.specs.Solo.{IsNew, counts};
 ghost use Rattle.solo.specs.declared.names.Kind.{Kind};
 ghost use Rattle.solo.specs.declared.names.SoloWaker.{SoloWaker};
@@ -7,10 +7,11 @@ ghost use Rattle.solo.specs.declared.owed.Lent.{Lent};
 ghost use Rattle.solo.specs.declared.solo.Solo.{Solo};
 ghost use Rattle.plain_scheduler.specs.Calls.{Call, course, new};
 ghost use Rattle.plain_scheduler.specs.State.{Choice, Event, Plain, Who};
-ghost use Rattle.solo_laws.specs.Closing.{IsClosed};
+ghost use Rattle.solo_laws.specs.Closing.{AllThere, IsClosed};
 ghost use Rattle.solo_laws.specs.Courses.{Leads};
 ghost use Rattle.solo_laws.specs.LastCalls.{LastCalls};
-ghost use Rattle.solo_laws.specs.Road.{wakes};
+ghost use Rattle.solo_laws.specs.NoneLost.{NoneIsLost};
+ghost use Rattle.solo_laws.specs.Road.{drops, lents, wakes};
 ghost use Rattle.solo_laws.specs.Shown.{CancelsShown, ClosedDropsShown, CopiesShown, DetachesShown, GivenDropsShown};
 ghost use Rattle.solo_laws.specs.Shown.{GivesShown, HandleDropsShown, HandlesShown, LeaksShown, LosesShown, PendsShown, ReleasesShown};
 ghost use Rattle.solo_laws.specs.Shown.{SpawnsShown, TakesShown, UsesShown, WakesShown};
@@ -72,6 +73,20 @@ pub fn lists_of_calls_lead_alike<F, T, X>()
         (first last : Solo F T X) (shown : List (Event T (SoloWaker X))) (before after : Who → ℕ) → IsNew limit kind first
         → counts kind ≡ not is_static → Leads its calls before first (new limit is_static) shown after last
         → Stands its last (course wakes calls (new limit is_static)) × ((course wakes calls (new limit is_static)).events ≡ shown) }
+{}
+
+/// Such a list loses no future: one that isn't dropped is due, or its task waits for a wake, or a user's code has it in hand. So where
+/// none has one, each entry of the table has its future.
+pub fn lists_lose_no_future<F, T, X>()
+    ensures none { (its : ℕ → Lent) (limit : ℕ) (kind : Kind) (is_static : Bool) (calls : List (Choice × Call T (SoloWaker X)))
+        (first last : Solo F T X) (shown : List (Event T (SoloWaker X))) (before after : Who → ℕ) → IsNew limit kind first
+        → counts kind ≡ not is_static → Leads its calls before first (new limit is_static) shown after last
+        → NoneIsLost (course wakes calls (new limit is_static)) }
+    ensures there { (its : ℕ → Lent) (limit : ℕ) (kind : Kind) (is_static : Bool) (calls : List (Choice × Call T (SoloWaker X)))
+        (first last : Solo F T X) (shown : List (Event T (SoloWaker X))) (before after : Who → ℕ) → IsNew limit kind first
+        → counts kind ≡ not is_static → Leads its calls before first (new limit is_static) shown after last
+        → lents (course wakes calls (new limit is_static)).inside ≡ [] → drops (course wakes calls (new limit is_static)).inside ≡ []
+        → AllThere last.table.entries }
 {}
 
 /// And so after each such list that ends with the drop of the executor, with what is called while its futures are dropped.

@@ -28,7 +28,7 @@ use Rattle.solo_laws.proofs.Showing.Telling.{step, woken_shows}
 abbrev pub taken_more : Running → Running
 taken_more run = record run { taken = run.taken + 1 }
 
-abbrev taken_none : Running → Running
+abbrev pub taken_none : Running → Running
 taken_none run = record run { taken = 0 }
 
 -- a run is changed, and is over or goes on as before
@@ -97,7 +97,7 @@ runs_is {T} {A} h r p = by (slice_get p.runs r)
 
 module _ {F T X : Type 0} (its : ℕ → Lent) (c : Choice) where
   -- what was seen is nothing to both
-  other_events : (s : Solo F T X) (p : Plain T (SoloWaker X)) (events : List (Event T (SoloWaker X))) → Stands its s p
+  pub other_events : (s : Solo F T X) (p : Plain T (SoloWaker X)) (events : List (Event T (SoloWaker X))) → Stands its s p
       → Stands its s (record p { events = events })
   other_events s p events both = (
     seen (named its) s p events p.inside both.0.inside both.0,

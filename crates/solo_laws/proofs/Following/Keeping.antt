@@ -164,10 +164,10 @@ module _ {F T X : Type 0} (its : ℕ → Lent) (c : Choice) (s : Solo F T X) (p 
     within : (q : Plain T (SoloWaker X)) → Lies c out q → Lies c p q
     within q is = after c (as_before c p out refl) is
 
-  abbrev Kept : Call T (SoloWaker X) → Solo F T X → Type 0
+  abbrev pub Kept : Call T (SoloWaker X) → Solo F T X → Type 0
   Kept call z = Slept s z.sleepers × Lies c p (does wakes c call p)
 
-  keeps : (call : Call T (SoloWaker X)) (shown : List (Event T (SoloWaker X))) (z : Solo F T X) → Makes its c s p call shown z
+  pub keeps : (call : Call T (SoloWaker X)) (shown : List (Event T (SoloWaker X))) (z : Solo F T X) → Makes its c s p call shown z
       → Kept call z
   keeps call shown z (spawns mark future spawned y so is granted life few) =
       let one : Solo F T X = record s { table = so.0.table; cells = so.0.cells; accepted = own.one_more s.accepted } in (

@@ -62,7 +62,7 @@ module _ (test : Due → Bool) where
       by false is rest = ap (λ zs. x ∷ zs) (rest is)
 
   -- who isn't found stays
-  stays : (f : ℕ) (xs : List Due) (d : Due) → find test xs ≡ Some d → (f == d.future) ≡ false → stands f xs ≡ true
+  pub stays : (f : ℕ) (xs : List Due) (d : Due) → find test xs ≡ Some d → (f == d.future) ≡ false → stands f xs ≡ true
       → stands f (without test xs) ≡ true
   stays f [] d is other has = absurd cc
   stays f (x ∷ xs) d is other has = by (test x) is (stays f xs d) has

@@ -222,26 +222,51 @@ module _ {F T X : Type 0} (its : ℕ → Lent) (number : Who → ℕ) (s : Solo 
           (λ v apart. refl)
           (resting.seen its c who w number (solo.popped s) p so names fewer life l is_q old has))
 
-module _ {F T X : Type 0} (its : ℕ → Lent) (number : Who → ℕ) (s : Solo F T X) (p : Plain T (SoloWaker X)) (both : Stands its s p)
-    (n : IsNumbered number s.sleepers p.lying) where
-  abbrev Rests : ℕ → SoloWaker X → Option (Lying (SoloWaker X)) → Plain T (SoloWaker X) → Type 0
-  Rests t w o q =
-      let ticker = or o (λ l. slept_under (number (ATick t))) (Awake ticks.its_room) in
-      IsAtRest its number s p (ATick t) (or o (λ l. number) (numbered_by (ATick t) (next_number s.sleepers) number))
-      (rest_answer ticker w s)
+module _ {F T X : Type 0} (its : ℕ → Lent) (number : Who → ℕ) (s : Solo F T X) (p : Plain T (SoloWaker X)) where
+  abbrev Rests : Who → SoloWaker X → Option (Lying (SoloWaker X)) → Plain T (SoloWaker X) → Type 0
+  Rests who w o q =
+      let ticker = or o (λ l. slept_under (number who)) (Awake ticks.its_room) in
+      IsAtRest its number s p who (or o (λ l. number) (numbered_by who (next_number s.sleepers) number)) (rest_answer ticker w s)
       (rested ticker w s) q
 
-  abbrev laid_by : Choice → ℕ → SoloWaker X → Option (Lying (SoloWaker X)) → Plain T (SoloWaker X)
-  laid_by c t w o =
+  abbrev laid_by : Choice → Who → SoloWaker X → Option (Lying (SoloWaker X)) → Plain T (SoloWaker X)
+  laid_by c who w o =
       let q = copied wakes w p in
-      or o (λ l. or l.waker (λ old. takes.lain_again wakes c (ATick t) w old q) (takes.lain wakes c (ATick t) w q))
-      (takes.lain wakes c (ATick t) w q)
+      or o (λ l. or l.waker (λ old. takes.lain_again wakes c who w old q) (takes.lain wakes c who w q)) (takes.lain wakes c who w q)
 
+  -- whoever it is, where a search has found nothing
+  module _ (c : Choice) (who : Who) (w : SoloWaker X) (many : suc (length p.lying) ≤ c.tells)
+      (so : Standing its c who w number (solo.popped s) p)
+      (lives : HasLife 2 (solo.popped s).lines)
+      (names : (u : Task) → w ≡ OfTask u → IsNamed (named its) (length p.futures) u × (solo.may_hold u s ≡ true)) where
+    pub lies_down : (o : Option (Lying (SoloWaker X))) → find (lies who) p.lying ≡ o
+        → (o ≡ None → nat_lt s.sleepers.count s.sleepers.rooms ≡ true)
+        → ((u : Task) → w ≡ OfTask u
+        → looks_again (slept_answer (or o (λ l. slept_under (number who)) (Awake ticks.its_room)) w s).look ≡ true
+        → solo.may_hold u (slept_once (or o (λ l. slept_under (number who)) (Awake ticks.its_room)) w s) ≡ true)
+        → Rests who w o (answers Pending (laid_by c who w o))
+    lies_down None is room holds =
+        subst
+        (λ sl. IsAtRest its number s p who (numbered_by who (next_number sl) number) (rest_answer (Awake ticks.its_room) w s)
+        (rested (Awake ticks.its_room) w s) (answers Pending (laid_by c who w None)))
+        (copies_sleepers w (solo.popped s))
+        (anew its number s p c who w so names many lives is (room refl) holds)
+    lies_down (Some l) is room holds = waker l.waker refl
+      where
+        waker : (a : Option (SoloWaker X)) → l.waker ≡ a
+            → Rests who w (Some l)
+            (answers Pending (or a (λ old. takes.lain_again wakes c who w old (copied wakes w p))
+            (takes.lain wakes c who w (copied wakes w p))))
+        waker None has = called its number s p c who w so names many lives l is has holds
+        waker (Some old) has = waited its number s p c who w so names many lives l is old has
+
+module _ {F T X : Type 0} (its : ℕ → Lent) (number : Who → ℕ) (s : Solo F T X) (p : Plain T (SoloWaker X)) (both : Stands its s p)
+    (n : IsNumbered number s.sleepers p.lying) where
   pub ticks_rest : TicksRest its number s p
   ticks_rest c t w none turn granted room names many life = by (find (trying.test (named its) c s p turn both.0) p.due) refl
     where
       by : (o : Option Due) → find (trying.test (named its) c s p turn both.0) p.due ≡ o
-          → Rests t w (find (lies (ATick t)) p.lying)
+          → Rests its number s p (ATick t) w (find (lies (ATick t)) p.lying)
           (or o (λ d. takes.takes wakes c (Tick t w) d (record p { due = without (trying.test (named its) c s p turn both.0) p.due }))
           (takes.nothing wakes c (Tick t w) p))
       by (Some d) is =
@@ -258,30 +283,6 @@ module _ {F T X : Type 0} (its : ℕ → Lent) (number : Who → ℕ) (s : Solo 
             none = searched_empty s.lines none;
           } in
           let lives : HasLife 2 (solo.popped s).lines = trying.lives (named its) c s p turn both.0 2 life in
-          subst (λ r. Rests t w (find (lies (ATick t)) p.lying) (takes.rests wakes c r (ATick t) w p)) (sym granted)
-          (each so lives (find (lies (ATick t)) p.lying) refl room (λ u same. (names u same).1.1))
-        where
-          each : Standing its c (ATick t) w number (solo.popped s) p → HasLife 2 (solo.popped s).lines
-              → (o : Option (Lying (SoloWaker X))) → find (lies (ATick t)) p.lying ≡ o
-              → (o ≡ None → nat_lt s.sleepers.count s.sleepers.rooms ≡ true)
-              → ((u : Task) → w ≡ OfTask u
-              → looks_again (slept_answer (or o (λ l. slept_under (number (ATick t))) (Awake ticks.its_room)) w s).look ≡ true
-              → solo.may_hold u (slept_once (or o (λ l. slept_under (number (ATick t))) (Awake ticks.its_room)) w s) ≡ true)
-              → Rests t w o (answers Pending (laid_by c t w o))
-          each so lives None is room holds =
-              subst
-              (λ sl. IsAtRest its number s p (ATick t) (numbered_by (ATick t) (next_number sl) number)
-              (rest_answer (Awake ticks.its_room) w s)
-              (rested (Awake ticks.its_room) w s) (answers Pending (laid_by c t w None)))
-              (copies_sleepers w (solo.popped s))
-              (anew its number s p c (ATick t) w so (λ u same. ((names u same).0, (names u same).1.0)) many lives is (room refl) holds)
-          each so lives (Some l) is room holds = waker l.waker refl
-            where
-              waker : (a : Option (SoloWaker X)) → l.waker ≡ a
-                  → Rests t w (Some l)
-                  (answers Pending (or a (λ old. takes.lain_again wakes c (ATick t) w old (copied wakes w p))
-                  (takes.lain wakes c (ATick t) w (copied wakes w p))))
-              waker None has = called its number s p c (ATick t) w so
-                  (λ u same. ((names u same).0, (names u same).1.0)) many lives l is has holds
-              waker (Some old) has =
-                  waited its number s p c (ATick t) w so (λ u same. ((names u same).0, (names u same).1.0)) many lives l is old has
+          subst (λ r. Rests its number s p (ATick t) w (find (lies (ATick t)) p.lying) (takes.rests wakes c r (ATick t) w p)) (sym granted)
+          (lies_down its number s p c (ATick t) w many so lives (λ u same. ((names u same).0, (names u same).1.0))
+          (find (lies (ATick t)) p.lying) refl room (λ u same. (names u same).1.1))

@@ -1,20 +1,22 @@
 -- Both stand alike after each list of calls, and what is seen is what was shown.
-use Rattle.std.proofs.Common.{◌≡◌, ℕ, ◌≤◌, List, [], ◌++◌, length, append-nil, refl, sym, ap, subst}
+use Rattle.std.proofs.Common.{◌≡◌, ℕ, ◌≤◌, List, [], ◌∷◌, ◌++◌, length, append-nil, refl, sym, ap, subst}
 use Rattle.solo.specs.declared.names.SoloWaker.{SoloWaker}
 use Rattle.solo.specs.declared.owed.Lent.{Lent}
 use Rattle.solo.specs.declared.names.Kind.{Kind}
 use Rattle.solo.specs.declared.solo.Solo.{Solo}
 use Rattle.solo.specs.Solo.{IsNew}
-use Rattle.plain_scheduler.specs.State.{Event, Who, Choice, Plain}
+use Rattle.plain_scheduler.specs.State.{Answers, Drops, Event, Loses, Who, Choice, Plain, Yes}
+use Rattle.plain_scheduler.specs.Calls as plain
 use Rattle.plain_scheduler.specs.Calls.{Call, does, course}
 use Rattle.solo_laws.specs.Courses.{Makes, spawns, refuses, takes, looks, wakes, uses, releases, copies, polls, cancels, detaches}
 use Rattle.solo_laws.specs.Courses.{drops_handle, leaks, pends, gives, ends_given, ends_closed, loses, Acts, makes, makes_tick, tick_takes}
 use Rattle.solo_laws.specs.Courses.{makes_run, makes_no_run, tick_rests, makes_no_tick, tick_refused, tick_lies_refused, tick_leaves, Leads}
-use Rattle.solo_laws.specs.Courses.{over_dropped, over_polled, own_ready, run_dropped, run_leaves, run_polled, run_robs, run_takes}
-use Rattle.solo_laws.specs.Courses.{run_takes_own}
+use Rattle.solo_laws.specs.Courses.{over_dropped, over_polled, own_ready, run_dropped, run_drops, run_goes_on, run_leaves}
+use Rattle.solo_laws.specs.Courses.{run_looks, run_loses, run_polled}
 use Rattle.solo_laws.specs.Courses.{stays, leads}
 use Rattle.solo_laws.specs.Numbered.{IsNumbered}
-use Rattle.solo_laws.specs.Road.{wakes as wakes_of}
+use Rattle.solo_laws.specs.Road.{awaiters, drops, lents, wakes as wakes_of}
+use Rattle.solo_laws.specs.RunGoing.{in_try}
 use Rattle.solo_laws.specs.Tabled.{Stands}
 use Rattle.solo_laws.proofs.Following.Both as both
 use Rattle.solo_laws.proofs.Following.Begun.{takes_alike, pends_both, gives_both}
@@ -23,17 +25,16 @@ use Rattle.solo_laws.proofs.Following.Leaking.{leaks_alike, leaks_shown}
 use Rattle.solo_laws.proofs.Following.Losing.{loses_alike}
 use Rattle.solo_laws.proofs.Following.Refusing.{refuses_alike, empty_alike}
 use Rattle.solo_laws.proofs.Following.Spawning.{spawns_alike}
-use Rattle.solo_laws.proofs.Following.Keeping.{makes_numbered}
+use Rattle.solo_laws.proofs.Following.Keeping.{keeps, makes_numbered}
 use Rattle.solo_laws.proofs.Following.TickTaking.{ticks_take}
 use Rattle.solo_laws.proofs.Following.TickResting.{ticks_rest}
 use Rattle.solo_laws.proofs.Following.TickLeaving.{ticks_begin, ticks_leave}
 use Rattle.solo_laws.proofs.Following.TickRefusing.{ticks_unmade, ticks_refused, ticks_lie_refused}
 use Rattle.solo_laws.proofs.Following.Running.{runs_begin, runs_unmade}
 use Rattle.solo_laws.proofs.Following.RunLeaving.{runs_leave}
-use Rattle.solo_laws.proofs.Following.RunSearching.{runs_take_common}
-use Rattle.solo_laws.proofs.Following.RunTaking.{runs_take_own}
-use Rattle.solo_laws.proofs.Following.RunWalking.{runs_take_kept}
-use Rattle.solo_laws.proofs.Following.RunPolling.{overs_dropped, overs_polled, owns_ready, runs_dropped, runs_polled}
+use Rattle.solo_laws.proofs.Following.RunEnding.{goes_alike, stays_alike, tried_both}
+use Rattle.solo_laws.proofs.Following.RunGoing.{Reached, searches_alike}
+use Rattle.solo_laws.proofs.Following.RunPolling.{overs_dropped, overs_polled, owns_ready, runs_dropped, runs_polled, same_hands}
 use Rattle.solo_laws.proofs.Showing.Telling.{step}
 use Rattle.solo_laws.proofs.Showing.Calling as calling
 use Rattle.solo_laws.proofs.Showing.Polling.{handles_shown}
@@ -131,17 +132,32 @@ module _ {F T X : Type 0} (its : ℕ → Lent) where
       let it = overs_polled its number s p so n c r w over in ((it.stands, it.seen), it.numbered)
   acts_alike number c s p now z call shown so n many (own_ready r w v rest stands_in) =
       let it = owns_ready its number s p so n c r w v rest stands_in in ((it.stands, it.seen), it.numbered)
-  acts_alike number c s p now z call shown so n many (run_takes_own runner w rest start task stands_in going first keeps life) =
-      let it = runs_take_own its number s p so n c runner w rest start task stands_in going first keeps many life in
-      ((it.stands, it.seen), it.numbered)
-  acts_alike number c s p now z call shown so n many (run_takes runner w rest start task stands_in going first found turn keeps life) =
-      let it = runs_take_common its number s p so n c runner w rest start task stands_in going first found turn keeps many life in
-      ((it.stands, it.seen), it.numbered)
-  acts_alike number c s p now z call shown so n many (run_robs runner w rest start task stands_in going first found turn finds robs moves
-      keeps life) =
-      let it =
-      runs_take_kept its number s p so n c runner w rest start task stands_in going first found turn finds robs moves keeps many life in
-      ((it.stands, it.seen), it.numbered)
+  acts_alike number c s p now z call shown so n many (run_looks runner w rest shown' now' z' is going how) =
+      let out = record p { inside = rest } in
+      let left : Stands its s out =
+      same_hands its s p so c rest (sym (ap (λ cs. lents cs) is)) (sym (ap (λ cs. drops cs) is)) (sym (ap (λ cs. awaiters cs) is)) in
+      subst (λ cs. Reached its p shown' now' z' (plain.innermost wakes_of c cs (plain.pends wakes_of c) p)) (sym is)
+      (searches_alike its number c runner w s out left n many going shown' now' z' how)
+  acts_alike number c s p now z call shown so n many (run_goes_on stage runner w rest call' first others now' y z' is ends how on) =
+      let tried = in_try stage rest p in
+      let t = tried_both its number c s p so n many stage runner.number w rest call' is ends in
+      let it = makes_alike c s y tried call' (first ++ Answers Yes ∷ []) t many how in
+      let numbered = makes_numbered its c s tried number call' (first ++ Answers Yes ∷ []) y how n many it.0 in
+      let few = subst (λ k. k ≤ c.tells) (sym (keeps its c s tried call' (first ++ Answers Yes ∷ []) y how).1.long) many in
+      goes_alike its number c s p so n many stage runner.number w rest call' is ends runner refl first others now' y z' it.0 it.1 numbered
+      few on
+  acts_alike number c s p now z call shown so n many (run_drops stage r w rest call' first f z' is ends how) =
+      let tried = in_try stage rest p in
+      let t = tried_both its number c s p so n many stage r w rest call' is ends in
+      let it = makes_alike c s z' tried call' (first ++ Drops f ∷ []) t many how in
+      let numbered = makes_numbered its c s tried number call' (first ++ Drops f ∷ []) z' how n many it.0 in
+      stays_alike its number c s p so n many stage r w rest call' is ends first (Drops f) z' refl it.0 it.1 numbered
+  acts_alike number c s p now z call shown so n many (run_loses stage r w rest call' first v z' is ends how) =
+      let tried = in_try stage rest p in
+      let t = tried_both its number c s p so n many stage r w rest call' is ends in
+      let it = makes_alike c s z' tried call' (first ++ Loses v ∷ []) t many how in
+      let numbered = makes_numbered its c s tried number call' (first ++ Loses v ∷ []) z' how n many it.0 in
+      stays_alike its number c s p so n many stage r w rest call' is ends first (Loses v) z' refl it.0 it.1 numbered
   acts_alike number c s p now z call shown so n many (run_dropped r going) =
       let it = runs_dropped its number s p so n c r going in ((it.stands, it.seen), it.numbered)
   acts_alike number c s p now z call shown so n many (over_dropped r over) =

@@ -15,8 +15,10 @@ use Rattle.solo_laws.specs.Courses.{Makes, spawns, refuses, takes, looks, wakes,
 use Rattle.solo_laws.specs.Courses.{drops_handle, leaks, pends, gives, ends_given, ends_closed, loses}
 use Rattle.solo_laws.specs.LastCalls.{is_on_task, Meanwhile, on_task, drops_output, After, over, and_then, Closes, meanwhile, next_drop}
 use Rattle.solo_laws.specs.LastCalls.{last_drop, LastCalls, first_drop, no_drop}
+use Rattle.solo_laws.specs.NoneLost.{NoneIsLost}
 use Rattle.solo_laws.specs.Road.{wakes as wakes_of}
 use Rattle.solo_laws.specs.Tabled.{Stands}
+use Rattle.solo_laws.proofs.Following.AtHome.{all_there}
 use Rattle.solo_laws.proofs.Following.Freeing.{closes_alike, goes_on_alike}
 use Rattle.solo_laws.proofs.Following.Sparing as sparing
 use Rattle.solo_laws.proofs.Following.Sparing.{Spares}
@@ -208,20 +210,20 @@ module _ {F T X : Type 0} (its : ℕ → Lent) where
 
   -- from where both stand alike
   pub last_calls_alike : (list : List (Choice × Call T (SoloWaker X))) (s z : Solo F T X) (p : Plain T (SoloWaker X))
-      (shown : List (Event T (SoloWaker X))) → Stands its s p → LastCalls its s p list shown z
+      (shown : List (Event T (SoloWaker X))) → Stands its s p → NoneIsLost p → LastCalls its s p list shown z
       → IsClosed its z (course wakes_of list p) × ((course wakes_of list p).events ≡ p.events ++ shown)
-  last_calls_alike list s z p shown so (first_drop c f left rest z' others living ready on) =
+  last_calls_alike list s z p shown so all (first_drop c f left rest z' others living ready on) =
       let it : GoesOn its (closing.closed s) p (does wakes_of c DropExecutor p) (f ∷ left) [] (f ∷ left) =
       subst (λ fs. GoesOn its (closing.closed s) p (does wakes_of c DropExecutor p) fs [] fs) living
-      (closes_alike its c s p so ready.owned ready.there ready.few ready.life ready.leaving) in
+      (closes_alike its c s p so ready.owned (all_there its s p so all ready.unpolled ready.undropped) ready.few ready.life ready.leaving) in
       let then_so =
       close_alike (f ∷ left) rest (f ∷ []) left (closing.drained (closing.closed s)) z' (does wakes_of c DropExecutor p) others
       it.stands on in
       (then_so.0, step p.events (Drops f ∷ []) others it.seen then_so.1)
-  last_calls_alike list s z p shown so (no_drop c rest y z' more others living ready how on) =
+  last_calls_alike list s z p shown so all (no_drop c rest y z' more others living ready how on) =
       let it : Finishes its (closing.closed s) p (does wakes_of c DropExecutor p) =
       subst (λ fs. GoesOn its (closing.closed s) p (does wakes_of c DropExecutor p) fs [] fs) living
-      (closes_alike its c s p so ready.owned ready.there ready.few ready.life ready.leaving) in
+      (closes_alike its c s p so ready.owned (all_there its s p so all ready.unpolled ready.undropped) ready.few ready.life ready.leaving) in
       let same = drains_same (closing.closed s) it.last y it.shown more it.drains how in
       let closed : IsClosed its y (does wakes_of c DropExecutor p) =
       subst (λ (z : Solo F T X). IsClosed its z (does wakes_of c DropExecutor p)) same.0 it.closed in

@@ -57,6 +57,7 @@ unseen part g z = record {
     end = λ a r. z;
   };
   append = λ f. z;
+  retract = λ f. z;
   leave = λ r. z;
   drop = λ r. z;
 }
@@ -85,6 +86,7 @@ unseen-waits g = record {
     end = waits-run g;
   };
   append = λ f. refl;
+  retract = λ f. refl;
   leave = λ r. refl;
   drop = λ r. refl;
 }
@@ -115,6 +117,7 @@ unseen-over g = record {
     end = over-run g;
   };
   append = λ f. refl;
+  retract = λ f. refl;
   leave = λ r. refl;
   drop = λ r. refl;
 }

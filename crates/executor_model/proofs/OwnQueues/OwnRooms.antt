@@ -8,7 +8,7 @@ use Rattle.executor_model.proofs.Types.{Reply, Event, Hold, ListOp, Op, RunPoll,
 use Rattle.executor_model.specs.World.{World, Stage, New, Listed, Ended, Done, done, log, own_of, put_own}
 use Rattle.executor_model.specs.{Doing.list_act, OwnQueues.filling_of, Rows.running_of, Steps.Machine, Steps.begun, Steps.mine}
 use Rattle.executor_model.specs.{Steps.react, Steps.stack, Steps.top, Weights.same, Weights.weigh, Weights.weigh_all}
-use Rattle.executor_model.proofs.OwnQueues.RunsDone.{to_walk, walk_ends, walk_on, Deed, keeps, takes, lacks, shares, grows}
+use Rattle.executor_model.proofs.OwnQueues.RunsDone.{to_leave, to_walk, walk_ends, walk_on, Deed, keeps, takes, lacks, shares, grows}
 use Rattle.executor_model.proofs.OwnQueues.RunsDone.{wakes, lists, deed-act, is_loud, loud, loud-weigh, walks-by, Stole, More}
 use Rattle.executor_model.proofs.OwnQueues.RunsDone.{no_more, one_more, Walks, Missing, misses_there, Leads, finds, stole}
 use Rattle.executor_model.proofs.Steps.Lists.{same_cases, weigh_all-push}
@@ -89,6 +89,7 @@ stays-of w o d s f = stays w (o ∷ []) d s
 
 stole-filling : (r : ℕ) (x : RunPoll) (n : ℕ) (os : List Op) → Stole x n os → weigh (filling_of r) os ≡ 0
 stole-filling r x n os (to_walk at left) = refl
+stole-filling r x n os to_leave = refl
 stole-filling r x n os _ = refl
 
 walks-filling : (r : ℕ) (x : RunPoll) (os : List Op) → Walks x os → weigh (filling_of r) os ≡ 0

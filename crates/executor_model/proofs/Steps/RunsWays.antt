@@ -2,14 +2,14 @@
 -- What each thing that a run does keeps, where it is kept by what moves Runnables and no more, by the event that one is
 -- kept, and by the call of the run's own waker.
 use Rattle.std.proofs.Common.{◌≡◌, ℕ, ◌<◌, List, [], ◌∷◌, length, Bool, true, false, ltb, refl, arith}
-use Rattle.executor_model.proofs.Types.{Reply, ListOp, Op, QueueOp, RunOp, RunPoll, TickOrRun, Sleeping, Steal, StealOp, TickOp}
+use Rattle.executor_model.proofs.Types.{Move, Reply, ListOp, Op, QueueOp, RunOp, RunPoll, TickOrRun, Sleeping, Steal, StealOp, TickOp}
 use Rattle.executor_model.specs.ActsOfRuns.{take_turn_of_run, free_places, kept_by, reschedule_by, search_own, steal_put_by}
 use Rattle.executor_model.specs.Doing.{list_act, run_act, steal_act}
 use Rattle.executor_model.specs.{ActsOfRuns.wake_own, Weights.weigh, World.World, World.Done}
 use Rattle.executor_model.proofs.Steps.RunsMoves.{Moves, moves-common, moves-length, moves-list, moves-look, moves-make_room}
-use Rattle.executor_model.proofs.Steps.RunsMoves.{moves-own, moves-own_length, moves-put_back, moves-reschedule}
+use Rattle.executor_model.proofs.Steps.RunsMoves.{moves-own, moves-own_length, moves-refused, moves-reschedule}
 use Rattle.executor_model.proofs.Steps.RunsNext.{BlindToRuns, common-blind, list-blind, look-blind, more-blind, room-blind}
-use Rattle.executor_model.proofs.Steps.RunsNext.{search_run-blind, steal-blind, stolen-blind}
+use Rattle.executor_model.proofs.Steps.RunsNext.{refused-blind, search_run-blind, steal-blind}
 use Rattle.executor_model.proofs.{Types.UserOp, Types.Hint, Steps.RunsCounting.known-run, Steps.RunsMoves.moves-return_room}
 use Rattle.executor_model.proofs.{Steps.RunsMoves.moves-take, Steps.RunsPlain.AllPlain, Steps.RunsPlain.blind-plain}
 
@@ -17,6 +17,7 @@ use Rattle.executor_model.proofs.{Steps.RunsMoves.moves-take, Steps.RunsPlain.Al
 pub record Unseeing (v : Op → ℕ) : Type 0 where
   pub blind : BlindToRuns v
   pub append : (f : ℕ) → v (Op.Queue (QueueOp.Append f)) ≡ 0
+  pub retract : (f : ℕ) → v (Op.Move Move.DropRunnable f) ≡ 0
   pub leave : (r : ℕ) → v (Op.Tick (TickOp.Leave (TickOrRun.Run r))) ≡ 0
   pub drop : (r : ℕ) → v (Op.User (UserOp.DropOwn r)) ≡ 0
 
@@ -27,6 +28,7 @@ pub plain-of-runs : (os : List Op) → AllOfRuns os → AllPlain os
 plain-of-runs os a v z = a v record {
   blind = blind-plain v z;
   append = λ f. z (Op.Queue (QueueOp.Append f)) refl;
+  retract = λ f. z (Op.Move Move.DropRunnable f) refl;
   leave = λ r. z (Op.Tick (TickOp.Leave (TickOrRun.Run r))) refl;
   drop = λ r. z (Op.User (UserOp.DropOwn r)) refl;
 }
@@ -56,19 +58,19 @@ module _
         (λ v u. more-blind v u.blind more (kept_by p w s.poll.run f) s)
         (moves-own_length more 0 (kept_by p w s.poll.run f) s))
     by-put false p w s more f e = moves w _ _ (step-steal (StealOp.Put s more f))
-        (λ v u. omega (arith, u.append f, stolen-blind v u.blind s.then w s.poll)) (moves-put_back w s more f)
+        (λ v u. refused-blind v u.blind u.retract s.then w s.poll f) (moves-refused s.then w s.poll s.from more f)
 
     pub by-steal : (p : ℕ) (o : StealOp) (w : World) → P w (Op.Steal o ∷ []) (steal_act p o w)
     by-steal p (StealOp.Length s) w =
-        moves w _ _ (step-steal (StealOp.Length s)) (λ v u. steal-blind v u.blind u.append p (StealOp.Length s) w)
+        moves w _ _ (step-steal (StealOp.Length s)) (λ v u. steal-blind v u.blind u.retract p (StealOp.Length s) w)
         (moves-length _ w s)
     by-steal p (StealOp.OwnLength s n) w =
         moves w _ _ (step-steal (StealOp.OwnLength s n))
-        (λ v u. steal-blind v u.blind u.append p (StealOp.OwnLength s n) w)
+        (λ v u. steal-blind v u.blind u.retract p (StealOp.OwnLength s n) w)
         (moves-own_length _ n w s)
     by-steal p (StealOp.Take s more) w =
         moves w _ _ (step-steal (StealOp.Take s more))
-        (λ v u. steal-blind v u.blind u.append p (StealOp.Take s more) w)
+        (λ v u. steal-blind v u.blind u.retract p (StealOp.Take s more) w)
         (moves-take s.from _ w s.poll s.then more refl)
     by-steal p (StealOp.Put s more f) w = by-put _ p w s more f refl
 

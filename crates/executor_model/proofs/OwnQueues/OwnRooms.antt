@@ -305,3 +305,17 @@ roomy-ends s p a held below l e h r =
       split (filling_of r) s.parties p (Op.End a held ∷ []) below l e,
       weigh_all-push (filling_of r) s.parties p below [] l,
     )
+
+-- what a steal has found has a place
+pub has-free : (s : Machine) (p : ℕ) (rest : List Op) (x : Steal) (more g : ℕ) → p < length s.parties →
+    stack s p ≡ rest ++ reverse (Op.Steal (StealOp.Put x more g) ∷ []) → Roomy s →
+    ltb 0 (runs.free_places s.world x.poll.run) ≡ true
+has-free s p rest x more g l e k =
+    let self : eqb x.poll.run x.poll.run ≡ true = grind (arith, nat_tests) in
+    let free : 1 ≤ runs.free_places s.world x.poll.run = omega (
+      arith,
+      k x.poll.run,
+      split (filling_of x.poll.run) s.parties p (Op.Steal (StealOp.Put x more g) ∷ []) rest l e,
+      ap (λ (b : Bool). cond b (more + 1) 0) self,
+    ) in
+    grind (arith, nat_tests)

@@ -8,7 +8,8 @@ use Rattle.executor_model.proofs.Types.{Mark, Kind, Reply, Event, Hold, Op, Move
 use Rattle.executor_model.specs.World.{World, Done, done, log, among, queue_of, mark_of}
 use Rattle.executor_model.specs.Sound.{Pend, pend, queued, times}
 use Rattle.executor_model.specs.Steps.{Machine, stack, idle, run, start, mine, top}
-use Rattle.executor_model.specs.{Weights.same, Good.Good, Rows.waiting_of, Rows.drops_of, Rows.leaves_of}
+use Rattle.executor_model.specs.{Weights.same, Good.Good, OwnQueues.filling_of, Rows.waiting_of, Rows.drops_of}
+use Rattle.executor_model.specs.Rows.{leaves_of}
 use Rattle.executor_model.proofs.Table.LeavingAll.{NeedsPlaces, leaves-effect, leaves-pends, leaves-readies, leaves-closes}
 use Rattle.executor_model.proofs.Steps.QueuesByMark.{any-shut, times-one}
 use Rattle.executor_model.proofs.Steps.Lift.{split, unsettled, good-start}
@@ -75,7 +76,8 @@ needs-places s p (Op.Queue (QueueOp.Append f)) rest l e good h =
 needs-places s p (Op.Table (TableOp.Enter mark)) rest l e good h =
     λ b n g. let x : length s.world.table < s.world.limit = grind (arith, nat_tests) in
     omega (arith, x, has-entries s n h g)
-needs-places s p (Op.Steal (StealOp.Put x more f)) rest l e good h = has-free s p rest x more f l e h.owning.roomy
+needs-places s p (Op.Steal (StealOp.Put x more f)) rest l e good h = has-free s x more f (h.owning.roomy x.poll.run)
+    (omega (arith, split (filling_of x.poll.run) s.parties p (Op.Steal (StealOp.Put x more f) ∷ []) rest l e))
 needs-places s p _ rest l e good h = tt
 
 -- a Runnable that is dropped is one of a future that has no entry any more

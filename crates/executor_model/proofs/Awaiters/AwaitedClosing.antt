@@ -25,7 +25,7 @@ use Rattle.executor_model.proofs.Steps.RunsWays.{by-run, by-search, by-steal}
 use Rattle.executor_model.proofs.Awaiters.AwaitedLists.{plain-act, plain-begun, plain-wake, rough_of}
 use Rattle.executor_model.proofs.Awaiters.AwaitedSweeps.{same-act, same-log_if, sweep, sweeps-still, with-none, with_sweep}
 use Rattle.executor_model.proofs.Steps.Asides.{aside-leak_next, aside-leak_out}
-use Rattle.executor_model.proofs.{Types.Hint, Types.Step, Types.UserEnd, Steps.Cases.by_bool, Steps.Cases.by_list}
+use Rattle.executor_model.proofs.{Types.Hint, Types.Step, Types.UserEnd, Steps.Cases.by_list}
 use Rattle.executor_model.proofs.{Steps.Lists.weigh-append, Steps.Lists.weigh_all-push, Steps.Ways.Way, Steps.Ways.along}
 use Rattle.executor_model.proofs.{Steps.RunsPlain.plain-run, Steps.RunsPlain.plain-steal, Awaiters.RunsQueue.Takes.first}
 use Rattle.task_moves.specs.Moves as moves

@@ -1,6 +1,6 @@
 -- For awaiters_are_kept and calls_do_what_they_say.
 -- What a run does takes from the executor's queue at most, and neither closes nor opens it.
-use Rattle.std.proofs.Common.{◌≡◌, ◌≤◌, ℕ, zero, suc, List, [], ◌∷◌, length, drop, Bool, true, false, refl, sym, ap, subst, ◌∙◌}
+use Rattle.std.proofs.Common.{◌≡◌, ◌≤◌, ℕ, zero, suc, List, [], ◌∷◌, length, drop, Bool, true, false, refl, ap, ◌∙◌}
 use Rattle.std.proofs.Common.{arith}
 use Rattle.executor_model.proofs.Types.{Plain, Urgent, Mark, Look, First, Second, Reply, Event, ListOp, Polled, RunOp, RunPoll}
 use Rattle.executor_model.proofs.Types.{Section, Source, Common, Own, Steal, StealOp, Then, Waker, Task, Outside, Hint}

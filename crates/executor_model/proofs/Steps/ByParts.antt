@@ -7,7 +7,7 @@ use Rattle.executor_parts.specs.Marks.{first_of, turn_after}
 use Rattle.executor_model.proofs.Types.{ClosingOp, Event, HandleOp, Hint, Hold, Look, First, Second, Mark, Plain, Urgent, Move}
 use Rattle.executor_model.proofs.Types.{Moved, Op, Polled, QueueOp, RunOp, RunPoll, SleeperOp, Sleeping, Steal, StealOp}
 use Rattle.executor_model.proofs.Types.{TableOp, TickOp, TickOrRun, UserOp, Waker, Task, Outside, WakerOp}
-use Rattle.executor_model.specs.Doing.{act, search_by_who, tick_act}
+use Rattle.executor_model.specs.Doing.{act, search_by_who}
 use Rattle.executor_model.specs.World.{World, Ticker, Awake, Asleep, Left, log, log_if, own_of, put, put_own, task}
 use Rattle.executor_model.proofs.Steps.Parts.Tells.{woken, last_waker, leaked, looked, handle_polled, output_given}
 use Rattle.executor_model.proofs.Steps.Parts.Tells.{output_dropped, drop_ended, accepted, future_dropped, next_dropped}

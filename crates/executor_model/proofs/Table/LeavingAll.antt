@@ -2,7 +2,7 @@
 -- and closing_drops_each_future_once.
 -- What holds of each future and its place in the table (proofs/Table/Leaving) is kept by each effect, and so by each thing that
 -- is done.
-use Rattle.std.proofs.Common.{◌≡◌, ℕ, ◌+◌, ◌<◌, List, [], ◌∷◌, ◌++◌, length, true, false, ◌&&◌, not, ltb, refl, ap, ⊎_elim}
+use Rattle.std.proofs.Common.{◌≡◌, ℕ, ◌+◌, ◌<◌, List, [], ◌∷◌, ◌++◌, length, true, false, not, ltb, refl, ap, ⊎_elim}
 use Rattle.std.proofs.Common.{arith}
 use Rattle.std.{proofs.lemmas.List.length-append, specs.Prelude.nat_lt, specs.Prelude.slice_set}
 use Rattle.executor_model.proofs.Types.{Mark, Move, Call, Reply, Answer, Event, ClosingOp, Hold, Op, QueueOp, TableOp, UserOp}

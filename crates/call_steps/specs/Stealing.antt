@@ -20,6 +20,13 @@ use Rattle.call_steps.specs.Sleeping.{asleep, found_by_run, run_found}
 abbrev pub share : ℕ → ℕ → ℕ
 share n free = cond (nat_lt ((n + 1) / 2) free) ((n + 1) / 2) free
 
+-- a steal goes on with a walk
+abbrev pub is_walk : {F : Type 0} → Then F → Bool
+is_walk (then.Walk left) = true
+is_walk (then.Found f) = false
+is_walk (then.StealPlain f) = false
+is_walk (then.Run f) = false
+
 module _ {F T : Type 0} where
   -- a steal has ended
   abbrev pub stolen_as : Then F → Searcher → RunPoll F T → List (CallStep F T)
@@ -41,13 +48,6 @@ module _ {F T : Type 0} where
   abbrev pub steal_on : ℕ → Searcher → Steal F T → List (CallStep F T)
   steal_on zero at s = stolen at s
   steal_on (suc more) at s = step.Steal (steal_step.Take s more) ∷ []
-
-  -- a steal goes on with a walk
-  abbrev pub is_walk : Then F → Bool
-  is_walk (then.Walk left) = true
-  is_walk (then.Found f) = false
-  is_walk (then.StealPlain f) = false
-  is_walk (then.Run f) = false
 
   -- a full own queue gave it back: the steal ends, and it is dropped once no lock is held. A walk ends with it, and the run
   -- searches anew

@@ -6,7 +6,7 @@ use Rattle.executor_model.specs.ActsOfRuns.{stolen}
 use Rattle.executor_model.specs.World.{Done}
 use Rattle.executor_core.specs.Views.{world_of, Does}
 use Rattle.executor_core.proofs.Owing.{reverse_before}
-use Rattle.executor_core.proofs.Stealing.{refused-else, refused-walk}
+use Rattle.executor_core.proofs.Stealing.{refused-else}
 use Rattle.executor_core.proofs.act.steal.put_refused.Goals as goal
 
 pub returns-else-walks : goal.returns-else-walks

@@ -12,7 +12,8 @@ use Rattle.executor_laws.proofs.Types.{RunPoll, Sleeping, SleeperOp, Source, Com
 use Rattle.executor_laws.proofs.Types.{Waker, Task, Outside, Hint}
 use Rattle.executor_model.specs.Acts.{turned, mark_in, copied, followed}
 use Rattle.executor_model.specs.World.{queue_of, Asleep, Awake, Done, Left, Ticker, World, done, log, own_of, place_of, put_own, run_of}
-use Rattle.executor_model.specs.ActsOfRuns.{asleep, call_by_reference, counted_by, counted_to, found, kept_by, look_own_by, next_place, put_refused}
+use Rattle.executor_model.specs.ActsOfRuns.{asleep, call_by_reference, counted_by, counted_to, found, kept_by, look_own_by}
+use Rattle.executor_model.specs.ActsOfRuns.{next_place, put_refused}
 use Rattle.executor_model.specs.ActsOfRuns.{queue_at, run_by, search_common_by, search_own_by, steal_by, steal_length_by, steal_put_by}
 use Rattle.executor_model.specs.ActsOfRuns.{steal_take_by, stolen, wake_own, walk, without_first}
 use Rattle.executor_model.specs.ActsOfSleepers.{copy_sleeper_by, fall_asleep_by, found_by, sleep_again_by, sleep_anew_by, sleep_listed_by}

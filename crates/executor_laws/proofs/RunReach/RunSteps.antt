@@ -13,7 +13,8 @@ use Rattle.executor_laws.proofs.Types.{Task, Outside, Hint, UserEnd}
 use Rattle.executor_model.specs.Acts.{turned, mark_in, followed}
 use Rattle.executor_model.specs.World.{queue_of, Done, Left, Asleep, Ticker, Awake, World, log, own_of, place_of, put_own}
 use Rattle.executor_model.specs.ActsOfRuns.{asleep, behind, call_by_reference, counted_by, counted_to, found, kept_by, look_own_by}
-use Rattle.executor_model.specs.ActsOfRuns.{next_place, put_refused, queue_at, run_by, search_common_by, search_own_by, steal_by, steal_length_by}
+use Rattle.executor_model.specs.ActsOfRuns.{next_place, put_refused, queue_at, run_by, search_common_by, search_own_by}
+use Rattle.executor_model.specs.ActsOfRuns.{steal_by, steal_length_by}
 use Rattle.executor_model.specs.ActsOfRuns.{steal_put_by, steal_take_by, stolen, walk, without_first}
 use Rattle.executor_model.specs.ActsOfSleepers.{copy_sleeper_by, found_by, sleep_again_by, sleep_anew_by, fall_asleep_by, sleep_listed_by}
 use Rattle.executor_model.specs.ActsOfSleepers.{sleeper_goes}

@@ -14,7 +14,8 @@ use Rattle.executor_model.specs.Doing.{list_act, run_act, search_by_who, steal_a
 use Rattle.executor_model.specs.{Acts.mark_in, ActsOfSleepers.found_by, ActsOfRuns.reschedule_by, Good.Fits, Good.pasts}
 use Rattle.executor_model.specs.{Good.pasts_in, Rows.past_of, Rows.then_past, Weights.past, Weights.waker_past, Weights.weigh}
 use Rattle.executor_model.proofs.Counts.Fitting.{Grown, Grows, Shaped, shaped, fits-log, grows-carried, same-log}
-use Rattle.executor_model.proofs.Steps.RunsMoves.{Same, moves-refused, same-found, same-here, same-rooms, same-stolen, same-taken, same-trans}
+use Rattle.executor_model.proofs.Steps.RunsMoves.{Same, moves-refused, same-found, same-here, same-rooms, same-stolen}
+use Rattle.executor_model.proofs.Steps.RunsMoves.{same-taken, same-trans}
 use Rattle.executor_model.proofs.{Steps.QueuesByMark.pasts-first, Steps.Lists.weigh-append, Steps.SleepersLists.given_back-same}
 use Rattle.task_moves.specs.Moves as moves
 

@@ -235,7 +235,8 @@ shut-turn w v old m p f g true z (inr k) o e =
 shut-effect : (w : World) (old : List Op) (d : Done) (g : ℕ) → Effect w old d → IsOpen w g → IsShut d.world g → Moves old g
 shut-effect w old d g (passes s c) o u = absurd (no-shut (task d.world g) (goes-open w old d g s o) u)
 shut-effect w old _ g (turns d m p f v more i j k s a e) o u =
-    shut-turn w v old m p f g (eqb g f) refl k (goes-open w old (record { world = v; next = Op.Move m f ∷ more }) g (λ h r y. shifts _ _ (s h r y)) o)
+    shut-turn w v old m p f g (eqb g f) refl k
+    (goes-open w old (record { world = v; next = Op.Move m f ∷ more }) g (λ h r y. shifts _ _ (s h r y)) o)
     (subst (λ (x : World). IsShut x g) a u)
 shut-effect w old d g (refuses f e) o u = absurd (no-shut (task w g) o u)
 shut-effect w old d g (enters mark p e) o u =

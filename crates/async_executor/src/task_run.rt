@@ -5,7 +5,7 @@ ghost use Rattle.task_moves.specs.declared.moves.owed.Move.TheVariants as move;
 ghost use Rattle.async_task.specs.Awaiters.{identity_of};
 ghost use Rattle.call_steps.specs.Todo.{below, top};
 ghost use Rattle.call_steps.specs.declared.step.CallStep.TheVariants as step;
-ghost use Rattle.async_executor.specs.Polling.{begun_as, end_by, settled_as, IsRunOf};
+ghost use Rattle.async_executor.specs.Polling.{begun_as, end_by, end_step, settled_as, IsRunOf};
 
 use crate::entry::Unlocked;
 use crate::names::{ExClosing, ExRunning, ExScheduled, ExWaker};
@@ -52,7 +52,7 @@ where
     R: Wait + Copy + Drop + 'static,
 {
     closing: ExClosing<T, W, R>,
-    // By which move it ends.
+    // By which move it ends, where the task was closed.
     ends: Snapshot<Move>,
 }
 
@@ -136,7 +136,7 @@ where
             }
             RunEnd::Pause(pause) => match pause.into_due() {
                 Some(Due { runnable, info }) => {
-                    steps.follow(Saw::Moved(false, owing(info)));
+                    steps.follow(Saw::Moved(false, owing(Some(info), None, false)));
                     Settled::Woken(runnable)
                 }
                 None => {
@@ -145,8 +145,14 @@ where
                 }
             },
             RunEnd::Drop(place, closing) => {
-                steps.see_future(FutureDebt::DropFuture, Some(Move::EndClosed));
-                Settled::Drop(place, Dropping::by(closing, Move::EndClosed))
+                if closing.was_closed() {
+                    steps.see_future(FutureDebt::DropFuture, Some(Move::EndClosed));
+                    Settled::Drop(place, Dropping::by(closing, Move::EndClosed))
+                } else {
+                    let owed = owing(None, Some(FutureDebt::DropFuture), true);
+                    steps.follow(Saw::Moved(true, owed));
+                    Settled::Drop(place, Dropping::by(closing, Move::EndClosed))
+                }
             }
         }
     }
@@ -158,9 +164,10 @@ where
     W: Wake + Drop + 'static,
     R: Wait + Copy + Drop + 'static,
 {
-    /// One that ends by this move.
+    /// One that ends by this move, where the task was closed.
     fn by(closing: ExClosing<T, W, R>, ends: Move) -> Self
-        ensures { result.ends.value ≡ ends }
+        ensures closing { result.closing ≡ closing }
+        ensures ends { result.ends.value ≡ ends }
     {
         Dropping {
             closing,
@@ -170,28 +177,34 @@ where
 
     /// Ends the run, with no lock held, once the future is dropped.
     pub fn finish(self, name: &TaskName, steps: &mut Steps, unlocked: &Unlocked)
-        requires { top steps.old ≡ Some (step.Move self.ends.value name.now) }
+        requires { top steps.old ≡ Some (end_step self name.now) }
         ensures { steps.new ≡ below steps.old }
     {
         let (_, _) = (unlocked, name);
         let Dropping { closing, ends: _ } = self;
+        let was_closed = closing.was_closed();
         closing.finish();
-        steps.see_moved(false);
+        if was_closed {
+            steps.see_moved(false);
+        } else {
+            steps.follow(Saw::Awaiter(false, None));
+        }
     }
 }
 
-/// What a task owes of which all is paid but its Runnable, which is due.
+/// What a task owes that has moved: this to its schedule value, and this to its future, and that its cell is emptied. All else is
+/// paid.
 #[inline(always)]
-fn owing(info: ScheduleInfo) -> Owed
-    ensures { result ≡ record nothing { schedule = Some info } }
+fn owing(schedule: Option<ScheduleInfo>, future: Option<FutureDebt>, empty_cell: bool) -> Owed
+    ensures { result ≡ record nothing { schedule = schedule; future = future; empty_cell = empty_cell } }
 {
     Owed {
-        schedule: Some(info),
-        future: None,
+        schedule,
+        future,
         drop_output: false,
         awaiter: None,
         next: None,
         answer: None,
-        empty_cell: false,
+        empty_cell,
     }
 }

@@ -1,10 +1,8 @@
 //! The wakers that an executor's drop, or its leak, takes out of its table.
-ghost use Rattle.std.specs.Prelude.{◌≡◌, ◌+◌, [], ◌∷◌, ◌++◌, false, drop as list_drop, length, slice_get};
+ghost use Rattle.std.specs.Prelude.{◌≡◌, ◌+◌, [], ◌∷◌, ◌++◌, drop as list_drop, length, slice_get};
 ghost use Rattle.std.specs.Prelude.{IfErr, IfSome, None, OnOk, OnSome, Some};
-ghost use Rattle.async_executor.specs.Closing.{listed, woke};
+ghost use Rattle.async_executor.specs.Closing.{listed};
 ghost use Rattle.call_steps.specs.Closing.{closing, leaking};
-ghost use Rattle.call_steps.specs.Fitting.{Fits};
-ghost use Rattle.call_steps.specs.Todo.{following, top};
 ghost use Rattle.call_steps.specs.declared.reply.Reply.TheVariants as reply;
 ghost use Rattle.call_steps.specs.declared.step.CallStep.TheVariants as step;
 ghost use Rattle.call_steps.specs.declared.step.table.ClosingStep.TheVariants as closing_step;
@@ -16,12 +14,9 @@ use crate::names::{ExRealm, TableWaker};
 use crate::steps::Steps;
 use crate::task_name::TaskName;
 use async_task::{Returning, StoredWaker, Wake};
-use call_steps::Saw;
 use std::collections::VecDeque;
 use std::marker::Model;
 use std::sync::Wait;
-use task_moves::ScheduleInfo;
-use task_moves::moves::Owed;
 
 /// A waker that came out of the table. It has no drop: it is called.
 #[must_use]
@@ -107,10 +102,10 @@ impl ToCall {
         let name = self.name();
         match self.call(rt, realm, unlocked) {
             Some(handed) => {
-                see_woken(name, true, left, steps);
+                steps.see_woken(name, true, left);
                 pay_next(rt, Some(handed), steps, unlocked);
             }
-            None => see_woken(name, false, left, steps),
+            None => steps.see_woken(name, false, left),
         }
     }
 
@@ -133,10 +128,10 @@ impl ToCall {
         let name = self.name();
         match self.call(rt, realm, unlocked) {
             Some(handed) => {
-                see_woken(name, true, left, steps);
+                steps.see_woken(name, true, left);
                 pay_next(rt, Some(handed), steps, unlocked);
             }
-            None => see_woken(name, false, left, steps),
+            None => steps.see_woken(name, false, left),
         }
     }
 }
@@ -259,44 +254,5 @@ impl Leaving {
     {
         let Leaving { wakers } = self;
         drop(wakers);
-    }
-}
-
-/// A waker that came out of the table was called, of this task, and all that this owed was paid in that, but for its Runnable,
-/// where that is due; so many wakers are left.
-pub fn see_woken(woken: TaskName, is_due: bool, left: u64, steps: &mut Steps)
-    requires { Fits (top steps.old) (woke woken is_due left) }
-    ensures { steps.new ≡ following (woke woken is_due left) steps.old }
-{
-    if is_due {
-        let info = ScheduleInfo {
-            woken_while_running: false,
-        };
-        steps.follow(Saw::Wakes(woken, false, owing(Some(info)), left));
-    } else {
-        steps.follow(Saw::Wakes(woken, false, owing(None), left));
-    }
-}
-
-/// What a task owes that was woken: its Runnable, where that is due.
-fn owing(schedule: Option<ScheduleInfo>) -> Owed
-    ensures { result ≡ record {
-      schedule = schedule;
-      future = None;
-      drop_output = false;
-      awaiter = None;
-      next = None;
-      answer = None;
-      empty_cell = false;
-    } }
-{
-    Owed {
-        schedule,
-        future: None,
-        drop_output: false,
-        awaiter: None,
-        next: None,
-        answer: None,
-        empty_cell: false,
     }
 }

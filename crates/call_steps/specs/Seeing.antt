@@ -1,5 +1,5 @@
 -- What a running call sees, and how that leaves what it has still to do.
-use Rattle.std.specs.Prelude.{◌≡◌, Bool, true, false, Option, Some, None, List, ◌∷◌}
+use Rattle.std.specs.Prelude.{◌≡◌, ℕ, Bool, true, false, Option, Some, None, List, ◌∷◌}
 use Rattle.task_moves.specs.declared.moves.owed.FutureDebt.{FutureDebt}
 use Rattle.task_moves.specs.declared.moves.owed.Move.{Move}
 use Rattle.task_moves.specs.declared.moves.owed.Owed.{Owed}
@@ -51,6 +51,11 @@ module _ {F T : Type 0} where
   -- a task has moved, and all was paid but a Runnable, where that is due
   abbrev pub moved : Bool → Saw F T
   moved is_due = saw.Moved false (owes is_due)
+
+  -- a waker that came out of the table was called, of the task of this future, and so many are left; all that this owed was
+  -- paid but a Runnable, where that is due
+  abbrev pub woke : F → Bool → ℕ → Saw F T
+  woke f is_due left = saw.Wakes f false (owes is_due) left
 
   -- a task has moved, and this is owed to its future, and then this move follows
   abbrev pub futured : FutureDebt → Option Move → Saw F T

@@ -31,8 +31,8 @@ future_taken (Some taken) = Some taken.future
 abbrev pub Todo : Type 0
 Todo = List (CallStep Identity (Unit {0}))
 
--- by which step a run ends whose future is dropped: that of a closed task by this move; where nobody can reach the task any more,
--- who awaits it is let go
+-- by which step a run ends whose future is dropped: that of a closed task by this move; that of one which nobody can reach any more
+-- lets go of who awaited it
 abbrev pub ended_by : Bool → Move → Identity → CallStep Identity (Unit {0})
 ended_by true move f = step.Move move f
 ended_by false move f = step.Handle (handle_step.LetGo f)

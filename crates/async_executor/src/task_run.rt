@@ -136,7 +136,7 @@ where
             }
             RunEnd::Pause(pause) => match pause.into_due() {
                 Some(Due { runnable, info }) => {
-                    steps.follow(Saw::Moved(false, owing(Some(info), None, false)));
+                    steps.follow(Saw::Moved(false, owing(info)));
                     Settled::Woken(runnable)
                 }
                 None => {
@@ -149,8 +149,7 @@ where
                     steps.see_future(FutureDebt::DropFuture, Some(Move::EndClosed));
                     Settled::Drop(place, Dropping::by(closing, Move::EndClosed))
                 } else {
-                    let owed = owing(None, Some(FutureDebt::DropFuture), true);
-                    steps.follow(Saw::Moved(true, owed));
+                    steps.see_forgotten();
                     Settled::Drop(place, Dropping::by(closing, Move::EndClosed))
                 }
             }
@@ -192,19 +191,18 @@ where
     }
 }
 
-/// What a task owes that has moved: this to its schedule value, and this to its future, and that its cell is emptied. All else is
-/// paid.
+/// What a task owes of which all is paid but its Runnable, which is due.
 #[inline(always)]
-fn owing(schedule: Option<ScheduleInfo>, future: Option<FutureDebt>, empty_cell: bool) -> Owed
-    ensures { result ≡ record nothing { schedule = schedule; future = future; empty_cell = empty_cell } }
+fn owing(info: ScheduleInfo) -> Owed
+    ensures { result ≡ record nothing { schedule = Some info } }
 {
     Owed {
-        schedule,
-        future,
+        schedule: Some(info),
+        future: None,
         drop_output: false,
         awaiter: None,
         next: None,
         answer: None,
-        empty_cell,
+        empty_cell: false,
     }
 }

@@ -228,12 +228,13 @@ where
         ensures { result ≡ was_closed self.now.closed }
     {
         match &self.closed {
+            Closed::Runnable(_) | Closed::Run(_) => true,
             Closed::Left(_) => false,
-            _ => true,
         }
     }
 
-    /// Ends the call, once the future is dropped: who awaits the task is woken.
+    /// Ends the call, once the future is dropped: who awaits a closed task is woken, and who awaited one that nobody can reach is let
+    /// go.
     pub fn finish(self) {
         let Self { held, closed } = self;
         match closed {

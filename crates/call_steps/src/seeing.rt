@@ -7,7 +7,7 @@ ghost use Rattle.call_steps.specs.declared.step.CallStep.TheVariants as step;
 ghost use Rattle.call_steps.specs.declared.step.handle.HandleStep.TheVariants as handle_step;
 ghost use Rattle.call_steps.specs.declared.step.handle.WakerStep.TheVariants as waker_step;
 ghost use Rattle.call_steps.specs.Fitting.{Fits};
-ghost use Rattle.call_steps.specs.Seeing.{due, futured, infos, moved, seen, woke};
+ghost use Rattle.call_steps.specs.Seeing.{due, forgotten, futured, infos, moved, seen, woke};
 ghost use Rattle.call_steps.specs.Todo.{below, following, top};
 
 use crate::call::Call;
@@ -58,6 +58,18 @@ impl<F: Drop, T: Drop, B: Drop> Call<F, T, B> {
         ensures { self.new ≡ following (futured debt next) self.old }
     {
         self.follow(Saw::Moved(true, owing(None, Some(debt), None, next)));
+    }
+
+    /// A poll has ended of a task that nobody can reach any more: its future is to be dropped, and then all that its cell still has.
+    pub fn see_forgotten(&mut self)
+        requires { Fits (top self.old) forgotten }
+        ensures { self.new ≡ following forgotten self.old }
+    {
+        let owed = Owed {
+            empty_cell: true,
+            ..owing(None, Some(FutureDebt::DropFuture), None, None)
+        };
+        self.follow(Saw::Moved(true, owed));
     }
 
     /// A Runnable of the first future was closed. The second awaited that one, and was woken: its Runnable is due.

@@ -202,7 +202,7 @@ where
 {
     let left = (left - 1) as u64;
     match sections::turn(table) {
-        Some(waker) => waker.call_in_leak(rt, realm, left, steps, unlocked),
+        Some(waker) => waker.call_and_pay(rt, realm, left, steps, unlocked),
         None => steps.see_woken(TaskName::of_none(), false, left),
     }
 }

@@ -1,8 +1,10 @@
 //! The wakers that an executor's drop, or its leak, takes out of its table.
-ghost use Rattle.std.specs.Prelude.{◌≡◌, ◌+◌, [], ◌∷◌, ◌++◌, drop as list_drop, length, slice_get};
+ghost use Rattle.std.specs.Prelude.{◌≡◌, ◌+◌, [], ◌∷◌, ◌++◌, false, drop as list_drop, length, slice_get};
 ghost use Rattle.std.specs.Prelude.{IfErr, IfSome, None, OnOk, OnSome, Some};
-ghost use Rattle.async_executor.specs.Closing.{listed};
-ghost use Rattle.call_steps.specs.Closing.{closing, leaking};
+ghost use Rattle.async_executor.specs.Closing.{listed, CallsWaker};
+ghost use Rattle.call_steps.specs.Closing.{closing};
+ghost use Rattle.call_steps.specs.Seeing.{woke};
+ghost use Rattle.call_steps.specs.Todo.{following, top};
 ghost use Rattle.call_steps.specs.declared.reply.Reply.TheVariants as reply;
 ghost use Rattle.call_steps.specs.declared.step.CallStep.TheVariants as step;
 ghost use Rattle.call_steps.specs.declared.step.table.ClosingStep.TheVariants as closing_step;
@@ -83,8 +85,9 @@ impl ToCall {
         }
     }
 
-    /// A leak calls it, with all that this leads to, and so many are left.
-    pub fn call_in_leak<T, W, R>(
+    /// Calls it, with all that this leads to, where so many are left: as a leak does, and an executor's drop.
+    #[tactic(auto, using(crate::proofs::Waking::sees_waking, crate::proofs::Waking::appends_first))]
+    pub fn call_and_pay<T, W, R>(
         self,
         rt: R,
         realm: &'static ExRealm<T, W, R>,
@@ -96,34 +99,8 @@ impl ToCall {
         T: Drop + 'static,
         W: Wake + Drop + 'static,
         R: Wait + Copy + Drop + 'static,
-        requires { steps.old ≡ step.Closing closing_step.LeakNext ∷ step.End reply.Done ∷ [] }
-        ensures { steps.new ≡ leaking left ++ step.End reply.Done ∷ [] }
-    {
-        let name = self.name();
-        match self.call(rt, realm, unlocked) {
-            Some(handed) => {
-                steps.see_woken(name, true, left);
-                pay_next(rt, Some(handed), steps, unlocked);
-            }
-            None => steps.see_woken(name, false, left),
-        }
-    }
-
-    /// An executor's drop calls it, with all that this leads to, and so many are left.
-    fn call_in_drop<T, W, R>(
-        self,
-        rt: R,
-        realm: &'static ExRealm<T, W, R>,
-        left: u64,
-        steps: &mut Steps,
-        unlocked: &mut Unlocked,
-    )
-    where
-        T: Drop + 'static,
-        W: Wake + Drop + 'static,
-        R: Wait + Copy + Drop + 'static,
-        requires { steps.old ≡ step.Closing closing_step.WakeNext ∷ step.End reply.Done ∷ [] }
-        ensures { steps.new ≡ closing 0 left ++ step.End reply.Done ∷ [] }
+        requires { CallsWaker (top steps.old) }
+        ensures { steps.new ≡ following (woke self.identity false left) steps.old }
     {
         let name = self.name();
         match self.call(rt, realm, unlocked) {
@@ -243,7 +220,7 @@ impl Leaving {
                 return;
             };
             let left = self.len() as u64;
-            waker.call_in_drop(rt, realm, left, steps, unlocked);
+            waker.call_and_pay(rt, realm, left, steps, unlocked);
         }
         unreachable!()
     }

@@ -1,23 +1,18 @@
 -- What a poll of a task has of its future.
 use Rattle.std.specs.Prelude.{◌≡◌, Bool, true, false, Option, Some, None, List, ◌∷◌}
 use Rattle.async_executor.specs.declared.sections.Taken.{Taken}
-use Rattle.async_executor.specs.declared.task_run.Begun.{Begun}
-use Rattle.async_executor.specs.declared.task_run.Begun.TheVariants as begun
 use Rattle.async_executor.specs.declared.task_run.Dropping.{Dropping}
-use Rattle.async_executor.specs.declared.task_run.Settled.{Settled}
-use Rattle.async_executor.specs.declared.task_run.Settled.TheVariants as settled
-use Rattle.async_task.specs.Awaiters.{identity_of}
 use Rattle.async_task.specs.Runs.{was_closed}
 use Rattle.async_task.specs.declared.cell.Identity.{Identity}
 use Rattle.async_task.specs.declared.poll.Poll.{Poll}
-use Rattle.async_task.specs.declared.wake.Wake.{Ghosts}
 use Rattle.async_task.specs.declared.poll.Poll.TheVariants.{Ready, Pending}
+use Rattle.async_task.specs.declared.runnable.RunEnd.{RunEnd}
+use Rattle.async_task.specs.declared.runnable.RunEnd.TheVariants.{Over, Pause, Drop}
 use Rattle.call_steps.specs.declared.saw.Saw.{Saw}
 use Rattle.call_steps.specs.declared.saw.Saw.TheVariants as saw
 use Rattle.call_steps.specs.declared.step.CallStep.{CallStep}
 use Rattle.call_steps.specs.declared.step.CallStep.TheVariants as step
 use Rattle.call_steps.specs.declared.step.handle.HandleStep.TheVariants as handle_step
-use Rattle.call_steps.specs.declared.step.table.QueueStep.TheVariants as queue_step
 use Rattle.call_steps.specs.declared.step.table.TableStep.TheVariants as table_step
 use Rattle.task_moves.specs.declared.local_task.answers.Back.{Back}
 use Rattle.task_moves.specs.declared.local_task.answers.Back.TheVariants as back
@@ -30,25 +25,6 @@ future_taken (Some taken) = Some taken.future
 
 abbrev pub Todo : Type 0
 Todo = List (CallStep Identity (Unit {0}))
-
--- by which step a run ends whose future is dropped: that of a closed task by this move; that of one which nobody can reach any more
--- lets go of who awaited it
-abbrev pub ended_by : Bool → Move → Identity → CallStep Identity (Unit {0})
-ended_by true move f = step.Move move f
-ended_by false move f = step.Handle (handle_step.LetGo f)
-
-abbrev pub end_step : {T W R : Type 0} → Dropping T W R → Identity → CallStep Identity (Unit {0})
-end_step dropping f = ended_by (was_closed dropping.closing.closed) dropping.ends.value f
-
--- what a run begins with: its future is taken out, to be polled or dropped; where it is dropped, the run ends by a step of its own
-abbrev pub begun_as : {T W R : Type 0} {wakes : Ghosts W} → Begun T W R wakes → Identity → Todo → Todo
-begun_as (begun.Poll place polling) f rest = step.Table (table_step.TakeToPoll f) ∷ rest
-begun_as (begun.Drop place dropping) f rest = step.Table (table_step.TakeToDrop f) ∷ end_step dropping f ∷ rest
-
--- a run that was begun is one of this task: it polls with that one's waker
-abbrev pub IsRunOf : {T W R : Type 0} {wakes : Ghosts W} → Begun T W R wakes → Identity → Type 0
-IsRunOf (begun.Poll place polling) f = identity_of polling.running.waker ≡ Some f
-IsRunOf (begun.Drop place dropping) f = Unit {0}
 
 -- what a poll sees
 abbrev pub poll_seen : {O : Type 0} → Poll O → Saw Identity (Unit {0})
@@ -64,8 +40,21 @@ abbrev pub end_by : {P O : Type 0} → Back P O → Move
 end_by (back.Ready output) = move.EndReady
 end_by (back.Pending place) = move.EndPending
 
--- what the end of a poll leaves to be done
-abbrev pub settled_as : {T W R : Type 0} → Settled T W R → Identity → Todo → Todo
-settled_as settled.Over f rest = rest
-settled_as (settled.Woken runnable) f rest = step.Queue (queue_step.Append runnable.identity) ∷ rest
-settled_as (settled.Drop place dropping) f rest = step.Table (table_step.TakeToDrop f) ∷ end_step dropping f ∷ rest
+-- a run that has ended is one of this task; what isn't over was polled without an output
+abbrev pub IsEndOf : {P T S M W R : Type 0} → Back P T → RunEnd P T S M W R → Identity → Type 0
+IsEndOf b Over f = Unit {0}
+IsEndOf b (Pause pause) f = (pause.held.identity ≡ f) × (end_by b ≡ move.EndPending)
+IsEndOf b (Drop place closing) f = end_by b ≡ move.EndPending
+
+-- by which step a run ends whose future is dropped: that of a closed task by this move; that of one which nobody can reach any more
+-- lets go of who awaited it
+abbrev pub ended_by : Bool → Move → Identity → CallStep Identity (Unit {0})
+ended_by true move f = step.Move move f
+ended_by false move f = step.Handle (handle_step.LetGo f)
+
+abbrev pub end_step : {T W R : Type 0} → Dropping T W R → Identity → CallStep Identity (Unit {0})
+end_step dropping f = ended_by (was_closed dropping.closing.closed) dropping.ends.value f
+
+-- a future is taken out to be dropped, and the run then ends by a step of its own
+abbrev pub dropped_by : {T W R : Type 0} → Dropping T W R → Identity → Todo → Todo
+dropped_by dropping f rest = step.Table (table_step.TakeToDrop f) ∷ end_step dropping f ∷ rest

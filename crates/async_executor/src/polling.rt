@@ -19,8 +19,8 @@ use crate::sections::Taken;
 use crate::state::redeem;
 use crate::steps::Steps;
 use crate::task_name::TaskName;
-use crate::task_run::{Begun, Dropping, Polling, Settled, begin};
-use async_task::{Back, Future, Poll, Returning, StoredWaker, Wake};
+use crate::task_run::{Dropping, Polling, see_due};
+use async_task::{Back, Due, Future, Poll, Returning, RunEnd, Started, StoredWaker, Wake};
 use call_steps::Saw;
 use executor_parts::EntryPlace;
 use std::sync::Wait;
@@ -48,9 +48,13 @@ where
             steps.see_moved(false);
             return;
         };
-        match begin(scheduled, &name, steps) {
-            Begun::Poll(place, polling) => self.poll(place, polling, &name, steps, unlocked),
-            Begun::Drop(place, dropping) => {
+        match scheduled.into_runnable().start() {
+            Started::Poll(place, running) => {
+                let polling = Polling::begin(running, &name, steps);
+                self.poll(place, polling, &name, steps, unlocked);
+            }
+            Started::Drop(place, closing) => {
+                let dropping = Dropping::begin(closing, &name, steps);
                 self.drop_future(place, dropping, &name, steps, unlocked);
             }
         }
@@ -78,14 +82,37 @@ where
         );
         let polled = self.poll_taken(place, taken, &polling, name, steps, unlocked);
         let back = back_of(polled, place);
-        match polling.settle(back, name, steps, unlocked) {
-            Settled::Over => {}
-            Settled::Woken(runnable) => {
-                let marked = Marked::of(runnable);
-                self.state
-                    .push_and_pay(self.rt, self.realm, steps, marked, unlocked);
-            }
-            Settled::Drop(place, dropping) => {
+        self.settle(polling, back, name, steps, unlocked);
+    }
+
+    /// Ends the run of a future that was polled. A task that was woken meanwhile is queued, and one that was closed meanwhile
+    /// loses its future.
+    #[inline(always)]
+    fn settle(
+        &self,
+        polling: Polling<T, W, R>,
+        back: Back<EntryPlace, T>,
+        name: &TaskName,
+        steps: &mut Steps,
+        unlocked: &mut Unlocked,
+    )
+        requires named { identity_of polling.running.waker ≡ Some name.now }
+        requires ends { top steps.old ≡ Some (step.Move (end_by back) name.now) }
+        ensures { steps.new ≡ below steps.old }
+    {
+        match polling.settle(back, name, unlocked) {
+            RunEnd::Over => steps.see_moved(false),
+            RunEnd::Pause(pause) => match pause.into_due() {
+                Some(Due { runnable, info: _ }) => {
+                    see_due(name, steps);
+                    let marked = Marked::of(runnable);
+                    self.state
+                        .push_and_pay(self.rt, self.realm, steps, marked, unlocked);
+                }
+                None => steps.see_moved(false),
+            },
+            RunEnd::Drop(place, closing) => {
+                let dropping = Dropping::left(closing, name, steps);
                 self.drop_future(place, dropping, name, steps, unlocked);
             }
         }

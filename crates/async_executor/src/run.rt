@@ -3,7 +3,8 @@ ghost use Rattle.std.specs.Prelude.{◌≡◌, ◌+◌, ◌==◌, ◌∷◌, [],
 ghost use Rattle.async_executor.specs.Counted.{one_more, searcher};
 ghost use Rattle.async_executor.specs.Counting.{GoesOn};
 ghost use Rattle.async_executor.specs.Polls.{has_left, EndsWith, GoesOnOrWants, HasLeft, IsRunAnswer, replied_by_run};
-ghost use Rattle.async_executor.specs.Runs.{counts, ends_ready, has_ended, poll_with, ran, runs, searched_by_run, stage_by, stage_polled, tells};
+ghost use Rattle.async_executor.specs.Runs.{counts, ends_ready, has_ended, poll_with, ran, runs, searched_by_run};
+ghost use Rattle.async_executor.specs.Runs.{stage_by, stage_polled, tells};
 ghost use Rattle.async_executor.specs.Sleeping.{is_asleep, SleepsBy};
 ghost use Rattle.async_executor.specs.Sought.{sought};
 ghost use Rattle.async_executor.specs.Steps.{name_given, of_stored};

@@ -44,7 +44,8 @@ use std::sync::{Arc, Wait};
 
 mod ending;
 
-/// What a search of a run is, as contracts see it: the name of the waker that the run was polled with, and how far it had counted as it began to search.
+/// What a search of a run is, as contracts see it: the name of the waker that the run was polled with, and how far it had counted
+/// as it began to search.
 #[derive(Drop)]
 pub struct Search<'a> {
     pub name: &'a Waker<TaskName>,

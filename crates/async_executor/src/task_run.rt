@@ -1,5 +1,5 @@
 //! A task while it is run. Its end calls who awaits it, so it is lent an `Unlocked`.
-ghost use Rattle.std.specs.Prelude.{◌≡◌, true, Some};
+ghost use Rattle.std.specs.Prelude.{◌≡◌, ◌∷◌, true, Some};
 ghost use Rattle.task_moves.specs.declared.moves.owed.Move.TheVariants as move;
 ghost use Rattle.async_task.specs.Awaiters.{identity_of};
 ghost use Rattle.async_task.specs.Runs.{was_closed};

@@ -7,5 +7,11 @@ pub into_seat-requires : goal.into_seat-requires
 into_seat-requires g c = one_view Reference c.args.self.claim.badge.views c.args.self.one
 
 pub returns : goal.returns
-returns g c =
-    (search rules, search rules, search rules, search rules, (held_by Reference c.args.self.claim.badge.views c.into_seat.result.me.0 c.args.self.one c.into_seat.ensures.2, c.into_seat.ensures.3))
+returns g c = (
+  search rules,
+  search rules,
+  search rules,
+  search rules,
+  held_by Reference c.args.self.claim.badge.views c.into_seat.result.me.0 c.args.self.one c.into_seat.ensures.2,
+  c.into_seat.ensures.3,
+)

@@ -7,5 +7,9 @@ pub into_seat-requires : goal.into_seat-requires
 into_seat-requires g c = one_view Leaving c.args.self.claim.badge.views c.args.self.past
 
 pub returns : goal.returns
-returns g c =
-    (search rules, search rules, (held_by Leaving c.args.self.claim.badge.views c.into_seat.result.me.0 c.args.self.past c.into_seat.ensures.2, c.into_seat.ensures.3))
+returns g c = (
+  search rules,
+  search rules,
+  held_by Leaving c.args.self.claim.badge.views c.into_seat.result.me.0 c.args.self.past c.into_seat.ensures.2,
+  c.into_seat.ensures.3,
+)

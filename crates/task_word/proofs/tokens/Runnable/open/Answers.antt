@@ -12,6 +12,5 @@ returns g c = (
   search rules,
   search rules,
   search rules,
-  held_by Queued c.args.self.claim.badge.views c.into_seat.result.me.0 c.args.self.right c.into_seat.ensures.2,
-  c.into_seat.ensures.3,
+  (held_by Queued c.args.self.claim.badge.views c.into_seat.result.me.0 c.args.self.right c.into_seat.ensures.2, c.into_seat.ensures.3),
 )

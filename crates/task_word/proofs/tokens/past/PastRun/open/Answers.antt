@@ -10,6 +10,5 @@ pub returns : goal.returns
 returns g c = (
   search rules,
   search rules,
-  held_by Leaving c.args.self.claim.badge.views c.into_seat.result.me.0 c.args.self.past c.into_seat.ensures.2,
-  c.into_seat.ensures.3,
+  (held_by Leaving c.args.self.claim.badge.views c.into_seat.result.me.0 c.args.self.past c.into_seat.ensures.2, c.into_seat.ensures.3),
 )

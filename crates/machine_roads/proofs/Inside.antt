@@ -8,7 +8,7 @@ use Rattle.task_moves.specs.AbstractTask.Polled.{Output as OutputOf, Cancelled a
 use Rattle.executor_model.specs.declared.op.Waker.{Waker}
 use Rattle.plain_scheduler.specs.State.{ATick, Choice, Code, Full, Lose, Loses, Made, NoMemory, Plain}
 use Rattle.plain_scheduler.specs.Lists.{on, or}
-use Rattle.plain_scheduler.specs.Moves.{answers, appended, becomes, called, copied, enters, let_go, put, see, task, tell}
+use Rattle.plain_scheduler.specs.Moves.{answers, appended, becomes, copied, enters, let_go, put, see, task, tell}
 use Rattle.plain_scheduler.specs.Takes as plain_takes
 use Rattle.plain_scheduler.specs.Calls.{cancel, detach, does, ends, entered, handle_by, innermost, is_granted, living_from, registered}
 use Rattle.plain_scheduler.specs.Calls.{Cancel, Copy, Detach, DropHandle, DropTick, Ends, NewRun, NewTick, PollHandle, Release, Spawn}

@@ -22,7 +22,7 @@ use Rattle.executor_model.specs.Quiet.{IsQuiet}
 use Rattle.executor_model.specs.Steps.{Machine, accepts, react, waker_of}
 use Rattle.executor_model.specs.World.{World, Done, done, task}
 use Rattle.executor_model.specs.World as world
-use Rattle.executor_model.proofs.Steps.Reached.{Reached, deep-here, reached-more, run-first}
+use Rattle.executor_model.proofs.Steps.Reached.{Reached, reached-more, run-first}
 use Rattle.plain_scheduler.specs.State.{Choice, Closed, Code, Drop, End, Future, Lose, Plain, Poll, Refusal, Taker, Tick, Try}
 use Rattle.plain_scheduler.specs.Lists.{on}
 use Rattle.plain_scheduler.specs.Moves.{called, task as plain_task, tell}

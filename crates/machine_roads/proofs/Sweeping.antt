@@ -1,8 +1,8 @@
 -- In the executor's drop both queues are closed, and what stands in them is dropped, behind the drops and the wakes of the futures.
 use Rattle.std.proofs.Common.{◌≡◌, ℕ, ◌-◌, ◌+◌, ◌<◌, ◌≤◌, ◌++◌, Bool, true, false, List, [], ◌∷◌, length}
-use Rattle.std.proofs.Common.{Option, Some, None, is_some, slice_get, slice_set, if◌then◌else◌, refl, sym, ap, subst, ◌∙◌, arith}
+use Rattle.std.proofs.Common.{Option, Some, None, is_some, slice_get, slice_set, refl, sym, ap, subst, ◌∙◌, arith}
 use Rattle.std.proofs.Common.{drop}
-use Rattle.std.specs.Prelude.{filter, slice_index_or}
+use Rattle.std.specs.Prelude.{slice_index_or}
 use Rattle.std.proofs.lemmas.List.{get_or-set_same}
 use Rattle.queue_steps.specs.ClosableQueue.{shut, taken}
 use Rattle.executor_parts.specs.declared.mark.Mark.{Mark}
@@ -31,10 +31,10 @@ use Rattle.executor_model.specs.Good.{IsKnownWaker}
 use Rattle.executor_model.specs.Queues.{Queues, queue_in}
 use Rattle.executor_model.specs.World.{World, Done, done, among, awaiter_of, blank, log, own_of, put_awaiter, put_queue, queue_of}
 use Rattle.executor_model.specs.World as world
-use Rattle.plain_scheduler.specs.State.{Answers, Calls, Choice, Close, Due, Future, Plain, Done as DoneAnswer}
+use Rattle.plain_scheduler.specs.State.{Calls, Choice, Close, Due, Future, Plain, Done as DoneAnswer}
 use Rattle.plain_scheduler.specs.Lists.{each, on, without}
 use Rattle.plain_scheduler.specs.Moves.{answers, called, is_common, is_kept, put, task}
-use Rattle.plain_scheduler.specs.Calls.{close, closed, swept}
+use Rattle.plain_scheduler.specs.Calls.{close, swept}
 use Rattle.machine_roads.specs.View.{Output, view, waker_in, wakes}
 use Rattle.machine_roads.specs.Moving.{IsQueued}
 use Rattle.machine_roads.specs.Road.{Follows, IsStored, futures_in, waking_in}
@@ -45,7 +45,7 @@ use Rattle.machine_roads.proofs.Changing.{logs, puts, sees, settles}
 use Rattle.machine_roads.proofs.Ending.{gave_up, gave_up_owes}
 use Rattle.machine_roads.proofs.Having.{HasIn}
 use Rattle.machine_roads.proofs.Leaking.{freed_inside}
-use Rattle.machine_roads.proofs.Lists.{clash, get_below, length_set, map_append, set_twice}
+use Rattle.machine_roads.proofs.Lists.{clash, get_below, length_set, set_twice}
 use Rattle.machine_roads.proofs.Moved.{moved_so}
 use Rattle.machine_roads.proofs.Moving.{state}
 use Rattle.machine_roads.proofs.Nobody.{WaitAmong, call_so, called_calmly, closed_due}

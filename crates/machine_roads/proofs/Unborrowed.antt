@@ -1,6 +1,6 @@
 -- Where the executor's drop may begin and no call is in progress: no tick or run lies or keeps anything, and who waits for a wake
 -- has its entry.
-use Rattle.std.proofs.Common.{◌≡◌, ◌⊎◌, ℕ, zero, suc, ◌+◌, ◌<◌, ◌≤◌, ◌&&◌, ◌||◌, not, nat_lt, Bool, true, false, List, [], ◌∷◌, length}
+use Rattle.std.proofs.Common.{◌≡◌, ℕ, zero, suc, ◌<◌, ◌≤◌, ◌&&◌, ◌||◌, not, nat_lt, Bool, true, false, List, [], ◌∷◌, length}
 use Rattle.std.proofs.Common.{if◌then◌else◌, Option, None, inl, inr, ⊎_elim, slice_get, refl, sym, ap, subst, ◌∙◌, arith}
 use Rattle.std.specs.Prelude.{filter, slice_index_or}
 use Rattle.std.specs.List.{list_any}

@@ -14,7 +14,8 @@ use Rattle.machine_roads.proofs.Numbers.{numbered_still}
 -- whether the executor's drop has begun and which futures that has still to drop, the machine's lock and turns, which futures are out
 -- to be polled, which wakers are kept, which ticks there are and how many may sleep; and in which code the plain scheduler's calls stand
 unseen : (gone : Bool) (leaving : List ℕ) (lock : Lock) (kind : Bool) (waking : List ℕ) (turn : ℕ) (out : List Bool)
-    (kept : List (Option ℕ)) (ticks : List Ticker) (rooms : ℕ) (codes : List (Code Output Waker)) (w : World) (q : Plain Output Waker) → Follows w q
+    (kept : List (Option ℕ)) (ticks : List Ticker) (rooms : ℕ) (codes : List (Code Output Waker)) (w : World)
+    (q : Plain Output Waker) → Follows w q
     → ((x : TickOrRun) → length (filter (lies (who_of x)) q.lying) ≡ sleeps (place_in ticks w.runs x))
     → AreNumbered ticks w.runs w.sleepers.wakers → waking ≡ waking_in codes
     → Follows

@@ -1,5 +1,5 @@
 -- No call that begins loses a future.
-use Rattle.std.proofs.Common.{◌≡◌, ℕ, ◌+◌, ◌-◌, if◌then◌else◌, Bool, true, false, [], ◌∷◌, ◌++◌, slice_get}
+use Rattle.std.proofs.Common.{◌≡◌, ℕ, if◌then◌else◌, Bool, true, false, [], ◌∷◌, ◌++◌, slice_get}
 use Rattle.task_moves.specs.AbstractTask as abstract
 use Rattle.task_moves.specs.AbstractTask.{AbstractTask}
 use Rattle.solo.specs.declared.names.SoloWaker.{SoloWaker}

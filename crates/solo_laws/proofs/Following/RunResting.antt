@@ -23,7 +23,7 @@ use Rattle.solo.specs.Solo as solo
 use Rattle.solo.specs.Steals as steals
 use Rattle.solo.specs.Ticks as ticks
 use Rattle.plain_scheduler.specs.State.{ARun, Choice, Due, Granted, Plain, Run, Who}
-use Rattle.plain_scheduler.specs.Lists.{any, or, without}
+use Rattle.plain_scheduler.specs.Lists.{or, without}
 use Rattle.plain_scheduler.specs.Moves.{chosen, is_common, is_kept, is_run, lies, looks}
 use Rattle.plain_scheduler.specs.Takes as takes
 use Rattle.plain_scheduler.specs.Calls as calls

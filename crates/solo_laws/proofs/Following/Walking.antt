@@ -14,7 +14,6 @@ use Rattle.solo.specs.declared.solo.Solo.{Solo}
 use Rattle.solo.specs.Cells.{choose}
 use Rattle.solo.specs.Lines.{LinesValue}
 use Rattle.solo.specs.OwnQueues as own
-use Rattle.solo.specs.Runs as runs
 use Rattle.solo.specs.Steals as steals
 use Rattle.plain_scheduler.specs.State.{Due, Plain, Who}
 use Rattle.plain_scheduler.specs.Lists.{any, or, repeat, without}

@@ -215,7 +215,8 @@ module _ {F T X : Type 0} (its : ℕ → Lent) where
   last_calls_alike list s z p shown so all (first_drop c f left rest z' others living ready on) =
       let it : GoesOn its (closing.closed s) p (does wakes_of c DropExecutor p) (f ∷ left) [] (f ∷ left) =
       subst (λ fs. GoesOn its (closing.closed s) p (does wakes_of c DropExecutor p) fs [] fs) living
-      (closes_alike its c s p so ready.owned (all_there its s p so all ready.unpolled ready.undropped) ready.few ready.life ready.leaving) in
+      (closes_alike its c s p so ready.owned (all_there its s p so all ready.unpolled ready.undropped) ready.few ready.life
+      ready.leaving) in
       let then_so =
       close_alike (f ∷ left) rest (f ∷ []) left (closing.drained (closing.closed s)) z' (does wakes_of c DropExecutor p) others
       it.stands on in
@@ -223,7 +224,8 @@ module _ {F T X : Type 0} (its : ℕ → Lent) where
   last_calls_alike list s z p shown so all (no_drop c rest y z' more others living ready how on) =
       let it : Finishes its (closing.closed s) p (does wakes_of c DropExecutor p) =
       subst (λ fs. GoesOn its (closing.closed s) p (does wakes_of c DropExecutor p) fs [] fs) living
-      (closes_alike its c s p so ready.owned (all_there its s p so all ready.unpolled ready.undropped) ready.few ready.life ready.leaving) in
+      (closes_alike its c s p so ready.owned (all_there its s p so all ready.unpolled ready.undropped) ready.few ready.life
+      ready.leaving) in
       let same = drains_same (closing.closed s) it.last y it.shown more it.drains how in
       let closed : IsClosed its y (does wakes_of c DropExecutor p) =
       subst (λ (z : Solo F T X). IsClosed its z (does wakes_of c DropExecutor p)) same.0 it.closed in

@@ -1,5 +1,5 @@
 -- What a leak, or an executor's drop, does next where it calls a waker that came out of the table.
-use Rattle.std.proofs.Common.{◌≡◌, ℕ, Bool, true, false, List, [], ◌∷◌, Option, Some, None, inl, inr, refl, sym, subst}
+use Rattle.std.proofs.Common.{◌≡◌, ℕ, Bool, true, false, [], ◌∷◌, Option, inl, inr, refl, sym, subst}
 use Rattle.std.proofs.lemmas.Option.{none-some, same_Some}
 use Rattle.async_task.specs.declared.cell.Identity.{Identity}
 use Rattle.call_steps.specs.Fitting.{Fits}
@@ -7,7 +7,6 @@ use Rattle.call_steps.specs.Seeing.{woke}
 use Rattle.call_steps.specs.Todo.{following, top}
 use Rattle.call_steps.specs.declared.step.CallStep.{CallStep}
 use Rattle.call_steps.specs.declared.step.CallStep.TheVariants as step
-use Rattle.call_steps.specs.declared.step.table.ClosingStep.TheVariants as closing_step
 use Rattle.call_steps.specs.declared.step.table.QueueStep.TheVariants as queue_step
 use Rattle.async_executor.specs.Closing.{CallsWaker}
 use Rattle.async_executor.specs.Polling.{Todo}

@@ -40,7 +40,7 @@ futures_by : (a : Bool) (e : Due) (ds es : List Due) (rest : List ℕ) → map (
 futures_by true e ds es rest is = ap (λ fs. e.future ∷ fs) is
 futures_by false e ds es rest is = is
 
-futures_last : (test : Due → Bool) (ds : List Due) (d : Due)
+pub futures_last : (test : Due → Bool) (ds : List Due) (d : Due)
     → futures_in test (ds ++ d ∷ []) ≡ futures_in test ds ++ (if test d then d.future ∷ [] else [])
 futures_last test [] d = by (test d)
   where

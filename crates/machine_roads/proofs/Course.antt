@@ -28,8 +28,8 @@ use Rattle.machine_roads.specs.Alike.{begins, refused_first, refuses_first, refu
 use Rattle.machine_roads.specs.Lone.{NoneWaits, ends as ends_with, over}
 use Rattle.machine_roads.specs.Course.{AreLone, GoAlike, GoesBy, IsCall, IsChosen, ListsGoAlike, Lone, are_behind, are_on_road}
 use Rattle.machine_roads.specs.Course.{is_behind, is_on_road}
-use Rattle.machine_roads.specs.Course.{cancel, copy, detach, drop_executor, drop_handle, drop_tick, is_empty, leak, new_run, new_tick}
-use Rattle.machine_roads.specs.Course.{poll_handle, poll_tick, release, spawn, try_tick, use_waker, wake}
+use Rattle.machine_roads.specs.Course.{cancel, copy, detach, drop_executor, drop_handle, drop_run, drop_tick, is_empty, leak, new_run}
+use Rattle.machine_roads.specs.Course.{new_tick, poll_handle, poll_tick, release, spawn, try_tick, use_waker, wake}
 use Rattle.machine_roads.proofs.Calling.{begin_alike, cancels, copies_kept, detaches, empty_alike, handle_goes, spawns, uses_alike}
 use Rattle.machine_roads.proofs.Calling.{waker_goes, wakes_kept}
 use Rattle.machine_roads.proofs.Cancelling.{cancel_output}
@@ -40,6 +40,7 @@ use Rattle.machine_roads.proofs.Leaking.{leak_inside}
 use Rattle.machine_roads.proofs.Lists.{clash}
 use Rattle.machine_roads.proofs.LoneBehind.{goes_behind_so, uses_behind_so, wakes_behind_so}
 use Rattle.machine_roads.proofs.LoneCloses.{drop_ends_so}
+use Rattle.machine_roads.proofs.LoneGoes.{run_goes_so}
 use Rattle.machine_roads.proofs.LoneLosing.{detach_loses_so, goes_with_output_so}
 use Rattle.machine_roads.proofs.LoneRuns.{both_true, lone_calls_so, tells}
 use Rattle.machine_roads.proofs.LoneTakes.{leaks_so, run_made_so}
@@ -275,7 +276,19 @@ module _ (s : Machine) (reached : Reached s) (q : Plain Output Waker) (quiet : I
       let e = run_made_so s reached q quiet follows p (choice Granted) steps new later lone in
       quick call.NewRun plain_calls.NewRun e.0 new_run (run_inside (choice e.0) q) e.1
   one_call (call.PollRun r b) on_road lone = absurd cc
-  one_call (call.DropRun r) on_road lone = absurd cc
+  one_call (call.DropRun r) on_road lone =
+      let e = run_goes_so s reached q quiet follows p r (choice Granted) steps many new later lone in (
+        e.0,
+        record {
+          choice = choice Granted;
+          made = plain_calls.DropRun r;
+          chosen = chosen Granted;
+          is = drop_run r;
+          ended = e.1;
+          inside = e.2;
+        },
+        e.3,
+      )
   one_call call.Leak on_road lone =
       quick call.Leak plain_calls.Leak Granted leak (leak_inside (choice Granted) q)
       (leaks_so s reached q quiet follows p (choice Granted) steps nowhere many new later lone)

@@ -33,6 +33,7 @@ pub mod Dropped
 pub mod RunEnding
 pub mod Forgetting
 pub mod Lain
+pub mod Leaving
 pub mod Ticking
 pub mod TickPolls
 pub mod Copying
@@ -45,6 +46,7 @@ pub mod LoneLosing
 pub mod LoneTicks
 pub mod LoneTakes
 pub mod LoneTries
+pub mod LoneGoes
 pub mod Leaking
 pub mod Nobody
 pub mod Rousing
@@ -53,6 +55,7 @@ pub mod Unborrowed
 pub mod LoneCloses
 pub mod LoneBehind
 pub mod RunsMade
+pub mod RunsGone
 pub mod Inside
 pub mod Open
 pub mod Course

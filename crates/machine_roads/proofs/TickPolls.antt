@@ -40,11 +40,11 @@ use Rattle.machine_roads.proofs.Calling.{ends}
 use Rattle.machine_roads.proofs.Due.{First, find_never, find_same, nothing, without_same}
 use Rattle.machine_roads.proofs.Exchanging.{loudly}
 use Rattle.machine_roads.proofs.Lain.{asleep_up, lies_anew, neither, none_found, numbered_up, one_lies, ups, waker_by}
+use Rattle.machine_roads.proofs.Leaving.{sleeper_goes_so}
 use Rattle.machine_roads.proofs.Moved.{Then, fits as stays_fit}
 use Rattle.machine_roads.proofs.Numbers.{Rests, down, rests_if, up as is_up}
 use Rattle.machine_roads.proofs.Stepping.{Way, next}
 use Rattle.machine_roads.proofs.Standing.{Answered, Behind, Stands, StandsSo}
-use Rattle.machine_roads.proofs.Ticking.{sleeper_goes_so}
 use Rattle.machine_roads.proofs.Trying.{runs, takes_first}
 
 -- of each mark, where of one and of the other
@@ -127,7 +127,7 @@ module _ (p : ℕ) (below : List Op) (under : is_resting below ≡ true) (end : 
   let_go_fits (Some (Outside x)) q fit = fit
   let_go_fits (Some (Task g)) q fit = stays_fit p end rests more fits (loudly p end rests c) g (abstract.release (task g q)) q fit
 
-  rises : (w : World) (os : List Op) (q : Plain Output Waker) → Follows w q → fits q → Rests w q t
+  rises : (w : World) (os : List Op) (q : Plain Output Waker) → Follows w q → fits q → Rests w q (tick_or_run.Tick t)
       → Way p end w (found_by (tick_of w t) (tick_or_run.Tick t) os ++ below) → GotUp (os ++ below) q
   rises w os q follows fit (is_up awake none) way =
       let same : up wakes c who q ≡ q = ap (λ o. rising o q) (none_found (lies who) q.lying none) in
@@ -155,9 +155,9 @@ module _ (p : ℕ) (below : List Op) (under : is_resting below ≡ true) (end : 
       step.way in
       let q2 : Plain Output Waker = record q { lying = without (lies who) q.lying } in
       let follows2 : Follows w2 q2 =
-      lies_anew w q (woken_up n w.sleepers) (without (lies who) q.lying) (slice_set w.ticks t Awake) follows u.wakers u.count
-      (asleep_up n t w q follows (one_lies who q.lying one) is Awake refl)
-      (numbered_up n t w q follows (one_lies who q.lying one) is Awake refl u) in
+      lies_anew w q (woken_up n w.sleepers) (without (lies who) q.lying) (slice_set w.ticks t Awake) w.runs follows u.wakers u.count
+      (asleep_up n (tick_or_run.Tick t) w q follows (one_lies who q.lying one) is Awake refl)
+      (numbered_up n (tick_or_run.Tick t) w q follows (one_lies who q.lying one) is Awake refl u) refl in
       let fit2 : fits q2 = omega (arith, u.fewer, fit) in
       let g = sleeper_goes_so p end rests c (waker_of n w.sleepers.wakers) w2 (os ++ below) q2 follows2 fit2 now in
       let o : Option Waker = waker_by (waker_of n w.sleepers.wakers) in
@@ -171,7 +171,7 @@ module _ (p : ℕ) (below : List Op) (under : is_resting below ≡ true) (end : 
 
   gets_up : (w : World) (os : List Op) (q : Plain Output Waker) → Follows w q → fits q
       → Way p end w (found_by (tick_of w t) (tick_or_run.Tick t) os ++ below) → GotUp (os ++ below) q
-  gets_up w os q follows fit way = rises w os q follows fit (rests_if t w q follows only) way
+  gets_up w os q follows fit way = rises w os q follows fit (rests_if (tick_or_run.Tick t) w q follows only) way
     where
       wakes_up : Op
       wakes_up = op.Tick (tick_op.WakeUp (tick_or_run.Tick t))

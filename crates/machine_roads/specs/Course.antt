@@ -23,10 +23,9 @@ pub record IsChosen (w : World) (q : Plain Output Waker) (c : Choice) : Type 0 w
   pub first : c.first ≡ first_of w.urgent_turns
   pub tells : length q.lying < c.tells
 
--- all calls but the polls and drops of runs, up to the executor's drop
+-- all calls but the polls of runs, up to the executor's drop
 abbrev pub is_on_road : Call → Bool
 is_on_road (call.PollRun r b) = false
-is_on_road (call.DropRun r) = false
 is_on_road call.DropExecutor = false
 is_on_road _ = true
 
@@ -54,6 +53,7 @@ pub data IsCall (w : World) : Call → plain.Call Output Waker → Type 0 where
   poll_tick : (t : ℕ) (b : By) → IsCall w (call.PollTick t b) (plain.PollTick t (waker_of None b))
   drop_tick : (t : ℕ) → IsCall w (call.DropTick t) (plain.DropTick t)
   new_run : IsCall w call.NewRun plain.NewRun
+  drop_run : (r : ℕ) → IsCall w (call.DropRun r) (plain.DropRun r)
   leak : IsCall w call.Leak plain.Leak
   drop_executor : IsCall w call.DropExecutor plain.DropExecutor
 

@@ -27,7 +27,8 @@ use Rattle.plain_scheduler.specs.Lists.{any}
 use Rattle.plain_scheduler.specs.Moves.{is_common}
 use Rattle.plain_scheduler.specs.Moves as plain
 use Rattle.plain_scheduler.specs.Calls.{does, is_granted, Spawn, Wake, Use, Copy, Release, Cancel, Detach, DropHandle, PollHandle}
-use Rattle.plain_scheduler.specs.Calls.{DropExecutor, DropTick, Ends, EndsWith, IsEmpty, Leak, NewRun, NewTick, Pends, PollTick, TryTick}
+use Rattle.plain_scheduler.specs.Calls.{DropExecutor, DropRun, DropTick, Ends, EndsWith, IsEmpty, Leak, NewRun, NewTick, Pends, PollTick}
+use Rattle.plain_scheduler.specs.Calls.{TryTick}
 use Rattle.plain_scheduler.specs.Calls as plain_calls
 use Rattle.machine_roads.specs.View.{Output, wakes}
 use Rattle.machine_roads.specs.Alike.{begins, LeavesAlike}
@@ -200,6 +201,13 @@ module _ (s : Machine) (q : Plain Output Waker) where
   LoneRunIsMade =
       (p : ℕ) (c : Choice) (steps : List Step) (new : Machine) → new.world.gone ≡ false → IsLoneCall p call.NewRun steps s new
       → (r : Refusal) × Follows new.world (does wakes (record c { refusal = r }) NewRun q)
+
+  -- a run goes, with the end of its own future's drop, if that isn't over
+  abbrev pub LoneRunGoes : Type 0
+  LoneRunGoes =
+      (p r : ℕ) (c : Choice) (steps : List Step) → length q.lying ≤ c.tells → (new : Machine) → new.world.gone ≡ false
+      → IsLoneCall p (call.DropRun r) steps s new
+      → (z : Plain Output Waker) × Ended (does wakes c (DropRun r) q) z × (z.inside ≡ q.inside) × Follows new.world z
 
   -- a leak, where no code is left in which a call stands
   abbrev pub LoneLeaks : Type 0

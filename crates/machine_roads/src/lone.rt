@@ -2,7 +2,8 @@
 ghost use Rattle.executor_model.specs.Executions.{EveryMachine};
 ghost use Rattle.machine_roads.specs.Course.{ListsGoAlike};
 ghost use Rattle.machine_roads.specs.Lone.{EachLoneAlike, LoneCallIsAlone, LoneCancels, LoneCopies};
-ghost use Rattle.machine_roads.specs.Lone.{LoneEmpty, LoneLeaks, LoneRunIsMade, LoneSpawns, LoneUses, LoneWakerGoes};
+ghost use Rattle.machine_roads.specs.Lone.{LoneEmpty, LoneLeaks, LoneRunGoes, LoneRunIsMade, LoneSpawns, LoneUses};
+ghost use Rattle.machine_roads.specs.Lone.{LoneWakerGoes};
 ghost use Rattle.machine_roads.specs.Lone.{LoneDetachLoses, LoneDropEnds, LoneGoesWithOutput};
 ghost use Rattle.machine_roads.specs.Lone.{LoneDetaches, LoneHandleGoes, LoneHandlePolls};
 ghost use Rattle.machine_roads.specs.Lone.{LoneHandleWaits, LoneTickGoes, LoneTickIsMade};
@@ -96,6 +97,12 @@ pub fn lone_runs_are_made()
     ensures { EachLoneAlike LoneRunIsMade }
 {}
 
+/// With the end of its own future's drop, if that isn't over, a lone drop of a run is one: those that
+/// it keeps are appended, in order, each telling, and it gets up where it lies.
+pub fn lone_runs_go()
+    ensures { EachLoneAlike LoneRunGoes }
+{}
+
 /// So does a lone leak, where the plain scheduler stands in no code.
 pub fn lone_leaks_are_leaks()
     ensures { EachLoneAlike LoneLeaks }
@@ -123,7 +130,7 @@ pub fn lone_questions_are_answered()
 
 /// Lists of such calls of a new machine, one after the other, are lists of calls of the new plain
 /// scheduler, which looks first at the mark that the turn names and tells who lay down last: all calls
-/// but polls and drops of runs, and then, if it comes to that, the executor's drop, with wakes by kept
+/// but polls of runs, and then, if it comes to that, the executor's drop, with wakes by kept
 /// wakers and these wakers' drops behind it.
 pub fn lists_of_lone_calls_go_alike()
     ensures { ListsGoAlike }

@@ -165,3 +165,6 @@ rests_inside c r who a q = rests_keeps (λ q. q.inside) inside_aside c r who a q
 
 pub leaves_inside : (c : Choice) (who : Who) (q : Plain Output Waker) → (leaves wakes c who q).inside ≡ q.inside
 leaves_inside c who q = leaves_keeps (λ q. q.inside) inside_aside c who q
+
+pub up_inside : (c : Choice) (who : Who) (q : Plain Output Waker) → (up wakes c who q).inside ≡ q.inside
+up_inside c who q = up_keeps (λ q. q.inside) inside_aside c who q

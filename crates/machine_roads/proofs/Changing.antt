@@ -51,6 +51,11 @@ futures_last test (e ∷ ds) d =
     futures_by (test e) e (filter test ds) (filter test (ds ++ d ∷ [])) (if test d then d.future ∷ [] else [])
     (futures_last test ds d)
 
+pub futures_append : (test : Due → Bool) (ds es : List Due) → futures_in test (ds ++ es) ≡ futures_in test ds ++ futures_in test es
+futures_append test [] es = refl
+futures_append test (d ∷ ds) es =
+    futures_by (test d) d (filter test ds) (filter test (ds ++ es)) (futures_in test es) (futures_append test ds es)
+
 module _ (w : World) (p : Plain Output Waker) (r : Follows w p) where
   -- a task becomes another on both sides
   module _ (f : ℕ) (at : f < length w.tasks) (s : State) (new : AbstractTask Output Waker)

@@ -47,6 +47,7 @@ pub mod LoneTicks
 pub mod LoneTakes
 pub mod LoneTries
 pub mod LoneGoes
+pub mod LonePolls
 pub mod Leaking
 pub mod Nobody
 pub mod Rousing
@@ -55,7 +56,13 @@ pub mod Unborrowed
 pub mod LoneCloses
 pub mod LoneBehind
 pub mod RunsMade
+pub mod Runs
 pub mod RunsGone
+pub mod Adding
+pub mod Keeping
+pub mod Stealing
+pub mod RunTaking
+pub mod RunSearching
 pub mod Inside
 pub mod Open
 pub mod Course

@@ -1,7 +1,7 @@
 -- A lone drop of a run: its own future is dropped by user code that ends, and behind that all that is left is done; one whose own
 -- future was ready goes at once.
-use Rattle.std.proofs.Common.{◌≡◌, ℕ, zero, suc, ◌<◌, ◌≤◌, ◌++◌, ◌||◌, not, Bool, true, false, List, [], ◌∷◌, length, map, get_or}
-use Rattle.std.proofs.Common.{Option, Some, None, slice_get, slice_set, count_by, if◌then◌else◌, ⊎_elim, refl, sym, ap, subst, ◌∙◌, arith}
+use Rattle.std.proofs.Common.{◌≡◌, ℕ, ◌≤◌, ◌++◌, ◌||◌, not, Bool, true, false, List, [], ◌∷◌, length, map}
+use Rattle.std.proofs.Common.{Option, slice_set, count_by, if◌then◌else◌, ⊎_elim, refl, sym, ap, subst, ◌∙◌, arith}
 use Rattle.std.proofs.lemmas.List.{get_or-set_same}
 use Rattle.executor_model.specs.declared.call.Call.TheVariants as call
 use Rattle.executor_model.specs.declared.call.Reply.TheVariants as reply
@@ -12,7 +12,6 @@ use Rattle.executor_model.specs.declared.op.Op.{Op}
 use Rattle.executor_model.specs.declared.op.Op.TheVariants as op
 use Rattle.executor_model.specs.declared.op.RunOp.TheVariants as run_op
 use Rattle.executor_model.specs.declared.op.Section.TheVariants as section
-use Rattle.executor_model.specs.declared.op.TickOrRun.{TickOrRun}
 use Rattle.executor_model.specs.declared.op.TickOrRun.TheVariants as tick_or_run
 use Rattle.executor_model.specs.declared.op.UserOp.TheVariants as user_op
 use Rattle.executor_model.specs.declared.op.Waker.{Waker}
@@ -24,7 +23,7 @@ use Rattle.executor_model.specs.Rows.{running_of}
 use Rattle.executor_model.specs.SleepersAgree.{sleeps}
 use Rattle.executor_model.specs.Steps.{Machine, drop_run, is_there, is_unused, react, stack, top}
 use Rattle.executor_model.specs.Weights.{weigh_all}
-use Rattle.executor_model.specs.World.{Done, Ended as RunEnded, Listed, New, Run, Stage, Ticker, World, done, log, no_run, put_run, run_of}
+use Rattle.executor_model.specs.World.{Done, Ended as RunEnded, Listed, New, Run, Stage, World, done, log, no_run, put_run, run_of}
 use Rattle.executor_model.specs.World as world
 use Rattle.executor_model.proofs.OwnQueues.UsingWorlds.{is_over_stage}
 use Rattle.executor_model.proofs.Quiet.Resting.{all-rest, rests}
@@ -34,12 +33,11 @@ use Rattle.executor_laws.proofs.Wakeups.Stands.{used_of}
 use Rattle.executor_laws.proofs.Wakeups.StandsMachine.{standing}
 use Rattle.executor_laws.proofs.Wakeups.StandsSteps.{Standing}
 use Rattle.plain_scheduler.specs.State.{ARun, Choice, DropOwn, Lying, Plain, Running, Done as DoneAnswer}
-use Rattle.plain_scheduler.specs.Lists.{on, or, repeat}
+use Rattle.plain_scheduler.specs.Lists.{on, repeat}
 use Rattle.plain_scheduler.specs.Moves.{answers, enters, is_called, is_kept, leaves, lies, tell, up}
-use Rattle.plain_scheduler.specs.Moves as plain
 use Rattle.plain_scheduler.specs.Calls.{does, gone, DropRun, Ends}
 use Rattle.machine_roads.specs.View.{Output, wakes}
-use Rattle.machine_roads.specs.Road.{Follows, counted_anew, is_ended, place_in, run_view}
+use Rattle.machine_roads.specs.Road.{Follows, counted_anew, is_ended, run_view}
 use Rattle.machine_roads.specs.Alone.{alone, is_resting, Has}
 use Rattle.machine_roads.specs.Lone.{EachLoneAlike, Ended, LoneRunGoes, ends as ends_with, over}
 use Rattle.machine_roads.proofs.Aside.{leaves_inside}
@@ -53,82 +51,11 @@ use Rattle.machine_roads.proofs.LoneRuns.{Inside, IsBefore, Rests, Whole, before
 use Rattle.machine_roads.proofs.LoneRuns.{lone_calls_so}
 use Rattle.machine_roads.proofs.LoneTicks.{may_begin, there_all}
 use Rattle.machine_roads.proofs.Numbers.{lies_so, nobody, put_view}
+use Rattle.machine_roads.proofs.Runs.{changed, ended_run, made, over_alike, over_is, runs_is, same_place}
 use Rattle.machine_roads.proofs.RunsGone.{back_inside, back_of, goes}
 use Rattle.machine_roads.proofs.Stepping.{Way, next}
 use Rattle.machine_roads.proofs.Tying.{AtEnd, Leads, LeadsSo}
 use Rattle.machine_roads.proofs.Unseen.{locked, ran}
-
--- a run of the plain scheduler is over
-abbrev ended_run : Running → Running
-ended_run run = record run { is_over = true }
-
-abbrev changed : (Running → Running) → ℕ → List Running → List Running
-changed h r runs = or (slice_get runs r) (λ run. slice_set runs r (h run)) runs
-
-changed_rest : (h : Running → Running) (x : Running) (xs : List Running) (r : ℕ) → changed h (suc r) (x ∷ xs) ≡ x ∷ changed h r xs
-changed_rest h x xs r = by (slice_get xs r)
-  where
-    by : (o : Option Running)
-        → or o (λ run. slice_set (x ∷ xs) (suc r) (h run)) (x ∷ xs) ≡ x ∷ or o (λ run. slice_set xs r (h run)) xs
-    by None = refl
-    by (Some y) = refl
-
-runs_is : (h : Running → Running) (r : ℕ) (q : Plain Output Waker) → plain.runs h r q ≡ record q { runs = changed h r q.runs }
-runs_is h r q = by (slice_get q.runs r)
-  where
-    by : (o : Option Running)
-        → on o (λ run p. record p { runs = slice_set p.runs r (h run) }) q
-        ≡ record q { runs = or o (λ run. slice_set q.runs r (h run)) q.runs }
-    by None = refl
-    by (Some x) = refl
-
--- one that is over on both sides
-over_alike : (ws : List Run) (qs : List Running) → map run_view ws ≡ map counted_anew qs → (r : ℕ) (x : Run)
-    → x.taken ≡ (get_or ws r no_run).taken → (run_view x).is_over ≡ true
-    → map run_view (slice_set ws r x) ≡ map counted_anew (changed ended_run r qs)
-over_alike [] [] is r x taken ended = refl
-over_alike [] (y ∷ ys) is r x taken ended = absurd cc
-over_alike (w ∷ ws) [] is r x taken ended = absurd cc
-over_alike (w ∷ ws) (y ∷ ys) is zero x taken ended =
-    let both = cons_is (run_view w) (counted_anew y) (map run_view ws) (map counted_anew ys) is in
-    ap (λ b. record (run_view x) { is_over = b } ∷ map run_view ws) ended
-    ∙ (ap (λ n. record (run_view w) { taken = n; is_over = true } ∷ map run_view ws) taken
-    ∙ (ap (λ run. ended_run run ∷ map run_view ws) both.0 ∙ ap (λ runs. ended_run (counted_anew y) ∷ runs) both.1))
-over_alike (w ∷ ws) (y ∷ ys) is (suc r) x taken ended =
-    let both = cons_is (run_view w) (counted_anew y) (map run_view ws) (map counted_anew ys) is in
-    ap (λ runs. run_view w ∷ runs) (over_alike ws ys both.1 r x taken ended)
-    ∙ (ap (λ run. run ∷ map counted_anew (changed ended_run r ys)) both.0
-    ∙ sym (ap (map counted_anew) (changed_rest ended_run y ys r)))
-
-over_is : (ws : List Run) (qs : List Running) → map run_view ws ≡ map counted_anew qs → (r : ℕ)
-    → or (slice_get qs r) (λ run. run.is_over) true ≡ (run_view (get_or ws r no_run)).is_over
-over_is [] [] is r = refl
-over_is [] (y ∷ ys) is r = absurd cc
-over_is (w ∷ ws) [] is r = absurd cc
-over_is (w ∷ ws) (y ∷ ys) is zero =
-    sym (ap (λ (run : Running). run.is_over) (cons_is (run_view w) (counted_anew y) (map run_view ws) (map counted_anew ys) is).0)
-over_is (w ∷ ws) (y ∷ ys) is (suc r) =
-    over_is ws ys (cons_is (run_view w) (counted_anew y) (map run_view ws) (map counted_anew ys) is).1 r
-
--- a run that is put again where it was
-same_place : (ticks : List Ticker) (runs : List Run) (r : ℕ) (y : Run) → y.place ≡ (get_or runs r no_run).place → (x : TickOrRun)
-    → place_in ticks (slice_set runs r y) x ≡ place_in ticks runs x
-same_place ticks runs r y same (tick_or_run.Tick t) = refl
-same_place ticks runs r y same (tick_or_run.Run k) = by runs r k same
-  where
-    by : (runs : List Run) (r k : ℕ) → y.place ≡ (get_or runs r no_run).place
-        → (get_or (slice_set runs r y) k no_run).place ≡ (get_or runs k no_run).place
-    by [] r k same = refl
-    by (z ∷ zs) zero zero same = same
-    by (z ∷ zs) zero (suc k) same = refl
-    by (z ∷ zs) (suc r) zero same = refl
-    by (z ∷ zs) (suc r) (suc k) same = by zs r k same
-
--- one that wasn't dropped was made
-made : (runs : List Run) (r : ℕ) → (get_or runs r no_run).dropped ≡ false → r < length runs
-made [] r there = absurd cc
-made (x ∷ xs) zero there = omega arith
-made (x ∷ xs) (suc r) there = let below = made xs r there in omega (arith, below)
 
 off_of : (b : Bool) → not b ≡ true → b ≡ false
 off_of false is = refl

@@ -1,5 +1,5 @@
 -- What a run keeps, and that a run which goes has each of these appended, in order, and tells.
-use Rattle.std.proofs.Common.{◌≡◌, ℕ, zero, suc, ◌≤◌, ◌==◌, ◌++◌, Bool, true, false, List, [], ◌∷◌, length, get_or}
+use Rattle.std.proofs.Common.{◌≡◌, ℕ, zero, suc, ◌≤◌, ◌==◌, ◌++◌, Bool, true, false, List, [], ◌∷◌, length, map, get_or}
 use Rattle.std.proofs.Common.{Option, Some, None, slice_set, count_by, append-nil, refl, sym, ap, subst, ◌∙◌}
 use Rattle.std.specs.Prelude.{filter, find}
 use Rattle.std.proofs.lemmas.List.{get_or-set_other}
@@ -9,21 +9,26 @@ use Rattle.executor_model.specs.declared.call.Reply.{Reply}
 use Rattle.executor_model.specs.declared.op.Hold.TheVariants as hold
 use Rattle.executor_model.specs.declared.op.Op.{Op}
 use Rattle.executor_model.specs.declared.op.Op.TheVariants as op
+use Rattle.executor_model.specs.declared.op.ListOp.TheVariants as list_op
 use Rattle.executor_model.specs.declared.op.QueueOp.TheVariants as queue_op
 use Rattle.executor_model.specs.declared.op.RunOp.TheVariants as run_op
+use Rattle.executor_model.specs.declared.op.Section.TheVariants as section
 use Rattle.executor_model.specs.declared.op.TickOp.TheVariants as tick_op
 use Rattle.executor_model.specs.declared.op.TickOrRun.TheVariants as tick_or_run
 use Rattle.executor_model.specs.declared.op.Waker.{Waker}
-use Rattle.executor_model.specs.ActsOfRuns.{reschedule_by}
-use Rattle.executor_model.specs.World.{Done, Run, World, own_of, put_own}
-use Rattle.plain_scheduler.specs.State.{Answer, Answers, ARun, Choice, Due, Lying, Plain}
+use Rattle.executor_model.specs.ActsOfRuns.{reschedule_by, unregistered}
+use Rattle.executor_model.specs.SleepersAgree.{sleeps}
+use Rattle.executor_model.specs.World as world
+use Rattle.executor_model.specs.World.{Ended as RunEnded, run_of, Done, Run, World, own_of, put_own}
+use Rattle.plain_scheduler.specs.State.{Answer, Answers, ARun, Choice, Due, Lying, Plain, Running}
 use Rattle.plain_scheduler.specs.Lists.{on, repeat, without}
 use Rattle.plain_scheduler.specs.Moves.{answers, appended, given_back, is_common, is_kept, is_run, leaves, mark, tell}
 use Rattle.machine_roads.specs.View.{Output, wakes}
 use Rattle.machine_roads.specs.Seeing.{answer_of, shown}
-use Rattle.machine_roads.specs.Road.{Follows, futures_in}
+use Rattle.plain_scheduler.specs.Calls.{gone}
+use Rattle.machine_roads.specs.Road.{Follows, counted_anew, futures_in, run_view}
 use Rattle.machine_roads.specs.Alone.{is_resting}
-use Rattle.machine_roads.proofs.Aside.{IsAside, tell_inside, tell_keeps}
+use Rattle.machine_roads.proofs.Aside.{IsAside, leaves_inside, tell_inside, tell_keeps}
 use Rattle.machine_roads.proofs.Calling.{ends}
 use Rattle.machine_roads.proofs.Changing.{futures_last}
 use Rattle.machine_roads.proofs.Due.{First, first, keepers_apart, others}
@@ -31,10 +36,12 @@ use Rattle.machine_roads.proofs.Exchanging.{loudly}
 use Rattle.machine_roads.proofs.Leaving.{leaves_on}
 use Rattle.machine_roads.proofs.Lists.{apart_of, clash, length_map, same_of}
 use Rattle.machine_roads.proofs.Moved.{Then, queued}
+use Rattle.machine_roads.proofs.Runs.{changed, ended_run, runs_is, same_place}
 use Rattle.machine_roads.proofs.Stepping.{Way, next}
+use Rattle.machine_roads.proofs.Unseen.{locked, ran}
 
 -- what a run keeps has no other keeper, and is not without one
-runs_apart : (r k : ℕ) → (r == k) ≡ false → (d : Due) → is_kept r d ≡ true → is_kept k d ≡ false
+pub runs_apart : (r k : ℕ) → (r == k) ≡ false → (d : Due) → is_kept r d ≡ true → is_kept k d ≡ false
 runs_apart r k apart d is = by d.keeper is
   where
     by : (o : Option ℕ) → is_run r o ≡ true → is_run k o ≡ false
@@ -45,7 +52,7 @@ runs_apart r k apart d is = by d.keeper is
         not_so false off = refl
         not_so true on = absurd (apart_of r k apart (same_of r n is ∙ sym (same_of k n on)))
 
-kept_uncommon : (r : ℕ) (m : Mark) (d : Due) → is_kept r d ≡ true → is_common m d ≡ false
+pub kept_uncommon : (r : ℕ) (m : Mark) (d : Due) → is_kept r d ≡ true → is_common m d ≡ false
 kept_uncommon r m d is = by (is_common m d) refl
   where
     by : (b : Bool) → is_common m d ≡ b → is_common m d ≡ false
@@ -113,7 +120,8 @@ back_of c r q = tell wakes c (given_back r q)
 
 module _ (c : Choice) (r : ℕ) where
   given_still : {B : Type 0} (ask : Plain Output Waker → B)
-      → ((q : Plain Output Waker) (ds : List Due) → ask (record q { due = ds }) ≡ ask q) → (q : Plain Output Waker) → ask (given_back r q) ≡ ask q
+      → ((q : Plain Output Waker) (ds : List Due) → ask (record q { due = ds }) ≡ ask q) → (q : Plain Output Waker)
+      → ask (given_back r q) ≡ ask q
   given_still ask same q = by (find (is_kept r) q.due)
     where
       by : (o : Option Due)
@@ -190,3 +198,44 @@ module _ (c : Choice) (r : ℕ) where
           (repeat_fits (length (own_of w r)) q fit) g.way in
           subst (λ n. (end.next ≡ below) × Follows end.world (answers x (leaves wakes c (ARun r) (repeat n (back_of c r) q)))) many
           (ends p below under end rests left.world (leaves wakes c (ARun r) z) a (hold.Run r) x same left.follows left.way)
+
+      -- its own queue goes from the list, and it is over
+      pub unlists : (x : Answer Output) → Answers (answer_of a) ≡ shown (Answers x) → is_resting below ≡ true → (runs : List Running)
+          → (w : World) (q : Plain Output Waker) → Follows w q → fits q
+          → map run_view (slice_set w.runs r (record (run_of w r) { stage = RunEnded })) ≡ map counted_anew runs
+          → Way p end w (op.List (list_op.LockWrite (section.Unregister r a)) ∷ below)
+          → (end.next ≡ below)
+          × Follows end.world
+          (answers x (leaves wakes c (ARun r) (repeat (count_by (is_kept r) q.due) (back_of c r) (record q { runs = runs }))))
+      unlists x same under runs w q follows fit viewed way =
+          let lock = op.List (list_op.LockWrite (section.Unregister r a)) in
+          let w1 : World = record w { lock = record w.lock { writing = true } } in
+          let one = next p end rests lock w below refl way in
+          let two = next p end rests (op.List (list_op.Write (section.Unregister r a))) w1 below refl one.way in
+          let w2 = unregistered w1 r in
+          let parted : Run = record (run_of w1 r) { stage = RunEnded } in
+          let q1 : Plain Output Waker = record q { runs = runs } in
+          let follows2 : Follows w2 q1 =
+          ran w1.ticks (slice_set w1.runs r parted) (world.without r w1.listed) runs w1 q
+          (locked (record w.lock { writing = true }) w q follows) (λ x. ap sleeps (same_place w1.ticks w1.runs r parted refl x))
+          (λ x n is. same_place w1.ticks w1.runs r parted refl x ∙ is) viewed in
+          let three = next p end rests (op.List list_op.UnlockWrite) w2 (op.Run (run_op.Reschedule r a) ∷ below) refl two.way in
+          goes x same under (record w2 { lock = record w2.lock { writing = false } }) q1
+          (locked (record w2.lock { writing = false }) w2 q1 follows2) fit three.way
+
+-- what is left of a run that went
+abbrev pub left_by : Choice → ℕ → Answer Output → Plain Output Waker → Plain Output Waker
+left_by c r x q =
+    answers x
+    (leaves wakes c (ARun r)
+    (repeat (count_by (is_kept r) q.due) (back_of c r) (record q { runs = changed ended_run r q.runs })))
+
+pub left_is : (c : Choice) (r : ℕ) (x : Answer Output) (q : Plain Output Waker) → left_by c r x q ≡ answers x (gone wakes c r q)
+left_is c r x q =
+    ap (λ z. answers x (leaves wakes c (ARun r) (repeat (count_by (is_kept r) q.due) (back_of c r) z))) (sym (runs_is ended_run r q))
+
+pub left_inside : (c : Choice) (r : ℕ) (x : Answer Output) (q : Plain Output Waker) → (left_by c r x q).inside ≡ q.inside
+left_inside c r x q =
+    let n = count_by (is_kept r) q.due in
+    let q1 : Plain Output Waker = record q { runs = changed ended_run r q.runs } in
+    leaves_inside c (ARun r) (repeat n (back_of c r) q1) ∙ back_inside c r n q1

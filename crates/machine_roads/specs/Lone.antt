@@ -10,25 +10,28 @@ use Rattle.executor_model.specs.declared.call.By.{By}
 use Rattle.executor_model.specs.declared.call.Call.{Call}
 use Rattle.executor_model.specs.declared.call.Call.TheVariants as call
 use Rattle.executor_model.specs.declared.call.Reply.TheVariants as reply
+use Rattle.executor_model.specs.declared.event.Answer.TheVariants.{Pending as Unready}
 use Rattle.executor_model.specs.declared.op.Hold.TheVariants as hold
 use Rattle.executor_model.specs.declared.op.Op.TheVariants as op
 use Rattle.executor_model.specs.declared.op.Waker.{Waker}
 use Rattle.executor_model.specs.declared.step.Hint.{Hint}
 use Rattle.executor_model.specs.declared.step.Step.{Step}
 use Rattle.executor_model.specs.declared.step.Step.TheVariants.{Go}
+use Rattle.executor_model.specs.declared.step.UserEnd.TheVariants.{Polled}
 use Rattle.executor_model.specs.Acts.{is_copy_refused, is_refused}
 use Rattle.executor_model.specs.Executions.{EveryMachine, run_all}
 use Rattle.executor_model.specs.Quiet.{IsQuiet}
 use Rattle.executor_model.specs.Steps.{Machine, kept, stack, waker_of}
 use Rattle.executor_model.specs.World.{Done, done, task}
 use Rattle.executor_laws.specs.LoneEnds.{IsLoneCall}
+use Rattle.executor_laws.specs.RunReach.{first_answer}
 use Rattle.plain_scheduler.specs.State.{Choice, Plain, Refusal, Tick, Try}
 use Rattle.plain_scheduler.specs.Lists.{any}
 use Rattle.plain_scheduler.specs.Moves.{is_common}
 use Rattle.plain_scheduler.specs.Moves as plain
 use Rattle.plain_scheduler.specs.Calls.{does, is_granted, Spawn, Wake, Use, Copy, Release, Cancel, Detach, DropHandle, PollHandle}
 use Rattle.plain_scheduler.specs.Calls.{DropExecutor, DropRun, DropTick, Ends, EndsWith, IsEmpty, Leak, NewRun, NewTick, Pends, PollTick}
-use Rattle.plain_scheduler.specs.Calls.{TryTick}
+use Rattle.plain_scheduler.specs.Calls.{PollRun, TryTick}
 use Rattle.plain_scheduler.specs.Calls as plain_calls
 use Rattle.machine_roads.specs.View.{Output, wakes}
 use Rattle.machine_roads.specs.Alike.{begins, LeavesAlike}
@@ -201,6 +204,13 @@ module _ (s : Machine) (q : Plain Output Waker) where
   LoneRunIsMade =
       (p : ℕ) (c : Choice) (steps : List Step) (new : Machine) → new.world.gone ≡ false → IsLoneCall p call.NewRun steps s new
       → (r : Refusal) × Follows new.world (does wakes (record c { refusal = r }) NewRun q)
+
+  -- a poll of a run that is over, or whose own future is ready in it, with the end of that and of its drop
+  abbrev pub LoneRunEnds : Type 0
+  LoneRunEnds =
+      (p r : ℕ) (c : Choice) (b : By) (steps : List Step) → ¬ (first_answer steps ≡ Some (Polled Unready)) → length q.lying ≤ c.tells
+      → (new : Machine) → new.world.gone ≡ false → IsLoneCall p (call.PollRun r b) steps s new
+      → (z : Plain Output Waker) × Ended (does wakes c (PollRun r (waker_of None b)) q) z × (z.inside ≡ q.inside) × Follows new.world z
 
   -- a run goes, with the end of its own future's drop, if that isn't over
   abbrev pub LoneRunGoes : Type 0

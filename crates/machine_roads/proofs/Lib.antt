@@ -48,6 +48,7 @@ pub mod LoneTakes
 pub mod LoneTries
 pub mod LoneGoes
 pub mod LonePolls
+pub mod LoneTaking
 pub mod Leaking
 pub mod Nobody
 pub mod Rousing

@@ -174,10 +174,14 @@ registered_so r w q follows = by (run_of w r).stage refl
     by Listed is = follows
     by RunEnded is = follows
 
+registered_turn : (st : Stage) (w : World) (r : ℕ) → (registered st w r).urgent_turns ≡ w.urgent_turns
+registered_turn New w r = refl
+registered_turn Listed w r = refl
+registered_turn RunEnded w r = refl
+
 module _ (s : Machine) (reached : Reached s) (q : Plain Output Waker) (quiet : IsQuiet s.world.trace) (follows : Follows s.world q)
     (p r : ℕ) (c : Choice) (b : By) (many : length q.lying ≤ c.tells) (steps : List Step) (new : Machine)
-    (unpended : ¬ (first_answer steps ≡ Some (end.Polled answer.Pending))) (later : new.world.gone ≡ false)
-    (lone : IsLoneCall p (call.PollRun r b) steps s new) where
+    (later : new.world.gone ≡ false) (lone : IsLoneCall p (call.PollRun r b) steps s new) where
   abbrev w : World
   w = s.world
 
@@ -187,7 +191,7 @@ module _ (s : Machine) (reached : Reached s) (q : Plain Output Waker) (quiet : I
   abbrev begun : World
   begun = log w (event.CallBegun p (call.PollRun r b))
 
-  abbrev x0 : RunPoll
+  abbrev pub x0 : RunPoll
   x0 = record { run = r; waker = waker_of None b; poll = length begun.trace }
 
   abbrev w0 : World
@@ -196,7 +200,7 @@ module _ (s : Machine) (reached : Reached s) (q : Plain Output Waker) (quiet : I
   follows0 : Follows w0 q
   follows0 = logs begun q (logs w q follows (event.CallBegun p (call.PollRun r b)) refl) (event.RunPolled p r) refl
 
-  last : Reached new
+  pub last : Reached new
   last = reached-more (Begin p (call.PollRun r b) ∷ steps) s new reached lone.made
 
   empty : stack new p ≡ []
@@ -219,13 +223,13 @@ module _ (s : Machine) (reached : Reached s) (q : Plain Output Waker) (quiet : I
   abbrev drop_own : Op
   drop_own = op.User (user_op.DropOwn r)
 
-  abbrev poll_own : Op
+  abbrev pub poll_own : Op
   poll_own = op.User (user_op.PollOwn x0)
 
   abbrev to_go : Op
   to_go = op.List (list_op.LockWrite (section.Unregister r reply.Ready))
 
-  abbrev In : World → List Op → Done → Type 0
+  abbrev pub In : World → List Op → Done → Type 0
   In v os e = e ≡ done v os
 
   -- in the drop of its own future
@@ -247,9 +251,9 @@ module _ (s : Machine) (reached : Reached s) (q : Plain Output Waker) (quiet : I
       ends_so p P new (goes_on_of Has IsBefore before p (In v (drop_own ∷ to_go ∷ [])) (AtEnd P) new later last lone.ended x now)
 
   -- and in its poll
-  in_poll : (v : World) → Follows v q → (x : InCode p (In v (poll_own ∷ [])) new) → first_answer steps ≡ Some x.end
+  in_poll : (v : World) → Follows v q → (x : InCode p (In v (poll_own ∷ [])) new) → ¬ (x.end ≡ end.Polled answer.Pending)
       → Follows new.world (left_by c r Ready q)
-  in_poll v here x first =
+  in_poll v here x unpended =
       by x.end refl (ap (λ o. accepts o x.end) (sym both.0) ∙ x.accepted)
     where
       both : (x.first ≡ poll_own) × (x.rest ≡ [])
@@ -275,21 +279,34 @@ module _ (s : Machine) (reached : Reached s) (q : Plain Output Waker) (quiet : I
           (goes_on_of Has IsBefore before p (In v (poll_own ∷ [])) (In v (drop_own ∷ to_go ∷ [])) new later last lone.ended x now)
 
       by : (e : UserEnd) → x.end ≡ e → accepts poll_own e ≡ true → Follows new.world (left_by c r Ready q)
-      by (end.Polled answer.Pending) is ok = absurd (unpended (first ∙ ap (λ e. Some e) is))
+      by (end.Polled answer.Pending) is ok = absurd (unpended is)
       by (end.Polled answer.Ready) is ok = ready is
       by end.Done is ok = absurd cc
 
-  -- it comes to that poll
-  comes : (st : Stage) → (run_of w r).stage ≡ st → is_ended st ≡ false → Follows new.world (left_by c r Ready q)
-  comes RunEnded is going = absurd cc
-  comes Listed is going =
+  -- it stands in its own future's poll
+  pub record InOwn : Type 0 where
+    pub world : World
+    pub follows_in : Follows world q
+    pub turn : world.urgent_turns ≡ w.urgent_turns
+    pub code : InCode p (In world (poll_own ∷ [])) new
+    pub first : first_answer steps ≡ Some code.end
+
+  pub stands_in_own : (st : Stage) → (run_of w r).stage ≡ st → is_ended st ≡ false → InOwn
+  stands_in_own RunEnded is going = absurd cc
+  stands_in_own Listed is going =
       let k = run-first (Begin p (call.PollRun r b)) steps s new lone.made in
       let m = begun_so s reached p (call.PollRun r b) poll_own quiet k.0 (ap (λ st. poll_run st x0) is) refl in
       let s1 = after s (Begin p (call.PollRun r b)) in
       let x =
       stands_first s1 new m.reached p m.there poll_own [] m.todo (In s1.world (poll_own ∷ [])) refl refl steps lone.alone k.1 empty in
-      in_poll s1.world (subst (λ w. Follows w q) (sym m.world) follows0) x.0 x.1
-  comes New is going =
+      record {
+        world = s1.world;
+        follows_in = subst (λ w. Follows w q) (sym m.world) follows0;
+        turn = ap (λ (w : World). w.urgent_turns) m.world;
+        code = x.0;
+        first = x.1;
+      }
+  stands_in_own New is going =
       let k = run-first (Begin p (call.PollRun r b)) steps s new lone.made in
       let lock = op.List (list_op.LockWrite (section.Register x0)) in
       let write = op.List (list_op.Write (section.Register x0)) in
@@ -314,19 +331,36 @@ module _ (s : Machine) (reached : Reached s) (q : Plain Output Waker) (quiet : I
       let x =
       stands_first s4 new three.reached_on p three.there_on poll_own [] three.todo_on (In s4.world (poll_own ∷ [])) refl refl three.steps
       three.on three.made empty in
-      in_poll s4.world here4 x.0 (one.same ∙ (two.same ∙ (three.same ∙ x.1)))
+      record {
+        world = s4.world;
+        follows_in = here4;
+        turn =
+            ap (λ (w : World). w.urgent_turns) three.world
+            ∙ (ap (λ (w : World). w.urgent_turns) two.world
+            ∙ (registered_turn (run_of s2.world r).stage s2.world r
+            ∙ (ap (λ (w : World). w.urgent_turns) one.world ∙ ap (λ (w : World). w.urgent_turns) m.world)));
+        code = x.0;
+        first = one.same ∙ (two.same ∙ (three.same ∙ x.1));
+      }
 
-  is_ready : (st : Stage) → (run_of w r).stage ≡ st → is_ended st ≡ false → Result (enters (PollOwn r a) q)
-  is_ready st is going =
+  comes : ¬ (first_answer steps ≡ Some (end.Polled answer.Pending)) → (st : Stage) → (run_of w r).stage ≡ st → is_ended st ≡ false
+      → Follows new.world (left_by c r Ready q)
+  comes unpended st is going =
+      let own = stands_in_own st is going in
+      in_poll own.world own.follows_in own.code (λ pending. unpended (own.first ∙ ap (λ e. Some e) pending))
+
+  is_ready : ¬ (first_answer steps ≡ Some (end.Polled answer.Pending)) → (st : Stage) → (run_of w r).stage ≡ st → is_ended st ≡ false
+      → Result (enters (PollOwn r a) q)
+  is_ready unpended st is going =
       let z : Plain Output Waker = answers Ready (gone wakes c r q) in (
         z,
         ends_with c (EndsWith tt) (enters (PollOwn r a) q) z refl many
             (ends_with c Ends (enters (DropOwn r Ready) q) z refl many (over z)),
         ap (λ (q : Plain Output Waker). q.inside) (sym (left_is c r Ready q)) ∙ left_inside c r Ready q,
-        subst (Follows new.world) (left_is c r Ready q) (comes st is going),
+        subst (Follows new.world) (left_is c r Ready q) (comes unpended st is going),
       )
 
-  unended : (run_of w r).dropped ≡ false
+  pub unended : (run_of w r).dropped ≡ false
   unended =
       let may = may_begin s p (call.PollRun r b) (run-first (Begin p (call.PollRun r b)) steps s new lone.made).0 in
       off_of (run_of w r).dropped
@@ -338,25 +372,27 @@ module _ (s : Machine) (reached : Reached s) (q : Plain Output Waker) (quiet : I
       off_of false is = refl
       off_of true is = absurd cc
 
-  ends_by : (st : Stage) → (run_of w r).stage ≡ st
+  ends_by : ¬ (first_answer steps ≡ Some (end.Polled answer.Pending)) → (st : Stage) → (run_of w r).stage ≡ st
       → Result (if (run_of w r).dropped || is_ended st then answers Finished q else enters (PollOwn r a) q)
-  ends_by RunEnded is =
+  ends_by unpended RunEnded is =
       let z : Plain Output Waker = answers Finished q in
       subst (λ b. Result (if b then answers Finished q else enters (PollOwn r a) q)) (sym (or_ended (run_of w r).dropped))
       (z, over z, refl, at_once is)
-  ends_by New is =
-      subst (λ b. Result (if b || false then answers Finished q else enters (PollOwn r a) q)) (sym unended) (is_ready New is refl)
-  ends_by Listed is =
-      subst (λ b. Result (if b || false then answers Finished q else enters (PollOwn r a) q)) (sym unended) (is_ready Listed is refl)
+  ends_by unpended New is =
+      subst (λ b. Result (if b || false then answers Finished q else enters (PollOwn r a) q)) (sym unended)
+      (is_ready unpended New is refl)
+  ends_by unpended Listed is =
+      subst (λ b. Result (if b || false then answers Finished q else enters (PollOwn r a) q)) (sym unended)
+      (is_ready unpended Listed is refl)
 
-  ends_all : Result (does wakes c (PollRun r a) q)
-  ends_all =
+  ends_all : ¬ (first_answer steps ≡ Some (end.Polled answer.Pending)) → Result (does wakes c (PollRun r a) q)
+  ends_all unpended =
       subst (λ b. Result (if b then answers Finished q else enters (PollOwn r a) q)) (sym (over_is w.runs q.runs follows.runs r))
-      (ends_by (run_of w r).stage refl)
+      (ends_by unpended (run_of w r).stage refl)
 
 pub run_ends_so : (s : Machine) → Reached s → (q : Plain Output Waker) → IsQuiet s.world.trace → Follows s.world q → LoneRunEnds s q
 run_ends_so s reached q quiet follows p r c b steps unpended many new later lone =
-    ends_all s reached q quiet follows p r c b many steps new unpended later lone
+    ends_all s reached q quiet follows p r c b many steps new later lone unpended
 
 pub lone_run_ends : EachLoneAlike LoneRunEnds
 lone_run_ends = each LoneRunEnds run_ends_so

@@ -2,8 +2,8 @@
 ghost use Rattle.executor_model.specs.Executions.{EveryMachine};
 ghost use Rattle.machine_roads.specs.Course.{ListsGoAlike};
 ghost use Rattle.machine_roads.specs.Lone.{EachLoneAlike, LoneCallIsAlone, LoneCancels, LoneCopies};
-ghost use Rattle.machine_roads.specs.Lone.{LoneEmpty, LoneLeaks, LoneRunEnds, LoneRunGoes, LoneRunIsMade, LoneSpawns, LoneUses};
-ghost use Rattle.machine_roads.specs.Lone.{LoneWakerGoes};
+ghost use Rattle.machine_roads.specs.Lone.{LoneEmpty, LoneLeaks, LoneRunEnds, LoneRunGoes, LoneRunIsMade, LoneRunTakes};
+ghost use Rattle.machine_roads.specs.Lone.{LoneSpawns, LoneUses, LoneWakerGoes};
 ghost use Rattle.machine_roads.specs.Lone.{LoneDetachLoses, LoneDropEnds, LoneGoesWithOutput};
 ghost use Rattle.machine_roads.specs.Lone.{LoneDetaches, LoneHandleGoes, LoneHandlePolls};
 ghost use Rattle.machine_roads.specs.Lone.{LoneHandleWaits, LoneTickGoes, LoneTickIsMade};
@@ -101,6 +101,12 @@ pub fn lone_runs_are_made()
 /// future's poll and drop.
 pub fn lone_runs_end()
     ensures { EachLoneAlike LoneRunEnds }
+{}
+
+/// And where its own future gives no output, and some future is due, it rests first behind that where
+/// the plain scheduler's does: in the poll or the drop of the future that it took.
+pub fn lone_runs_take()
+    ensures { EachLoneAlike LoneRunTakes }
 {}
 
 /// With the end of its own future's drop, if that isn't over, a lone drop of a run is one: those that

@@ -35,7 +35,7 @@ use Rattle.machine_roads.specs.View.{Output, wakes}
 use Rattle.machine_roads.specs.Road.{Follows, futures_in, is_ended}
 use Rattle.machine_roads.specs.Alone.{alone, Has}
 use Rattle.machine_roads.specs.Lone.{EachLoneAlike, LoneRunTakes, RestsFirst}
-use Rattle.machine_roads.specs.Searching.{goes_on_by}
+use Rattle.machine_roads.specs.Searching.{IsLast, goes_on_by}
 use Rattle.machine_roads.specs.Stopped.{Stops}
 use Rattle.machine_roads.proofs.Lists.{clash, cons_is}
 use Rattle.machine_roads.proofs.LoneCalls.{each}
@@ -112,6 +112,7 @@ module _ (s : Machine) (reached : Reached s) (q : Plain Output Waker) (quiet : I
     S e =
         (d : Choice) × (y : RunPoll) × (last : Bool) × (d.first ≡ first_of s.world.urgent_turns) × (d.tells ≡ c.tells)
         × Stops (ByRun r a) (goes_on_by y last) [] q e (does wakes d Pends (does wakes c (PollRun r a) q))
+        × IsLast r last (does wakes d Pends (does wakes c (PollRun r a) q))
 
     polled : does wakes c (PollRun r a) q ≡ enters (PollOwn r a) q
     polled = ap (λ b. if b then answers Finished q else enters (PollOwn r a) q) unended
@@ -129,6 +130,7 @@ module _ (s : Machine) (reached : Reached s) (q : Plain Output Waker) (quiet : I
           subst
               (λ z. Stops (ByRun r a) (goes_on_by x k.1) [] q (alone p hints (done own.world (op.Tick (tick_op.Search (asleep x)) ∷ [])))
               (does wakes k.0 Pends z)) (sym polled) k.4,
+          subst (λ z. IsLast r k.1 (does wakes k.0 Pends z)) (sym polled) k.5,
         )
 
     takes : RestsFirst p S new

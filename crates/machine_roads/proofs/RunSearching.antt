@@ -38,14 +38,14 @@ use Rattle.plain_scheduler.specs.Takes as plain_takes
 use Rattle.machine_roads.specs.View.{Output, wakes}
 use Rattle.machine_roads.specs.Road.{Follows, futures_in, run_view}
 use Rattle.machine_roads.specs.Alone.{alone, is_resting}
-use Rattle.machine_roads.specs.Searching.{CanTake, RunTakesAlike, goes_on_by, unready}
+use Rattle.machine_roads.specs.Searching.{CanTake, IsLast, RunTakesAlike, goes_on_by, unready}
 use Rattle.machine_roads.proofs.Adding.{with_due}
 use Rattle.machine_roads.proofs.Changing.{logs}
 use Rattle.machine_roads.proofs.Due.{First, find_same, first, nothing, others, without_same}
 use Rattle.machine_roads.proofs.Keeping.{HasPlaces, IsAway, IsBeside, Kept, Lined, common_away, kept_away, kept_due, lined_so}
 use Rattle.machine_roads.proofs.Keeping.{many_kept, repeat_is}
 use Rattle.machine_roads.proofs.Lists.{cons_is, equal, same_of, turned as turned_apart}
-use Rattle.machine_roads.proofs.RunTaking.{finds, takes_so}
+use Rattle.machine_roads.proofs.RunTaking.{Begun, finds, takes_so}
 use Rattle.machine_roads.proofs.Runs.{one_more, over_is}
 use Rattle.machine_roads.proofs.RunsGone.{kept_uncommon, runs_apart, takes_own}
 use Rattle.machine_roads.proofs.Standing.{Stands, StandsSo, stops_so}
@@ -157,10 +157,12 @@ module _ (p : ℕ) (below : List Op) (under : is_resting below ≡ true) (end : 
   abbrev pub pick : List Mark → ℕ → ℕ → Choice
   pick ms k n = record c { keeps = ms; robs = k; moves = n; refusal = Granted }
 
+  pub record Took (ms : List Mark) (k n : ℕ) (last : Bool) (q : Plain Output Waker) : Type 0 where
+    pub stood : StandsSo taker (goes_on_by x last) below q end (plain_takes.take wakes (pick ms k n) taker q)
+    pub early : IsLast r last (plain_takes.take wakes (pick ms k n) taker q)
+
   abbrev pub Found : Plain Output Waker → Type 0
-  Found q =
-      (ms : List Mark) × (k : ℕ) × (n : ℕ) × (last : Bool)
-      × StandsSo taker (goes_on_by x last) below q end (plain_takes.take wakes (pick ms k n) taker q)
+  Found q = (ms : List Mark) × (k : ℕ) × (n : ℕ) × (last : Bool) × Took ms k n last q
 
   -- at which due futures it looks, one class after the other
   abbrev fourth : ℕ → List Due → Due → Bool
@@ -179,9 +181,8 @@ module _ (p : ℕ) (below : List Op) (under : is_resting below ≡ true) (end : 
   ends_in : (ms : List Mark) (k n f : ℕ) (rest : List ℕ) (last : Bool) (test : Due → Bool) (q qr : Plain Output Waker) (fit : fits qr)
       (one : First test q.due f rest) → ((e : Due) → its_test k q.due e ≡ test e)
       → plain_takes.robbed wakes (pick ms k n) r one.due_one.keeper (with_due (without test q.due) q) ≡ qr → qr.inside ≡ q.inside
-      → StandsSo taker (goes_on_by x last) below qr end
-      (plain_takes.run wakes c f taker (takes_so p below under end rests c x qr fit ms))
-      → StandsSo taker (goes_on_by x last) below q end (plain_takes.take wakes (pick ms k n) taker q)
+      → Begun p below under end rests c x qr fit f last (takes_so p below under end rests c x qr fit ms)
+      → Took ms k n last q
   ends_in ms k n f rest last test q qr fit one same robbed_is inside so =
       let d = pick ms k n in
       let take : Option Due → List Due → Plain Output Waker = λ o ds.
@@ -194,11 +195,15 @@ module _ (p : ℕ) (below : List Op) (under : is_resting below ≡ true) (end : 
       ∙ (ap (λ y. plain_takes.run wakes c one.due_one.future taker (after y)) robbed_is
       ∙ ap (λ f. plain_takes.run wakes c f taker (after qr)) one.is)) in
       let new : Plain Output Waker = plain_takes.run wakes c f taker (takes_so p below under end rests c x qr fit ms) in
-      subst (StandsSo taker (goes_on_by x last) below q end) (sym is)
-      (record {
-        stands = subst (λ codes. Stands taker (goes_on_by x last) below codes end.world end.next new.inside) inside so.stands;
-        follows = so.follows;
-      })
+      record {
+        stood =
+            subst (StandsSo taker (goes_on_by x last) below q end) (sym is)
+            (record {
+              stands = subst (λ codes. Stands taker (goes_on_by x last) below codes end.world end.next new.inside) inside so.stood.stands;
+              follows = so.stood.follows;
+            });
+        early = subst (IsLast r last) (sym is) so.early;
+      }
 
   -- one of its own
   takes_its : (f : ℕ) (rest : List ℕ) (w : World) (q : Plain Output Waker) → Follows w q → fits q → CanTake q r
@@ -312,8 +317,7 @@ module _ (p : ℕ) (below : List Op) (under : is_resting below ≡ true) (end : 
         h.1,
         ends_in h.0 k n f rest h.1 (is_kept k) q qr fit one (λ e. tests e one.some) (robs one.due_one.keeper one.passes) refl
             (subst
-            (λ f. StandsSo taker (goes_on_by x h.1) below qr end
-            (plain_takes.run wakes c f taker (takes_so p below under end rests c x qr fit h.0))) same h.2),
+            (λ f. Begun p below under end rests c x qr fit f h.1 (takes_so p below under end rests c x qr fit h.0)) same h.2),
       )
     where
       robs : (o : Option ℕ) → is_run k o ≡ true
@@ -487,5 +491,6 @@ run_takes p here below w q under follows x n some can many hints has rests =
       g.3,
       refl,
       refl,
-      stops_so (ByRun x.run x.waker) (goes_on_by x g.3) below q end (plain_takes.take wakes d (ByRun x.run x.waker) q) g.4,
+      stops_so (ByRun x.run x.waker) (goes_on_by x g.3) below q end (plain_takes.take wakes d (ByRun x.run x.waker) q) g.4.stood,
+      g.4.early,
     )

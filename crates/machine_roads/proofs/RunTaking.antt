@@ -1,11 +1,12 @@
 -- What a run does with a future that it has found: it gets up, tells, steals more at every 64th, counts, and the future's run begins.
-use Rattle.std.proofs.Common.{◌≡◌, ℕ, zero, suc, ◌+◌, ◌≤◌, ◌==◌, ◌++◌, nat_lt, Bool, true, false, List, [], ◌∷◌, length}
+use Rattle.std.proofs.Common.{◌≡◌, ℕ, zero, suc, ◌+◌, ◌≤◌, ◌==◌, ◌++◌, nat_lt, not, Bool, true, false, List, [], ◌∷◌, length}
 use Rattle.std.proofs.Common.{slice_get, slice_set, drop, take, if◌then◌else◌, append-nil, refl, sym}
 use Rattle.std.proofs.Common.{ap, subst, ◌∙◌, arith}
 use Rattle.executor_parts.specs.declared.mark.Mark.{Mark}
 use Rattle.executor_parts.specs.declared.mark.Mark.TheVariants.{Plain as PlainMark, Urgent}
 use Rattle.executor_parts.specs.Marks.{other}
 use Rattle.task_moves.specs.declared.moves.owed.Move.TheVariants as move
+use Rattle.task_moves.specs.AbstractTask as abstract
 use Rattle.executor_model.specs.declared.op.Op.{Op}
 use Rattle.executor_model.specs.declared.op.Op.TheVariants as op
 use Rattle.executor_model.specs.declared.op.RunOp.TheVariants as run_op
@@ -21,14 +22,15 @@ use Rattle.executor_model.specs.ActsOfRuns.{asleep, counted_by, counted_to, foun
 use Rattle.executor_model.specs.ActsOfSleepers.{found_by}
 use Rattle.executor_model.specs.SleepersAgree.{sleeps}
 use Rattle.executor_model.specs.World.{Asleep, Awake, Done, Left, Run, Ticker, World, place_of, put_run, run_of}
-use Rattle.plain_scheduler.specs.State.{ARun, Choice, Due, Plain, Running, Run as ByRun, Taker}
+use Rattle.plain_scheduler.specs.State.{ARun, Choice, Closed, Due, Plain, Poll, Polls, Running, Run as ByRun, Taker}
 use Rattle.plain_scheduler.specs.Lists.{each, or, repeat}
-use Rattle.plain_scheduler.specs.Moves.{is_common, is_kept, keeps, tell, up}
+use Rattle.plain_scheduler.specs.Moves.{enters, is_common, is_kept, keeps, put, see, task, tell, up}
 use Rattle.plain_scheduler.specs.Moves as plain
 use Rattle.plain_scheduler.specs.Takes as plain_takes
 use Rattle.machine_roads.specs.View.{Output, wakes}
 use Rattle.machine_roads.specs.Road.{Follows, futures_in}
 use Rattle.machine_roads.specs.Alone.{is_resting}
+use Rattle.machine_roads.specs.Searching.{IsLast}
 use Rattle.machine_roads.proofs.Adding.{Adds, AreBare, bare_none, risen_adds, with_both, with_due}
 use Rattle.machine_roads.proofs.Aside.{tell_inside, up_inside}
 use Rattle.machine_roads.proofs.Changing.{futures_append}
@@ -40,7 +42,8 @@ use Rattle.machine_roads.proofs.Leaving.{gets_up}
 use Rattle.machine_roads.proofs.Lists.{same_of}
 use Rattle.machine_roads.proofs.Moved.{Then}
 use Rattle.machine_roads.proofs.Numbers.{put_view}
-use Rattle.machine_roads.proofs.Runs.{changed, counted_alike, one_more, runs_is, same_place}
+use Rattle.machine_roads.proofs.Puts.{put_by}
+use Rattle.machine_roads.proofs.Runs.{changed, counted_alike, counted_last, one_more, runs_is, same_place}
 use Rattle.machine_roads.proofs.Standing.{Stands, StandsSo}
 use Rattle.machine_roads.proofs.Stealing.{steals}
 use Rattle.machine_roads.proofs.Stepping.{Way, next}
@@ -161,6 +164,16 @@ module _ (r : ℕ) (m : Mark) (n : ℕ) where
       take_front (suc n) [] ys there = absurd (omega (arith, there))
       take_front (suc n) (x ∷ xs) ys there = ap (λ zs. x ∷ zs) (take_front n xs ys (omega (arith, there)))
 
+-- the begin of a future's run is nothing to the runs
+run_runs : (c : Choice) (f : ℕ) (by : Taker Waker) (q : Plain Output Waker) → (plain_takes.run wakes c f by q).runs ≡ q.runs
+run_runs c f by q = cases (task f q).closed
+  where
+    cases : (b : Bool)
+        → (if b then plain_takes.dropping wakes c f Closed by q
+        else enters (Poll f by) (see (Polls f) (put f (abstract.begin_run (task f q)) q))).runs ≡ q.runs
+    cases true = refl
+    cases false = put_by (λ p. p.runs) f (abstract.begin_run (task f q)) q (λ fs. refl)
+
 module _ (p : ℕ) (below : List Op) (under : is_resting below ≡ true) (end : Done) (rests : is_resting end.next ≡ true) (c : Choice)
     (x : RunPoll) where
   abbrev r : ℕ
@@ -194,6 +207,7 @@ module _ (p : ℕ) (below : List Op) (under : is_resting below ≡ true) (end : 
     place : (y : TickOrRun) → place_of world y ≡ place_of w y
     is : (run_found w x f).world ≡ world
     leads : (run_found w x f).next ≡ op.Move move.TakeUp f ∷ final last ∷ []
+    early : IsLast r last (record q { runs = counted q.runs })
 
   counts : (f : ℕ) (w : World) (q : Plain Output Waker) → Follows w q → IsGoing q → Counts f w q
   counts f w q follows going = by ((run_of w r).taken + 1 == 200) refl
@@ -220,6 +234,7 @@ module _ (p : ℕ) (below : List Op) (under : is_resting below ≡ true) (end : 
         place = placed true;
         is = ap (λ (b : Bool). (run_by b w x f).world) is;
         leads = ap (λ (b : Bool). (run_by b w x f).next) is;
+        early = counted_last w.runs q.runs follows.runs r going ∙ ap not is;
       }
       by false is = record {
         last = false;
@@ -228,6 +243,7 @@ module _ (p : ℕ) (below : List Op) (under : is_resting below ≡ true) (end : 
         place = placed false;
         is = ap (λ (b : Bool). (run_by b w x f).world) is;
         leads = ap (λ (b : Bool). (run_by b w x f).next) is;
+        early = counted_last w.runs q.runs follows.runs r going ∙ ap not is;
       }
 
   -- it gets up and tells
@@ -261,17 +277,24 @@ module _ (p : ℕ) (below : List Op) (under : is_resting below ≡ true) (end : 
     takes_so ms = plain.runs one_more r (keeps_all ms)
 
     -- the run of the future begins
+    pub record Begun (f : ℕ) (last : Bool) (y : Plain Output Waker) : Type 0 where
+      pub stood : StandsSo taker (final last) below q0 end (plain_takes.run wakes c f taker y)
+      pub early : IsLast r last (plain_takes.run wakes c f taker y)
+
     begins : (f : ℕ) (last : Bool) (w : World) (es : List Due) (ms : List Mark) → Follows w (with_both es (counted q0.runs) z)
-        → takes_so ms ≡ with_both es (counted q0.runs) z → Way p end w (op.Move move.TakeUp f ∷ final last ∷ below)
-        → StandsSo taker (final last) below q0 end (plain_takes.run wakes c f taker (takes_so ms))
-    begins f last w es ms follows same way =
+        → takes_so ms ≡ with_both es (counted q0.runs) z → IsLast r last (with_both es (counted q0.runs) z)
+        → Way p end w (op.Move move.TakeUp f ∷ final last ∷ below) → Begun f last (takes_so ms)
+    begins f last w es ms follows same early way =
         let q1 : Plain Output Waker = with_both es (counted q0.runs) z in
         let new : Plain Output Waker = plain_takes.run wakes c f taker q1 in
         let so = runs p below under end rests taker (final last) c f w q1 follows way in
-        subst (λ y. StandsSo taker (final last) below q0 end (plain_takes.run wakes c f taker y)) (sym same)
+        subst (Begun f last) (sym same)
         (record {
-          stands = subst (λ codes. Stands taker (final last) below codes end.world end.next new.inside) z_inside so.stands;
-          follows = so.follows;
+          stood = record {
+            stands = subst (λ codes. Stands taker (final last) below codes end.world end.next new.inside) z_inside so.stands;
+            follows = so.follows;
+          };
+          early = ap (λ (rs : List Running). nat_lt (or (slice_get rs r) (λ run. run.taken) 0) 200) (run_runs c f taker q1) ∙ early;
         })
 
     module _ (f k : ℕ) (m : Mark) (there : k ≤ length (futures_in (is_common m) q0.due)) (few : HasPlaces r k q0.due)
@@ -286,8 +309,7 @@ module _ (p : ℕ) (below : List Op) (under : is_resting below ≡ true) (end : 
       first_lined = lined_added r m k q0.due adds.more adds.bare there few
 
       abbrev Found : Type 0
-      Found =
-          (ms : List Mark) × (last : Bool) × StandsSo taker (final last) below q0 end (plain_takes.run wakes c f taker (takes_so ms))
+      Found = (ms : List Mark) × (last : Bool) × Begun f last (takes_so ms)
 
       counted_follows : (n : ℕ) (w : World) → Follows w (with_due D q0) → Follows (counted_to w r n) (with_due D q0)
       counted_follows n w follows =
@@ -335,7 +357,7 @@ module _ (p : ℕ) (below : List Op) (under : is_resting below ≡ true) (end : 
           ap (plain.runs one_more r) (each_marks r k m [] z)
           ∙ (runs_is one_more r (with_due (repeat k (keeping r m) z.due) z)
           ∙ ap (λ (y : Plain Output Waker). with_both (repeat k (keeping r m) y.due) (counted y.runs) z) z_is) in
-          (marks_of k m [], k1.last, begins f k1.last g.world E (marks_of k m []) follows3 same g.way)
+          (marks_of k m [], k1.last, begins f k1.last g.world E (marks_of k m []) follows3 same k1.early g.way)
 
       -- every 64th: it steals more
       steals_first : (w : World) → Follows w (with_due D q0)
@@ -381,7 +403,7 @@ module _ (p : ℕ) (below : List Op) (under : is_resting below ≡ true) (end : 
           (λ (y : Plain Output Waker). with_both
           (repeat two.many (keeping r PlainMark) (repeat one.many (keeping r Urgent) (repeat k (keeping r m) y.due))) (counted y.runs) z)
           z_is) in
-          (marks_of k m more, k1.last, begins f k1.last k1.world E2 (marks_of k m more) follows3 same now)
+          (marks_of k m more, k1.last, begins f k1.last k1.world E2 (marks_of k m more) follows3 same k1.early now)
 
       -- it has found one, and so many more of this mark came to its own queue
       pub finds : (w : World) → Follows w (with_due D q0) → Way p end (found w x f).world ((found w x f).next ++ below) → Found

@@ -1,5 +1,5 @@
 -- Runs as the plain scheduler has them: one that changes on both sides.
-use Rattle.std.proofs.Common.{◌≡◌, ℕ, zero, suc, ◌+◌, ◌<◌, ◌==◌, nat_lt, Bool, true, false, List, [], ◌∷◌, length, map, get_or}
+use Rattle.std.proofs.Common.{◌≡◌, ℕ, zero, suc, ◌+◌, ◌<◌, ◌==◌, nat_lt, not, Bool, true, false, List, [], ◌∷◌, length, map, get_or}
 use Rattle.std.proofs.Common.{Option, Some, None, slice_get, slice_set, if◌then◌else◌, refl, sym, ap, ◌∙◌, arith}
 use Rattle.std.proofs.lemmas.Bool.Decides.{nat_tests}
 use Rattle.executor_model.specs.declared.op.TickOrRun.{TickOrRun}
@@ -83,6 +83,26 @@ counted_alike ws qs is r going b last =
     ap (λ b. record (run_view (get_or ws r no_run)) { taken = if b then 0 else (get_or ws r no_run).taken + 1 }) (sym last)
     ∙ (ap (λ k. record (run_view (get_or ws r no_run)) { taken = if k + 1 == 200 then 0 else k + 1 }) taken
     ∙ ap (λ (run : Running). record run { taken = if y.taken + 1 == 200 then 0 else y.taken + 1 }) same))
+
+-- and whether that is the 200th
+pub counted_last : (ws : List Run) (qs : List Running) → map run_view ws ≡ map counted_anew qs → (r : ℕ)
+    → or (slice_get qs r) (λ run. nat_lt run.taken 200) true ≡ true
+    → nat_lt (or (slice_get (changed one_more r qs) r) (λ run. run.taken) 0) 200 ≡ not ((get_or ws r no_run).taken + 1 == 200)
+counted_last [] [] is r going = refl
+counted_last [] (y ∷ ys) is r going = absurd cc
+counted_last (w ∷ ws) [] is r going = absurd cc
+counted_last (w ∷ ws) (y ∷ ys) is zero going =
+    let both = cons_is (run_view w) (counted_anew y) (map run_view ws) (map counted_anew ys) is in
+    let taken : w.taken ≡ y.taken =
+    ap (λ (run : Running). run.taken) both.0 ∙ ap (λ b. if b then 0 else y.taken) (unlike y.taken going) in
+    next_one y.taken going ∙ ap (λ n. not (n + 1 == 200)) (sym taken)
+  where
+    next_one : (n : ℕ) → nat_lt n 200 ≡ true → nat_lt (n + 1) 200 ≡ not (n + 1 == 200)
+    next_one n few = grind (arith, nat_tests)
+counted_last (w ∷ ws) (y ∷ ys) is (suc r) going =
+    let both = cons_is (run_view w) (counted_anew y) (map run_view ws) (map counted_anew ys) is in
+    ap (λ (runs : List Running). nat_lt (or (slice_get runs (suc r)) (λ run. run.taken) 0) 200) (changed_rest one_more y ys r)
+    ∙ counted_last ws ys both.1 r going
 
 -- whether it is over
 pub over_is : (ws : List Run) (qs : List Running) → map run_view ws ≡ map counted_anew qs → (r : ℕ)

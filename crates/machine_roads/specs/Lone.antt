@@ -38,7 +38,7 @@ use Rattle.plain_scheduler.specs.Calls as plain_calls
 use Rattle.machine_roads.specs.View.{Output, wakes}
 use Rattle.machine_roads.specs.Alike.{begins, LeavesAlike}
 use Rattle.machine_roads.specs.Road.{Follows}
-use Rattle.machine_roads.specs.Searching.{goes_on_by}
+use Rattle.machine_roads.specs.Searching.{IsLast, goes_on_by}
 use Rattle.machine_roads.specs.Stopped.{Stops}
 
 -- a call that leaves the world so leaves the machine so
@@ -223,7 +223,8 @@ module _ (s : Machine) (q : Plain Output Waker) where
       → or (slice_get q.runs r) (λ run. nat_lt run.taken 200) true ≡ true → or (slice_get q.runs r) (λ run. run.is_over) true ≡ false
       → length q.lying ≤ c.tells → (new : Machine) → new.world.gone ≡ false → IsLoneCall p (call.PollRun r b) steps s new → RestsFirst p
       (λ e. (d : Choice) × (x : RunPoll) × (last : Bool) × (d.first ≡ first_of s.world.urgent_turns) × (d.tells ≡ c.tells)
-      × Stops (Run r (waker_of None b)) (goes_on_by x last) [] q e (does wakes d Pends (does wakes c (PollRun r (waker_of None b)) q)))
+      × Stops (Run r (waker_of None b)) (goes_on_by x last) [] q e (does wakes d Pends (does wakes c (PollRun r (waker_of None b)) q))
+      × IsLast r last (does wakes d Pends (does wakes c (PollRun r (waker_of None b)) q)))
       new
 
   -- a run goes, with the end of its own future's drop, if that isn't over

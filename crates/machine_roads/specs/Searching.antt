@@ -1,5 +1,5 @@
 -- A poll of a run whose own future gave no output: when the take that follows leaves both alike.
-use Rattle.std.specs.Prelude.{◌≡◌, ℕ, ◌≤◌, nat_lt, Bool, true, if◌then◌else◌, List, [], ◌∷◌, length, slice_get, Option}
+use Rattle.std.specs.Prelude.{◌≡◌, ℕ, ◌≤◌, nat_lt, not, Bool, true, if◌then◌else◌, List, [], ◌∷◌, length, slice_get, Option}
 use Rattle.executor_parts.specs.Marks.{first_of}
 use Rattle.executor_model.specs.declared.event.Answer.TheVariants as answer
 use Rattle.executor_model.specs.declared.op.Op.{Op}
@@ -28,7 +28,14 @@ use Rattle.machine_roads.specs.Stopped.{Stops}
 abbrev pub goes_on_by : RunPoll → Bool → Op
 goes_on_by x last = if last then op.Run (run_op.WakeOwn x) else op.Tick (tick_op.Search (asleep x))
 
--- it has taken fewer than 200 since it let others go first, and no run that is over keeps anything
+-- so many it has taken since it let others go first, and it searches on while these are fewer than 200
+abbrev pub taken_by : ℕ → Plain Output Waker → ℕ
+taken_by r q = or (slice_get q.runs r) (λ run. run.taken) 0
+
+abbrev pub IsLast : ℕ → Bool → Plain Output Waker → Type 0
+IsLast r last q = nat_lt (taken_by r q) 200 ≡ not last
+
+-- it has taken fewer than that, and no run that is over keeps anything
 pub record CanTake (q : Plain Output Waker) (r : ℕ) : Type 0 where
   pub going : or (slice_get q.runs r) (λ run. nat_lt run.taken 200) true ≡ true
   pub left : (k : ℕ) → or (slice_get q.runs k) (λ run. run.is_over) true ≡ true → futures_in (is_kept k) q.due ≡ []
@@ -46,3 +53,4 @@ RunTakesAlike p here below w q =
     → (c : Choice) × (last : Bool) × (c.first ≡ first_of w.urgent_turns) × (c.tells ≡ n)
     × Stops (Run x.run x.waker) (goes_on_by x last) below q (alone p hints (unready p x below w))
     (does wakes c Pends (record q { inside = PollOwn x.run x.waker ∷ q.inside }))
+    × IsLast x.run last (does wakes c Pends (record q { inside = PollOwn x.run x.waker ∷ q.inside }))

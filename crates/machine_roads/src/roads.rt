@@ -144,7 +144,8 @@ pub fn a_run_is_made_alike()
 
 /// A poll of a run whose own future gave no output comes, where some future is due, to the poll or the
 /// drop of the one that it takes, where both stand alike: the first of its own queue, or of the
-/// executor's as the turn names them, or of another run's; with what it steals beside.
+/// executor's as the turn names them, or of another run's; with what it steals beside. Behind that it
+/// searches again, or calls its own waker where that was the 200th.
 pub fn a_run_takes_alike()
     ensures { EachAlike RunTakesAlike }
 {}

@@ -33,6 +33,7 @@ pub mod Dropped
 pub mod RunEnding
 pub mod Forgetting
 pub mod Lain
+pub mod Leaving
 pub mod Ticking
 pub mod TickPolls
 pub mod Copying
@@ -45,6 +46,9 @@ pub mod LoneLosing
 pub mod LoneTicks
 pub mod LoneTakes
 pub mod LoneTries
+pub mod LoneGoes
+pub mod LonePolls
+pub mod LoneTaking
 pub mod Leaking
 pub mod Nobody
 pub mod Rousing
@@ -53,6 +57,13 @@ pub mod Unborrowed
 pub mod LoneCloses
 pub mod LoneBehind
 pub mod RunsMade
+pub mod Runs
+pub mod RunsGone
+pub mod Adding
+pub mod Keeping
+pub mod Stealing
+pub mod RunTaking
+pub mod RunSearching
 pub mod Inside
 pub mod Open
 pub mod Course

@@ -84,5 +84,8 @@ pub mod Resleeping
 pub mod Keeping
 pub mod InVain
 pub mod RunResting
+pub mod Listed
+pub mod OwnKept
+pub mod Polled
 pub mod RunGoing
 pub mod RunEnding

@@ -25,6 +25,7 @@ pub mod RunTaking
 pub mod Walking
 pub mod RunGoing
 pub mod RunResting
+pub mod Led
 pub mod Going
 pub mod Seen
 pub mod Done

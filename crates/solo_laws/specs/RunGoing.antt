@@ -19,7 +19,7 @@ use Rattle.plain_scheduler.specs.Moves.{lies}
 use Rattle.plain_scheduler.specs.Calls.{Call, Ends, Pends}
 use Rattle.solo_laws.specs.Numbered.{ticker_of}
 use Rattle.solo_laws.specs.Road.{HasLife, IsNamed}
-use Rattle.solo_laws.specs.RunResting.{EachListed, run_rest_answer, run_rested, sleep_answer, slept_from}
+use Rattle.solo_laws.specs.RunResting.{run_rest_answer, run_rested, sleep_answer, slept_from}
 use Rattle.solo_laws.specs.RunTaking.{searched_further, wake_shows, woken_by}
 use Rattle.solo_laws.specs.Shown.{rings}
 use Rattle.solo_laws.specs.Stealing.{share_of, so_many, stolen_marks}
@@ -89,8 +89,8 @@ module _ {F T X : Type 0} (its : ℕ → Lent) (number : Who → ℕ) (c : Choic
         → Searches (shows_taken task (steals.walked runner.number start (searched_none runner.number s))) number
         (runs.searched runner its_ticker start s)
     -- or there is none, and it lies down
-    rests : (first second : ℕ) → EachListed s.runs → (steals.seek_answer runner.number first s).task ≡ None
-        → c.first ≡ mark_of_turn s.lines.turn → c.refusal ≡ Granted
+    rests : (first second : ℕ) → (steals.seek_answer runner.number first s).task ≡ None → c.first ≡ mark_of_turn s.lines.turn
+        → c.refusal ≡ Granted
         → (find (lies (ARun runner.number)) p.lying ≡ None → nat_lt s.sleepers.count s.sleepers.rooms ≡ true)
         → ((u : Task) → w ≡ OfTask u → IsNamed (named its) (length p.futures) u × (solo.may_hold u s ≡ true)
         × (looks_again (sleep_answer runner.number first its_ticker w s).look ≡ true

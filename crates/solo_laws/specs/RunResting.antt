@@ -51,8 +51,7 @@ module _ {F T X : Type 0} (its : ℕ → Lent) (number : Who → ℕ) (s : Solo 
   abbrev pub RunsRest : Type 0
   RunsRest =
       (c : Choice) (r : ℕ) (w : SoloWaker X) (rest : List (Code T (SoloWaker X))) (first second : ℕ) → p.inside ≡ PollOwn r w ∷ rest
-      → goes_on r p ≡ true → EachListed s.runs → (seek_answer r first s).task ≡ None → c.first ≡ mark_of_turn s.lines.turn
-      → c.refusal ≡ Granted
+      → goes_on r p ≡ true → (seek_answer r first s).task ≡ None → c.first ≡ mark_of_turn s.lines.turn → c.refusal ≡ Granted
       → let ticker = ticker_of number (ARun r) p.lying in
       (find (lies (ARun r)) p.lying ≡ None → nat_lt s.sleepers.count s.sleepers.rooms ≡ true)
       → ((u : Task) → w ≡ OfTask u → IsNamed (named its) (length p.futures) u × (may_hold u s ≡ true)

@@ -17,6 +17,7 @@ use Rattle.solo_laws.specs.Courses.{wakes as wakes_it}
 use Rattle.solo_laws.specs.Numbered.{IsNumbered}
 use Rattle.solo_laws.specs.Road.{HasLife, IsNamed, wakes}
 use Rattle.solo_laws.specs.RunGoing.{RunsOn, Searches, gives_way, looks_on, rests, robs_another, takes_common, takes_own}
+use Rattle.solo_laws.specs.RunResting.{EachListed}
 use Rattle.solo_laws.specs.RunTaking.{woken_by}
 use Rattle.solo_laws.specs.Shown.{rings}
 use Rattle.solo_laws.specs.Tabled.{Stands, goes_on, named}
@@ -35,7 +36,7 @@ module _ {F T X : Type 0} (its : ℕ → Lent) where
   Reached p shown now z q = (Stands its z q × (q.events ≡ p.events ++ shown)) × IsNumbered now z.sleepers q.lying
 
   module _ (number : Who → ℕ) (c : Choice) (runner : Runner) (w : SoloWaker X) (s : Solo F T X) (p : Plain T (SoloWaker X))
-      (both : Stands its s p) (n : IsNumbered number s.sleepers p.lying) (many : length p.lying ≤ c.tells) where
+      (both : Stands its s p) (n : IsNumbered number s.sleepers p.lying) (all : EachListed s.runs) (many : length p.lying ≤ c.tells) where
     abbrev r : ℕ
     r = runner.number
 
@@ -60,10 +61,9 @@ module _ {F T X : Type 0} (its : ℕ → Lent) where
         runs_take_kept its number s polled polled_both n c runner w p.inside start task refl going first found turn finds robs moves keeps
         many life in
         ((it.stands, it.seen), it.numbered)
-    searches_alike going shown now z (rests first second listed missed turn granted room names more life) =
+    searches_alike going shown now z (rests first second missed turn granted room names more life) =
         let it =
-        runs_rest its number s polled polled_both n c r w p.inside first second refl going listed missed turn granted room names more
-        life in
+        runs_rest its number s polled polled_both n all c r w p.inside first second refl going missed turn granted room names more life in
         ((it.stands, it.seen), it.numbered)
 
     -- whoever sleeps has its number still

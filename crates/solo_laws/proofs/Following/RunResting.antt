@@ -314,9 +314,9 @@ module _ {F T X : Type 0} (its : ℕ → Lent) (number : Who → ℕ) (s : Solo 
         by true is = ap (λ y. ticks.slept_answer out.ticker w (copies w y)) (again_same is)
 
 module _ {F T X : Type 0} (its : ℕ → Lent) (number : Who → ℕ) (s : Solo F T X) (p : Plain T (SoloWaker X)) (both : Stands its s p)
-    (n : IsNumbered number s.sleepers p.lying) where
+    (n : IsNumbered number s.sleepers p.lying) (listed : EachListed s.runs) where
   pub runs_rest : RunsRest its number s p
-  runs_rest c r w rest start later is going listed missed turn granted room names many life =
+  runs_rest c r w rest start later is going missed turn granted room names many life =
       let q : Plain T (SoloWaker X) = record p { inside = rest } in
       let who = ARun r in
       let both' : Stands its s q =

@@ -84,6 +84,7 @@ pub mod Resleeping
 pub mod Keeping
 pub mod InVain
 pub mod RunResting
+pub mod RunRefusing
 pub mod Listed
 pub mod OwnKept
 pub mod Polled

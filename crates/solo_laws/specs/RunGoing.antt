@@ -13,7 +13,9 @@ use Rattle.solo.specs.OwnQueues.{first_of}
 use Rattle.solo.specs.Runs as runs
 use Rattle.solo.specs.Solo as solo
 use Rattle.solo.specs.Steals as steals
-use Rattle.plain_scheduler.specs.State.{Answers, ARun, Choice, Code, Drop, End, Event, Granted, Lose, Pending, Plain, Poll, Taker, Try, Who}
+use Rattle.plain_scheduler.specs.State.{Answers, ARun, AtOnce, Choice, Code, Drop, End, Event, Granted, Later, Lose, NoMemory, Pending}
+use Rattle.plain_scheduler.specs.State.{Plain, Poll}
+use Rattle.plain_scheduler.specs.State.{Taker, Try, Who}
 use Rattle.plain_scheduler.specs.Lists.{or}
 use Rattle.plain_scheduler.specs.Moves.{lies}
 use Rattle.plain_scheduler.specs.Calls.{Call, Ends, Pends}
@@ -98,6 +100,16 @@ module _ {F T X : Type 0} (its : ℕ → Lent) (number : Who → ℕ) (c : Choic
         → suc (length p.lying) ≤ c.tells → HasLife 2 s.lines
         → Searches (rings (run_rest_answer runner.number first second its_ticker w s).sleeper ++ Answers Pending ∷ [])
         (number_after (ARun runner.number) number s p) (run_rested runner.number first second its_ticker w s)
+    -- and is refused a copy of its waker, or another for the look once it lies
+    is_refused : (start : ℕ) → (steals.seek_answer runner.number start s).task ≡ None → c.first ≡ mark_of_turn s.lines.turn
+        → c.refusal ≡ AtOnce → Searches (Answers NoMemory ∷ []) number (steals.sought runner.number start s)
+    lies_refused : (first second : ℕ) → (steals.seek_answer runner.number first s).task ≡ None → c.first ≡ mark_of_turn s.lines.turn
+        → c.refusal ≡ Later
+        → (find (lies (ARun runner.number)) p.lying ≡ None → nat_lt s.sleepers.count s.sleepers.rooms ≡ true)
+        → ((u : Task) → w ≡ OfTask u → IsNamed (named its) (length p.futures) u × (solo.may_hold u s ≡ true))
+        → looks_again (sleep_answer runner.number first its_ticker w s).look ≡ true → suc (length p.lying) ≤ c.tells → HasLife 2 s.lines
+        → Searches (Answers NoMemory ∷ []) (number_after (ARun runner.number) number s p)
+        (steals.sought runner.number second (slept_from runner.number first its_ticker w s))
 
   -- it looks for another, or lets others go first after 200
   pub data RunsOn : List (Event T (SoloWaker X)) → (Who → ℕ) → Solo F T X → Type 0 where

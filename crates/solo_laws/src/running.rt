@@ -7,7 +7,7 @@ ghost use Rattle.plain_scheduler.specs.State.{Plain, Who};
 ghost use Rattle.solo_laws.specs.Led.{IsLed};
 ghost use Rattle.solo_laws.specs.Numbered.{IsNumbered};
 ghost use Rattle.solo_laws.specs.Running.{OversAreDropped, OversArePolled, OwnsAreReady, RunsAreDropped, RunsArePolled, RunsLeave};
-ghost use Rattle.solo_laws.specs.RunResting.{EachListed, RunsRest};
+ghost use Rattle.solo_laws.specs.RunResting.{EachListed, RunsAreRefused, RunsLieRefused, RunsRest};
 ghost use Rattle.solo_laws.specs.RunTaking.{RunsGiveWay, RunsTakeCommon, RunsTakeOwn};
 ghost use Rattle.solo_laws.specs.Stealing.{KeepsAlike, KeepsOfBoth, RobsAlike};
 ghost use Rattle.solo_laws.specs.Tabled.{Stands};
@@ -81,6 +81,16 @@ pub fn runs_rest_alike<F, T, X>()
         → IsNumbered number s.sleepers p.lying → EachListed s.runs → RunsRest its number s p }
     ensures led { (its : ℕ → Lent) (number : Who → ℕ) (s : Solo F T X) (p : Plain T (SoloWaker X)) → IsLed its number s p
         → RunsRest its number s p }
+{}
+
+/// One that is refused a copy of its waker is as it was; where the copy for its second look is refused it lies.
+pub fn runs_are_refused_alike<F, T, X>()
+    ensures once { (its : ℕ → Lent) (number : Who → ℕ) (s : Solo F T X) (p : Plain T (SoloWaker X)) → Stands its s p
+        → IsNumbered number s.sleepers p.lying → EachListed s.runs → RunsAreRefused its number s p }
+    ensures later { (its : ℕ → Lent) (number : Who → ℕ) (s : Solo F T X) (p : Plain T (SoloWaker X)) → Stands its s p
+        → IsNumbered number s.sleepers p.lying → EachListed s.runs → RunsLieRefused its number s p }
+    ensures led { (its : ℕ → Lent) (number : Who → ℕ) (s : Solo F T X) (p : Plain T (SoloWaker X)) → IsLed its number s p
+        → RunsAreRefused its number s p × RunsLieRefused its number s p }
 {}
 
 /// Where a run has taken 200 since it last let others go first, it goes on by calling its own waker, and is pending.

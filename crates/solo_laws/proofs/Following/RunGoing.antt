@@ -16,7 +16,8 @@ use Rattle.plain_scheduler.specs.Calls.{Call}
 use Rattle.solo_laws.specs.Courses.{wakes as wakes_it}
 use Rattle.solo_laws.specs.Numbered.{IsNumbered}
 use Rattle.solo_laws.specs.Road.{HasLife, IsNamed, wakes}
-use Rattle.solo_laws.specs.RunGoing.{RunsOn, Searches, gives_way, looks_on, rests, robs_another, takes_common, takes_own}
+use Rattle.solo_laws.specs.RunGoing.{RunsOn, Searches, gives_way, is_refused, lies_refused, looks_on, rests, robs_another}
+use Rattle.solo_laws.specs.RunGoing.{takes_common, takes_own}
 use Rattle.solo_laws.specs.RunResting.{EachListed}
 use Rattle.solo_laws.specs.RunTaking.{woken_by}
 use Rattle.solo_laws.specs.Shown.{rings}
@@ -25,6 +26,7 @@ use Rattle.solo_laws.proofs.Following.Both.{wakes_alike}
 use Rattle.solo_laws.proofs.Following.Counted.{runs_both, runs_give_way, runs_is, taken_none}
 use Rattle.solo_laws.proofs.Following.Keeping.{makes_numbered}
 use Rattle.solo_laws.proofs.Following.RunPolling.{same_hands}
+use Rattle.solo_laws.proofs.Following.RunRefusing.{runs_lie_refused, runs_refused}
 use Rattle.solo_laws.proofs.Following.RunResting.{runs_rest}
 use Rattle.solo_laws.proofs.Following.RunSearching.{runs_take_common}
 use Rattle.solo_laws.proofs.Following.RunTaking.{runs_take_own}
@@ -64,6 +66,14 @@ module _ {F T X : Type 0} (its : ℕ → Lent) where
     searches_alike going shown now z (rests first second missed turn granted room names more life) =
         let it =
         runs_rest its number s polled polled_both n all c r w p.inside first second refl going missed turn granted room names more life in
+        ((it.stands, it.seen), it.numbered)
+    searches_alike going shown now z (is_refused start missed turn refused) =
+        let it = runs_refused its number s polled polled_both n all c r w p.inside start refl going missed turn refused in
+        ((it.stands, it.seen), it.numbered)
+    searches_alike going shown now z (lies_refused first second missed turn refused room names again more life) =
+        let it =
+        (runs_lie_refused its number s polled polled_both n all c r w p.inside first second refl going missed turn refused room names again
+        more life).refused in
         ((it.stands, it.seen), it.numbered)
 
     -- whoever sleeps has its number still

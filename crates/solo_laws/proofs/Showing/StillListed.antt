@@ -26,7 +26,7 @@ use Rattle.solo_laws.specs.Courses.{run_looks, run_loses, run_polled}
 use Rattle.solo_laws.specs.Numbered.{IsNumbered, ticker_of}
 use Rattle.solo_laws.specs.Road.{due_task, is_in, wakes as wakes_of}
 use Rattle.solo_laws.specs.RunGoing.{Dropping, IsEnding, Losing, Polling, RunsOn, Searches, Stage, code_at, drop_ends, gives_way, in_try}
-use Rattle.solo_laws.specs.RunGoing.{loss_ends, looks_on, poll_ends, rests, robs_another, takes_common, takes_own}
+use Rattle.solo_laws.specs.RunGoing.{is_refused, lies_refused, loss_ends, looks_on, poll_ends, rests, robs_another, takes_common, takes_own}
 use Rattle.solo_laws.specs.RunResting.{sleep_answer, slept_from}
 use Rattle.solo_laws.specs.Tabled.{Stands, goes_on, named, own_of}
 use Rattle.solo_laws.specs.Ticking.{looks_again, slept_once}
@@ -80,11 +80,14 @@ module _ {F T X : Type 0} (its : ℕ → Lent) where
         searched_of (Listed among) r (popped_listed among) (pushed_listed among r is) runner refl (ticker_of number (ARun r) p.lying) start s
         l
 
+    seeks : (start : ℕ) (z : Solo F T X) → Of z → Of (steals.sought r start z)
+    seeks start z z_of = sought_of (Listed among) r (popped_listed among) (pushed_listed among r is) start z z_of
+
     slept_of : (start : ℕ) (ticker : Ticker) (z : Solo F T X) → Of z → Of (slept_from r start ticker w z)
     slept_of start ticker z z_of =
         let y = steals.sought r start z in
         subst (Listed among) (sym (slept_same ticker w (copies w y) ∙ copies_same w y))
-        (sought_of (Listed among) r (popped_listed among) (pushed_listed among r is) start z z_of)
+        (seeks start z z_of)
 
     pub searches_listed : (shown : List (Event T (SoloWaker X))) (now : Who → ℕ) (z : Solo F T X)
         → Searches its number c runner w s p shown now z → Of z
@@ -97,6 +100,10 @@ module _ {F T X : Type 0} (its : ℕ → Lent) where
         let y = slept_from r first ticker w s in
         chosen Of (looks_again out.look) (slept_from r second out.ticker w y) y
         (slept_of second out.ticker y (slept_of first ticker s l)) (slept_of first ticker s l)
+    searches_listed shown now z (is_refused start missed turn refused) = seeks start s l
+    searches_listed shown now z (lies_refused first second missed turn refused room names again more life) =
+        let ticker = ticker_of number (ARun r) p.lying in
+        seeks second (slept_from r first ticker w s) (slept_of first ticker s l)
 
     pub runs_on_listed : (shown : List (Event T (SoloWaker X))) (now : Who → ℕ) (z : Solo F T X)
         → RunsOn its number c runner w s p shown now z → Of z

@@ -23,6 +23,7 @@ pub mod Running
 pub mod Stealing
 pub mod RunTaking
 pub mod Walking
+pub mod Busy
 pub mod RunGoing
 pub mod RunResting
 pub mod Led

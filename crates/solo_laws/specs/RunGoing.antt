@@ -25,7 +25,7 @@ use Rattle.solo_laws.specs.RunResting.{run_rest_answer, run_rested, sleep_answer
 use Rattle.solo_laws.specs.RunTaking.{searched_further, wake_shows, woken_by}
 use Rattle.solo_laws.specs.Shown.{rings}
 use Rattle.solo_laws.specs.Stealing.{share_of, so_many, stolen_marks}
-use Rattle.solo_laws.specs.Tabled.{goes_on, named}
+use Rattle.solo_laws.specs.Tabled.{named}
 use Rattle.solo_laws.specs.Ticking.{looks_again, number_after, tick_shows}
 use Rattle.solo_laws.specs.Walking.{robbed, robs_more, searched_none}
 
@@ -114,7 +114,7 @@ module _ {F T X : Type 0} (its : ℕ → Lent) (number : Who → ℕ) (c : Choic
   -- it looks for another, or lets others go first after 200
   pub data RunsOn : List (Event T (SoloWaker X)) → (Who → ℕ) → Solo F T X → Type 0 where
     looks_on : (shown : List (Event T (SoloWaker X))) (now : Who → ℕ) (z : Solo F T X) → nat_lt (taken_by runner.number p) 200 ≡ true
-        → goes_on runner.number p ≡ true → Searches shown now z → RunsOn shown now z
+        → Searches shown now z → RunsOn shown now z
     gives_way : nat_lt (taken_by runner.number p) 200 ≡ false
         → ((t : Task) → w ≡ OfTask t → IsNamed (named its) (length p.futures) t) → HasLife 2 s.lines
         → RunsOn (wake_shows w s ++ Answers Pending ∷ []) number (woken_by w s)

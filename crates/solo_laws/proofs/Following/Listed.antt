@@ -1,7 +1,8 @@
--- Others look at each own queue in which there is a task, and at that of each run that is polled; so they do once a run is made, polled or
--- gone, and once an own queue has changed.
+-- Others look at each own queue in which there is a task, and at that of each run that is polled, and each run that is polled or goes has
+-- its own queue still; so it is once a run is made, polled or gone, and once an own queue has changed.
 use Rattle.std.proofs.Common.{◌≡◌, ℕ, zero, suc, ◌+◌, ◌-◌, ◌<◌, ◌≤◌, ◌==◌, nat_lt, cond, not, Bool, true, false, List, [], ◌∷◌}
-use Rattle.std.proofs.Common.{length, drop, remove, Option, Some, None, slice_get, slice_set, slice_index_or, refl, sym, ap, subst, ◌∙◌}
+use Rattle.std.proofs.Common.{length, drop, remove, Option, Some, None, is_some, slice_get, slice_set, slice_index_or, refl, sym, ap, subst}
+use Rattle.std.proofs.Common.{◌∙◌}
 use Rattle.std.proofs.Common.{arith}
 use Rattle.std.specs.List.{swap}
 use Rattle.std.proofs.lemmas.Bool.Decides.{nat_tests}
@@ -17,9 +18,10 @@ use Rattle.solo_laws.specs.RunResting.{EachListed}
 use Rattle.solo_laws.proofs.Following.Adding.{get_last}
 use Rattle.solo_laws.proofs.Following.Cells.{same_number}
 use Rattle.solo_laws.proofs.Following.Due.{both_true, clash, not_true}
-use Rattle.solo_laws.proofs.Following.Listing.{in_of, listed_made, there}
+use Rattle.solo_laws.proofs.Following.Listing.{in_of, listed_made, listed_queue, there}
 use Rattle.solo_laws.proofs.Following.Lists.{got_below, set_other, set_same}
-use Rattle.solo_laws.proofs.Following.Owns.{changed_list, changed_now, closed_made, numbers}
+use Rattle.solo_laws.proofs.Following.Owns.{changed_list, changed_now, changed_queue, closed_made, closed_other, last_queue, mapped}
+use Rattle.solo_laws.proofs.Following.Owns.{numbers}
 
 less : (a b : ℕ) → nat_lt a b ≡ true → a < b
 less a b is = grind (arith, nat_tests)
@@ -79,31 +81,42 @@ its_place r m (d ∷ qs) is =
     let it = position-Some (λ (q : Own). q.number == r) (d ∷ qs) m d is in
     (slice_index_or (d ∷ qs) m d, there (d ∷ qs) m d it.0, same_number (slice_index_or (d ∷ qs) m d).number r it.1)
 
-module _ (polled : ℕ → Bool) where
-  abbrev Fine : Own → Type 0
-  Fine q = (q.queue ≡ []) × (polled q.number ≡ false)
+-- a run has its own queue
+abbrev pub has_own : ℕ → own.OwnQueuesValue → Bool
+has_own r o = is_some (own.queue_of r o.queues)
 
-  -- one at which nobody looks is empty, and its run isn't polled; and each run that is polled was made
+-- an own queue is empty, and its run isn't polled
+abbrev Fine : (ℕ → Bool) → Own → Type 0
+Fine polled q = (q.queue ≡ []) × (polled q.number ≡ false)
+
+module _ (polled busy : ℕ → Bool) where
+  -- one at which nobody looks is empty, and its run isn't polled; each run that is polled was made, and each that a call is on has its
+  -- own
   pub record Listed (o : own.OwnQueuesValue) : Type 0 where
-    pub late : (at : ℕ) (q : Own) → slice_get o.queues at ≡ Some q → nat_lt at o.listed ≡ false → Fine q
+    pub late : (at : ℕ) (q : Own) → slice_get o.queues at ≡ Some q → nat_lt at o.listed ≡ false → Fine polled q
     pub made : (r : ℕ) → polled r ≡ true → r < o.made
+    pub held : (r : ℕ) → busy r ≡ true → has_own r o ≡ true
 
   pub each_listed : (o : own.OwnQueuesValue) → Listed o → EachListed o
   each_listed o l = λ at q here late. (l.late at q here late).0
 
+  abbrev Still : List Task → Own → Type 0
+  Still tasks q = Fine polled (record q { queue = tasks })
+
   -- an own queue is changed, and stays empty if nobody looks at it
-  module _ (f : List Task → List Task) (r : ℕ) (still : (q : Own) → q.number ≡ r → Fine q → Fine (record q { queue = f q.queue })) where
-    changed_fine : (qs : List Own) (at : ℕ) (q : Own) → ((old : Own) → slice_get qs at ≡ Some old → Fine old)
-        → slice_get (changed_list f r qs) at ≡ Some q → Fine q
+  module _ (f : List Task → List Task) (r : ℕ) (still : (q : Own) → q.number ≡ r → Fine polled q → Still (f q.queue) q) where
+    changed_fine : (qs : List Own) (at : ℕ) (q : Own) → ((old : Own) → slice_get qs at ≡ Some old → Fine polled old)
+        → slice_get (changed_list f r qs) at ≡ Some q → Fine polled q
     changed_fine [] at q all is = all q is
     changed_fine (x ∷ qs) at q all is =
         by (x.number == r) refl at all (λ at all is. changed_fine qs at q all is) is
       where
-        by : (b : Bool) → (x.number == r) ≡ b → (at : ℕ) → ((old : Own) → slice_get (x ∷ qs) at ≡ Some old → Fine old)
-            → ((at : ℕ) → ((old : Own) → slice_get qs at ≡ Some old → Fine old) → slice_get (changed_list f r qs) at ≡ Some q → Fine q)
-            → slice_get (cond b (record x { queue = f x.queue } ∷ qs) (x ∷ changed_list f r qs)) at ≡ Some q → Fine q
+        by : (b : Bool) → (x.number == r) ≡ b → (at : ℕ) → ((old : Own) → slice_get (x ∷ qs) at ≡ Some old → Fine polled old)
+            → ((at : ℕ) → ((old : Own) → slice_get qs at ≡ Some old → Fine polled old) → slice_get (changed_list f r qs) at ≡ Some q
+            → Fine polled q)
+            → slice_get (cond b (record x { queue = f x.queue } ∷ qs) (x ∷ changed_list f r qs)) at ≡ Some q → Fine polled q
         by true one zero all rest is =
-            subst (λ q. Fine q) (ap (λ (o : Option Own). or o (λ q. q) x) is) (still x (same_number x.number r one) (all x refl))
+            subst (Fine polled) (ap (λ (o : Option Own). or o (λ q. q) x) is) (still x (same_number x.number r one) (all x refl))
         by true one (suc at) all rest is = all q is
         by false other zero all rest is = all q is
         by false other (suc at) all rest is = rest at (λ old here. all old here) is
@@ -114,7 +127,16 @@ module _ (polled : ℕ → Bool) where
         (record {
           late = λ at q here late. changed_fine o.queues at q (λ old was. l.late at old was late) here;
           made = l.made;
+          held = λ j is. ap (λ o. has_own j o) (sym (changed_now f r o)) ∙ changed_held j is;
         })
+      where
+        changed_held : (j : ℕ) → busy j ≡ true → has_own j (own.changed f r o) ≡ true
+        changed_held j is = ap is_some (changed_queue f r j o) ∙ by (j == r) (own.queue_of j o.queues) (l.held j is)
+          where
+            by : (b : Bool) (q : Option (List Task)) → is_some q ≡ true → is_some (cond b (mapped f q) q) ≡ true
+            by true None has = absurd cc
+            by true (Some ts) has = refl
+            by false q has = has
 
   pub popped_listed : (k : ℕ) (o : own.OwnQueuesValue) → Listed o → Listed (own.changed (drop 1) k o)
   popped_listed k o l = changed_listed (λ ts. drop 1 ts) k (λ q one fine. (ap (λ ts. drop 1 ts) fine.0, fine.1)) o l
@@ -126,8 +148,18 @@ module _ (polled : ℕ → Bool) where
   -- one that comes is empty
   pub opened_listed : (o : own.OwnQueuesValue) → own.one_more o.made ≡ o.made + 1 → Listed o → Listed (own.opened o)
   opened_listed o more l =
-      record { late = λ at q here late. by at q late (at == length o.queues) (sym (get_last o.queues new at) ∙ here); made = later }
+      record {
+        late = λ at q here late. by at q late (at == length o.queues) (sym (get_last o.queues new at) ∙ here);
+        made = later;
+        held = λ r is.
+            ap is_some (last_queue r new o.queues)
+            ∙ still (own.queue_of r o.queues) (cond (o.made == r) (Some []) None) (l.held r is);
+      }
     where
+      still : (q other : Option (List Task)) → is_some q ≡ true → is_some (or q (λ ts. Some ts) other) ≡ true
+      still None other has = absurd cc
+      still (Some ts) other has = refl
+
       new : Own
       new = record { number = o.made; queue = [] }
 
@@ -135,23 +167,20 @@ module _ (polled : ℕ → Bool) where
       fresh true is = let below = l.made o.made is in absurd (omega (arith, below))
       fresh false is = is
 
-      by : (at : ℕ) (q : Own) → nat_lt at o.listed ≡ false → (b : Bool) → cond b (Some new) (slice_get o.queues at) ≡ Some q → Fine q
-      by at q late true is = subst (λ q. Fine q) (ap (λ (o : Option Own). or o (λ q. q) new) is) (refl, fresh (polled o.made) refl)
+      by : (at : ℕ) (q : Own) → nat_lt at o.listed ≡ false → (b : Bool) → cond b (Some new) (slice_get o.queues at) ≡ Some q → Fine polled q
+      by at q late true is = subst (Fine polled) (ap (λ (o : Option Own). or o (λ q. q) new) is) (refl, fresh (polled o.made) refl)
       by at q late false is = l.late at q is late
 
       later : (r : ℕ) → polled r ≡ true → r < own.one_more o.made
       later r is = let below = l.made r is in omega (arith, below, more)
 
   -- one goes
-  pub closed_listed : (r : ℕ) (o : own.OwnQueuesValue) → Listed o → Listed (own.closed r o)
-  closed_listed r o l =
-      record {
-        late = by (own.place_of r o.queues);
-        made = λ k is. subst (λ n. k < n) (sym (closed_made r o)) (l.made k is);
-      }
+  closed_late : (r : ℕ) (o : own.OwnQueuesValue) → Listed o → (at : ℕ) (q : Own) → slice_get (own.closed r o).queues at ≡ Some q
+      → nat_lt at (own.closed r o).listed ≡ false → Fine polled q
+  closed_late r o l = by (own.place_of r o.queues)
     where
       by : (m : Option ℕ) (at : ℕ) (q : Own) → slice_get (own.closed_at m o).queues at ≡ Some q
-          → nat_lt at (own.closed_at m o).listed ≡ false → Fine q
+          → nat_lt at (own.closed_at m o).listed ≡ false → Fine polled q
       by None at q here late = l.late at q here late
       by (Some m) at q here late =
           let it = removed_from o.queues m at q here in
@@ -167,18 +196,37 @@ module _ (polled : ℕ → Bool) where
           one false stays late k far further =
               let behind = past at o.listed late in not_less k o.listed (omega (arith, behind, far))
 
--- fewer are polled
-pub fewer_listed : (polled now : ℕ → Bool) (o : own.OwnQueuesValue) → ((r : ℕ) → now r ≡ true → polled r ≡ true) → Listed polled o
-    → Listed now o
-fewer_listed polled now o less l = record {
+-- on which no call is from then on
+pub closed_listed : (polled busy then : ℕ → Bool) (r : ℕ) (o : own.OwnQueuesValue)
+    → ((k : ℕ) → then k ≡ true → (busy k ≡ true) × ((k == r) ≡ false)) → Listed polled busy o → Listed polled then (own.closed r o)
+closed_listed polled busy then r o others l = record {
+  late = closed_late polled busy r o l;
+  made = λ k is. subst (λ n. k < n) (sym (closed_made r o)) (l.made k is);
+  held = λ k is. ap is_some (closed_other r k o (others k is).1) ∙ l.held k (others k is).0;
+}
+
+-- calls are on fewer
+pub fewer_listed : (polled now busy then : ℕ → Bool) (o : own.OwnQueuesValue) → ((r : ℕ) → now r ≡ true → polled r ≡ true)
+    → ((r : ℕ) → then r ≡ true → busy r ≡ true) → Listed polled busy o → Listed now then o
+fewer_listed polled now busy then o less fewer l = record {
   late = λ at q here late.
       let it = l.late at q here late in (it.0, off (now q.number) (polled q.number) (less q.number) it.1);
   made = λ r is. l.made r (less r is);
+  held = λ r is. l.held r (fewer r is);
 }
 
+-- one more goes
+pub going_listed : (polled busy : ℕ → Bool) (r : ℕ) (o : own.OwnQueuesValue) → has_own r o ≡ true → Listed polled busy o
+    → Listed polled (λ k. cond (k == r) true (busy k)) o
+going_listed polled busy r o has l = record { late = l.late; made = l.made; held = λ k is. by k (k == r) refl is }
+  where
+    by : (k : ℕ) (b : Bool) → (k == r) ≡ b → cond b true (busy k) ≡ true → has_own k o ≡ true
+    by k true one is = subst (λ n. has_own n o ≡ true) (sym (same_number k r one)) has
+    by k false other is = l.held k is
+
 -- others look at that of one that is polled from now on
-module _ (polled : ℕ → Bool) (r : ℕ) (o : own.OwnQueuesValue) (apart_so : apart (numbers o.queues) ≡ true) (below : r < o.made)
-    (l : Listed polled o) where
+module _ (polled busy : ℕ → Bool) (r : ℕ) (o : own.OwnQueuesValue) (apart_so : apart (numbers o.queues) ≡ true) (below : r < o.made)
+    (l : Listed polled busy o) where
   abbrev more : ℕ → Bool
   more k = cond (k == r) true (polled k)
 
@@ -254,9 +302,13 @@ module _ (polled : ℕ → Bool) (r : ℕ) (o : own.OwnQueuesValue) (apart_so : 
         elsewhere at q here late (λ same. clash late (subst (λ n. nat_lt n o.listed ≡ true) (sym same) early))
     listed_fine false late at q here behind = swapped_fine late at q here behind
 
-  pub listed_listed : (ts : List Task) → own.queue_of r o.queues ≡ Some ts → Listed more (own.listed r o)
+  pub listed_listed : (ts : List Task) → own.queue_of r o.queues ≡ Some ts → Listed more (λ k. cond (k == r) true (busy k)) (own.listed r o)
   listed_listed ts has =
-      record { late = by (own.place_of r o.queues) refl has; made = made_so (own.listed r o).made (listed_made r o apart_so) }
+      record {
+        late = by (own.place_of r o.queues) refl has;
+        made = made_so (own.listed r o).made (listed_made r o apart_so);
+        held = λ k is. ap is_some (listed_queue r o apart_so k) ∙ (going_listed polled busy r o (ap is_some has) l).held k is;
+      }
     where
       by : (m : Option ℕ) → own.place_of r o.queues ≡ m → own.queue_at m o.queues ≡ Some ts → (at : ℕ) (q : Own)
           → slice_get (own.listed_at m o).queues at ≡ Some q → nat_lt at (own.listed_at m o).listed ≡ false → Fine more q

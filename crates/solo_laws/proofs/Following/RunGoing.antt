@@ -111,13 +111,13 @@ module _ {F T X : Type 0} (its : ℕ → Lent) where
             (rings (solo.wake_answer (named its t.number) s).sleeper ++ Answers Done ∷ []) (solo.woken (named its t.number) s)
             (wakes_it t.number it.0 life) n many (wakes_alike its s u u_both c t.number it.0 many life)))
 
-    pub runs_on_alike : (shown : List (Event T (SoloWaker X))) (now : Who → ℕ) (z : Solo F T X)
+    pub runs_on_alike : goes_on r p ≡ true → (shown : List (Event T (SoloWaker X))) (now : Who → ℕ) (z : Solo F T X)
         → RunsOn its number c runner w s p shown now z → Reached p shown now z (takes.next wakes c (Run r w) p)
-    runs_on_alike shown now z (looks_on shown' now' z' less going how) =
+    runs_on_alike going shown now z (looks_on shown' now' z' less how) =
         subst
         (λ b. Reached p shown' now' z' (if b then takes.take wakes c (Run r w) p else takes.gives_way wakes c r w p)) (sym less)
         (searches_alike going shown' now' z' how)
-    runs_on_alike shown now z (gives_way enough names life) = (
+    runs_on_alike going shown now z (gives_way enough names life) = (
       runs_give_way its s p both c r w enough names many life,
       subst
           (λ b. IsNumbered number (woken_by w s).sleepers

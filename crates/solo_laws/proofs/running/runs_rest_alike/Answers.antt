@@ -1,5 +1,5 @@
 use Rattle.solo_laws.proofs.Following.Listed.{each_listed}
-use Rattle.solo_laws.proofs.Following.Polled.{polled}
+use Rattle.solo_laws.proofs.Following.Polled.{busy, polled}
 use Rattle.solo_laws.proofs.Following.RunResting.{runs_rest}
 use Rattle.solo_laws.proofs.Showing.Courses.{led_known}
 use Rattle.solo_laws.proofs.running.runs_rest_alike.Goals as goal
@@ -10,4 +10,4 @@ returns-clause-listed g c its number s p both n listed = runs_rest its number s 
 pub returns-clause-led : goal.returns-clause-led
 returns-clause-led g c its number s p led =
     let known = led_known its number s p led in
-    runs_rest its number s p known.stands known.numbered (each_listed (polled p) s.runs known.listed)
+    runs_rest its number s p known.stands known.numbered (each_listed (polled p) (busy p) s.runs known.listed)

@@ -87,6 +87,7 @@ pub mod RunResting
 pub mod RunRefusing
 pub mod Listed
 pub mod OwnKept
+pub mod Counting
 pub mod CodesKept
 pub mod Polled
 pub mod RunGoing

@@ -25,6 +25,7 @@ pub mod RunTaking
 pub mod Walking
 pub mod Busy
 pub mod RunGoing
+pub mod RunCounting
 pub mod RunResting
 pub mod Led
 pub mod Going

@@ -3,10 +3,11 @@ ghost use Rattle.std.specs.Prelude.{ℕ};
 ghost use Rattle.solo.specs.declared.names.SoloWaker.{SoloWaker};
 ghost use Rattle.solo.specs.declared.owed.Lent.{Lent};
 ghost use Rattle.solo.specs.declared.solo.Solo.{Solo};
-ghost use Rattle.plain_scheduler.specs.State.{Plain, Who};
+ghost use Rattle.plain_scheduler.specs.State.{Choice, Plain, Who};
 ghost use Rattle.solo_laws.specs.Led.{IsLed};
 ghost use Rattle.solo_laws.specs.Numbered.{IsNumbered};
 ghost use Rattle.solo_laws.specs.Running.{OversAreDropped, OversArePolled, OwnsAreReady, RunsAreDropped, RunsArePolled, RunsLeave};
+ghost use Rattle.solo_laws.specs.RunCounting.{RunsCount, RunsCountAnew};
 ghost use Rattle.solo_laws.specs.RunResting.{EachListed, RunsAreRefused, RunsLieRefused, RunsRest};
 ghost use Rattle.solo_laws.specs.RunTaking.{RunsGiveWay, RunsTakeCommon, RunsTakeOwn};
 ghost use Rattle.solo_laws.specs.Stealing.{KeepsAlike, KeepsOfBoth, RobsAlike};
@@ -96,4 +97,11 @@ pub fn runs_are_refused_alike<F, T, X>()
 /// Where a run has taken 200 since it last let others go first, it goes on by calling its own waker, and is pending.
 pub fn runs_give_way_alike<F, T, X>()
     ensures { (its : ℕ → Lent) (s : Solo F T X) (p : Plain T (SoloWaker X)) → Stands its s p → RunsGiveWay its s p }
+{}
+
+/// Where a run has counted as many as the plain scheduler's has taken, it says with its next take that it is to let others go first just
+/// where that one then does, and both have counted as many again; once they have, both count anew.
+pub fn runs_count_alike<T, X>()
+    ensures takes { (c : Choice) (p : Plain T (SoloWaker X)) → RunsCount c p }
+    ensures anew { (c : Choice) (p : Plain T (SoloWaker X)) → RunsCountAnew c p }
 {}

@@ -1,6 +1,6 @@
 //! Texts of an executor and of errors, and what may move to other threads or be shared with them.
 use crate::parts::{Job, TestRealm, Work};
-use crate::stage::{MOST_TURNS, Planned, Seat, Stage, TestKind};
+use crate::stage::{MOST_TURNS, Planned, Stage, TestKind};
 use async_executor::{NoMemory, RunError, SpawnError};
 use std::alloc::Global;
 use std::fmt::Debug;
@@ -124,22 +124,13 @@ fn errors_are_copied_compared_and_shown(rt: HostRuntime) {
     assert!(rt; are_errors_plain(rt.alloc()));
 }
 
-fn moves<X: Send>(_value: &X) {}
-
 fn moves_and_is_shared<X: Send + Sync>(_value: &X) {}
 
-/// An executor and its handles move to other threads and are shared with them, ticks and runs move.
+/// An executor and its handles move to other threads and are shared with them.
 #[test]
-fn executors_and_handles_are_shared_and_ticks_and_runs_move(rt: HostRuntime) -> Result<(), Fail> {
+fn executors_and_handles_are_shared(rt: HostRuntime) -> Result<(), Fail> {
     let realm = TestRealm::leak(rt, rt.alloc())?;
     let stage = Stage::<Job<_>, _>::new(rt, rt.alloc(), realm, false, 2);
     moves_and_is_shared(stage.owned());
-    // Each by its own type: that a `Seat` of both moves is more than a search finds.
-    if let Seat::Tick(tick) = &stage.tick() {
-        moves(tick);
-    }
-    if let Seat::Run(run) = &stage.run(Work::Pend, 0) {
-        moves(run);
-    }
     Ok(())
 }

@@ -39,12 +39,13 @@ use Rattle.machine_roads.proofs.Changing.{logs, sees, settles}
 use Rattle.machine_roads.proofs.Dropped.{gone, gone_at, gone_task, marked, marks}
 use Rattle.machine_roads.proofs.Exchanging.{loudly}
 use Rattle.machine_roads.proofs.Lists.{get_below, length_set, set_same, set_twice}
+use Rattle.machine_roads.proofs.Passing.{Passes, passes_end, telling}
 use Rattle.machine_roads.proofs.Pending.{pends_as}
-use Rattle.machine_roads.proofs.Polling.{lets_go_so}
+use Rattle.machine_roads.proofs.Polling.{let_go_fits, lets_go_so}
 use Rattle.machine_roads.proofs.Puts.{put_at, put_by, put_is, put_lying, task_put, with_task}
 use Rattle.machine_roads.proofs.Running.{end_of, pending_is}
 use Rattle.machine_roads.proofs.Stepping.{Way, next}
-use Rattle.machine_roads.proofs.Trying.{final_inside, finally_so, stops_at}
+use Rattle.machine_roads.proofs.Trying.{final_inside, stops_at}
 use Rattle.machine_roads.proofs.Unseen.{places_so, stands_in}
 
 unheld_last : (b h : Bool) → (b && not h) ≡ true → h ≡ false
@@ -217,8 +218,16 @@ module _ (f : ℕ) (q : Plain Output Waker) (x : Future Output Waker) (there : s
       ∙ (put_is f n (gone_at f x q) (gone x) (set_same q.futures f (gone x) x there)
       ∙ ap (λ fs. record q { futures = fs }) (set_twice q.futures f (gone x) (with_task n (gone x))))))))
 
+-- nor to the code in which calls stand
+marked_inside : (f : ℕ) (q : Plain Output Waker) → (marked f q).inside ≡ q.inside
+marked_inside f q = by (slice_get q.futures f)
+  where
+    by : (o : Option (Future Output Waker)) → (on o (λ x p. gone_at f x p) q).inside ≡ q.inside
+    by None = refl
+    by (Some x) = refl
+
 module _ (taker : Taker Waker) (final : Op) (p f : ℕ) (below : List Op) (w : World) (q : Plain Output Waker) (c : Choice)
-    (it : Finally taker final) (under : is_resting below ≡ true) (is : IsForgotten w f q) (many : length q.lying ≤ c.tells)
+    (is : IsForgotten w f q) (many : length q.lying ≤ c.tells)
     (end : Done) (rests : is_resting end.next ≡ true) where
   abbrev more : Plain Output Waker → Plain Output Waker
   more = tell wakes c
@@ -247,32 +256,37 @@ module _ (taker : Taker Waker) (final : Op) (p f : ℕ) (below : List Op) (w : W
   abbrev let_alone : Plain Output Waker
   let_alone = on (waker_in (awaiter_of w f)) (let_go wakes more) (unawaited f m)
 
-  abbrev ended_as : Plain Output Waker → Plain Output Waker
-  ended_as q = plain_takes.ended wakes c f (plain_takes.left_by wakes c Closed (task f q)) (Some taker) q
-
   abbrev its : AbstractTask Output Waker
   its = task f q
 
-  abbrev nexts : Option Waker → AbstractTask Output Waker → Plain Output Waker
-  nexts a n = plain_takes.next wakes c taker (on a (let_go wakes more) (put f n m))
+  -- whatever it chooses then
+  abbrev ended_as : Choice → Plain Output Waker → Plain Output Waker
+  ended_as d q = plain_takes.ended wakes d f (plain_takes.left_by wakes d Closed (task f q)) (Some taker) q
 
-  ends_as : w.is_static ≡ true → does wakes c Ends (record q { inside = Drop f Closed taker ∷ q.inside })
-      ≡ plain_takes.next wakes c taker let_alone
-  ends_as static =
+  abbrev nexts : Choice → Option Waker → AbstractTask Output Waker → Plain Output Waker
+  nexts d a n = plain_takes.next wakes d taker (on a (let_go wakes more) (put f n m))
+
+  abbrev ends_with : Choice → Plain Output Waker
+  ends_with d = does wakes d Ends (record q { inside = Drop f Closed taker ∷ q.inside })
+
+  ends_as : w.is_static ≡ true → (d : Choice) → ends_with (telling c.tells d)
+      ≡ plain_takes.next wakes (telling c.tells d) taker let_alone
+  ends_as static d =
       let x = its_place in
       let kind : m.is_static ≡ true =
       ap (λ (q : Plain Output Waker). q.is_static) (marked_is f q x.0 x.1)
       ∙ (sym (put_by (λ p. p.is_static) f (record its { awaiter = None }) q (λ fs. refl)) ∙ (sym is.follows.kind ∙ static)) in
-      ap (λ b. ended_as (if b then m else release wakes more f m)) kind
-      ∙ (ap (λ t. plain_takes.ended wakes c f (plain_takes.left_by wakes c Closed t) (Some taker) m) (marked_task f q x.0 x.1)
-      ∙ (ap (λ phase. plain_takes.ended wakes c f (finish_by phase its) (Some taker) m) is.finished
-      ∙ (ap (λ phase. nexts its.awaiter (record its { phase = phase; closed = true; awaiter = None })) (sym is.finished)
-      ∙ (ap (λ b. nexts its.awaiter (record its { closed = b; awaiter = None })) (sym is.closed)
-      ∙ (ap (λ a. nexts a (record its { awaiter = None })) is.awaited
-      ∙ ap (λ t. nexts (waker_in (awaiter_of w f)) (record t { awaiter = None })) (sym (marked_task f q x.0 x.1)))))))
+      let e : Choice = telling c.tells d in
+      ap (λ b. ended_as e (if b then m else release wakes more f m)) kind
+      ∙ (ap (λ t. plain_takes.ended wakes e f (plain_takes.left_by wakes e Closed t) (Some taker) m) (marked_task f q x.0 x.1)
+      ∙ (ap (λ phase. plain_takes.ended wakes e f (finish_by phase its) (Some taker) m) is.finished
+      ∙ (ap (λ phase. nexts e its.awaiter (record its { phase = phase; closed = true; awaiter = None })) (sym is.finished)
+      ∙ (ap (λ b. nexts e its.awaiter (record its { closed = b; awaiter = None })) (sym is.closed)
+      ∙ (ap (λ a. nexts e a (record its { awaiter = None })) is.awaited
+      ∙ ap (λ t. nexts e (waker_in (awaiter_of w f)) (record t { awaiter = None })) (sym (marked_task f q x.0 x.1)))))))
 
-  goes : Way p end w (op.Table (table_op.LeaveTable f) ∷ op.Handle (handle_op.LetGo f) ∷ final ∷ below)
-      → (end.next ≡ below) × Follows end.world (does wakes c Ends (record q { inside = Drop f Closed taker ∷ q.inside }))
+  pub goes : Way p end w (op.Table (table_op.LeaveTable f) ∷ op.Handle (handle_op.LetGo f) ∷ final ∷ below)
+      → Passes p taker final below q c.tells end ends_with
   goes way =
       by w.is_static refl
       (subst (λ b. Way p end (leave_by b w f).world ((leave_by b w f).next ++ os)) is.entered
@@ -281,8 +295,7 @@ module _ (taker : Taker Waker) (final : Op) (p f : ℕ) (below : List Op) (w : W
       os : List Op
       os = op.Handle (handle_op.LetGo f) ∷ final ∷ below
 
-      by : (b : Bool) → w.is_static ≡ b → Way p end w1 (entry_goes b f ++ os)
-          → (end.next ≡ below) × Follows end.world (does wakes c Ends (record q { inside = Drop f Closed taker ∷ q.inside }))
+      by : (b : Bool) → w.is_static ≡ b → Way p end w1 (entry_goes b f ++ os) → Passes p taker final below q c.tells end ends_with
       by false owned way =
           let held : token (world.task w f) < (world.task w f).references =
           (next p end rests (op.Move move.Release f) w1 os refl way).has.1 in
@@ -301,25 +314,27 @@ module _ (taker : Taker Waker) (final : Op) (p f : ℕ) (below : List Op) (w : W
           subst (λ ls. length ls ≤ c.tells)
           (sym (put_lying f (record (task f m) { awaiter = None }) m
           ∙ ap (λ (q : Plain Output Waker). q.lying) (marked_is f q x.0 x.1))) many in
-          let g =
-          lets_go_so p end rests more (λ q. length q.lying ≤ c.tells) (loudly p end rests c) (awaiter_of w f) w2 (final ∷ below)
-          (unawaited f m) follows2 fit now in
-          subst (λ z. (end.next ≡ below) × Follows end.world z) (sym (ends_as static))
-          (finally_so p below under end rests taker final it c g.world let_alone g.follows g.way)
+          let fits : Plain Output Waker → Type 0 = λ q. length q.lying ≤ c.tells in
+          record {
+            before = let_alone;
+            so =
+                lets_go_so p end rests more fits (loudly p end rests c) (awaiter_of w f) w2 (final ∷ below) (unawaited f m) follows2 fit
+                now;
+            fit = let_go_fits p end rests more fits (loudly p end rests c) (waker_in (awaiter_of w f)) (unawaited f m) fit;
+            inside =
+                goes_inside c (waker_in (awaiter_of w f)) (unawaited f m)
+                ∙ (put_by (λ p. p.inside) f (record (task f m) { awaiter = None }) m (λ fs. refl) ∙ marked_inside f q);
+            is = ends_as static;
+          }
 
 pub forgotten_goes : ForgottenGoesAlike
 forgotten_goes taker final p f below w q c it under is many hints unit has rests =
-    goes taker final p f below w q c it under is many
-    (alone p hints (done w (op.Table (table_op.LeaveTable f) ∷ op.Handle (handle_op.LetGo f) ∷ final ∷ below))) rests
-    (record { hints = hints; has = has; is = refl })
-
--- and leaves the code in which calls stand
-marked_inside : (f : ℕ) (q : Plain Output Waker) → (marked f q).inside ≡ q.inside
-marked_inside f q = by (slice_get q.futures f)
-  where
-    by : (o : Option (Future Output Waker)) → (on o (λ x p. gone_at f x p) q).inside ≡ q.inside
-    by None = refl
-    by (Some x) = refl
+    let end =
+    alone p hints (done w (op.Table (table_op.LeaveTable f) ∷ op.Handle (handle_op.LetGo f) ∷ final ∷ below)) in
+    let e =
+    passes_end p below under end rests taker final it q c (λ d. does wakes d Ends (record q { inside = Drop f Closed taker ∷ q.inside }))
+    (goes taker final p f below w q c is many end rests (record { hints = hints; has = has; is = refl })) in
+    (e.0, e.1)
 
 keeps_output : (phase : Phase) (t : AbstractTask Output Waker) → (finish_by phase t).dropped ≡ None
 keeps_output Idle t = refl

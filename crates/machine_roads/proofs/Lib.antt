@@ -25,6 +25,7 @@ pub mod PollCalls
 pub mod Standing
 pub mod Aside
 pub mod Trying
+pub mod Passing
 pub mod Unseen
 pub mod Pending
 pub mod Losing

@@ -16,6 +16,7 @@ use Rattle.executor_model.specs.declared.op.Op.TheVariants as op
 use Rattle.executor_model.specs.declared.op.TableOp.TheVariants as table_op
 use Rattle.executor_model.specs.declared.op.UserOp.TheVariants as user_op
 use Rattle.executor_model.specs.declared.op.Waker.{Waker}
+use Rattle.executor_model.specs.declared.step.Hint.{Hint}
 use Rattle.executor_model.specs.Acts.{entry_goes, leave_by, let_go_by, told_of}
 use Rattle.executor_model.specs.Acts as acts
 use Rattle.executor_model.specs.Carried.{owed_ops}
@@ -30,11 +31,11 @@ use Rattle.plain_scheduler.specs.Calls.{does, Ends, Pends}
 use Rattle.machine_roads.specs.View.{Output, view, waker_in, wakes}
 use Rattle.machine_roads.specs.Moving.{IsMove}
 use Rattle.machine_roads.specs.Road.{Follows}
-use Rattle.machine_roads.specs.Alone.{alone, is_resting}
+use Rattle.machine_roads.specs.Alone.{alone, is_resting, HasAll}
+use Rattle.machine_roads.specs.Alike.{upon}
 use Rattle.machine_roads.specs.Forgotten.{ForgetsAlikeInTake, ForgottenGoesAlike, IsForgotten, IsLastPoll, StopsForgetting, unawaited}
-use Rattle.machine_roads.specs.Forgotten.{without_awaiter}
-use Rattle.machine_roads.specs.Stopped.{Finally}
-use Rattle.machine_roads.proofs.Aside.{becomes_inside, called_inside, goes_inside}
+use Rattle.machine_roads.specs.Forgotten.{forgotten, without_awaiter}
+use Rattle.machine_roads.proofs.Aside.{goes_inside}
 use Rattle.machine_roads.proofs.Changing.{logs, sees, settles}
 use Rattle.machine_roads.proofs.Dropped.{gone, gone_at, gone_task, marked, marks}
 use Rattle.machine_roads.proofs.Exchanging.{loudly}
@@ -44,8 +45,9 @@ use Rattle.machine_roads.proofs.Pending.{pends_as}
 use Rattle.machine_roads.proofs.Polling.{let_go_fits, lets_go_so}
 use Rattle.machine_roads.proofs.Puts.{put_at, put_by, put_is, put_lying, task_put, with_task}
 use Rattle.machine_roads.proofs.Running.{end_of, pending_is}
+use Rattle.machine_roads.proofs.RunsStay.{goes_stays, marked_stays, put_stays, stay_on}
 use Rattle.machine_roads.proofs.Stepping.{Way, next}
-use Rattle.machine_roads.proofs.Trying.{final_inside, stops_at}
+use Rattle.machine_roads.proofs.Trying.{stops_at}
 use Rattle.machine_roads.proofs.Unseen.{places_so, stands_in}
 
 unheld_last : (b h : Bool) → (b && not h) ≡ true → h ≡ false
@@ -324,44 +326,28 @@ module _ (taker : Taker Waker) (final : Op) (p f : ℕ) (below : List Op) (w : W
             inside =
                 goes_inside c (waker_in (awaiter_of w f)) (unawaited f m)
                 ∙ (put_by (λ p. p.inside) f (record (task f m) { awaiter = None }) m (λ fs. refl) ∙ marked_inside f q);
+            stay =
+                stay_on q m let_alone (marked_stays f q)
+                (stay_on m (unawaited f m) let_alone (put_stays f (record (task f m) { awaiter = None }) m)
+                (goes_stays c (waker_in (awaiter_of w f)) (unawaited f m)));
             is = ends_as static;
           }
 
+abbrev pub forgets_with : (taker : Taker Waker) (f : ℕ) → Plain Output Waker → Choice → Plain Output Waker
+forgets_with taker f q d = does wakes d Ends (record q { inside = Drop f Closed taker ∷ q.inside })
+
+pub forgotten_by : (taker : Taker Waker) (final : Op) (p f : ℕ) (below : List Op) (w : World) (q : Plain Output Waker) (c : Choice)
+    → IsForgotten w f q → length q.lying ≤ c.tells → (hints : List Hint) → HasAll p hints (upon below (forgotten final p f w))
+    → is_resting (alone p hints (upon below (forgotten final p f w))).next ≡ true
+    → Passes p taker final below q c.tells (alone p hints (upon below (forgotten final p f w))) (forgets_with taker f q)
+forgotten_by taker final p f below w q c is many hints has rests =
+    goes taker final p f below w q c is many
+    (alone p hints (done w (op.Table (table_op.LeaveTable f) ∷ op.Handle (handle_op.LetGo f) ∷ final ∷ below))) rests
+    (record { hints = hints; has = has; is = refl })
+
 pub forgotten_goes : ForgottenGoesAlike
 forgotten_goes taker final p f below w q c it under is many hints unit has rests =
-    let end =
-    alone p hints (done w (op.Table (table_op.LeaveTable f) ∷ op.Handle (handle_op.LetGo f) ∷ final ∷ below)) in
     let e =
-    passes_end p below under end rests taker final it q c (λ d. does wakes d Ends (record q { inside = Drop f Closed taker ∷ q.inside }))
-    (goes taker final p f below w q c is many end rests (record { hints = hints; has = has; is = refl })) in
+    passes_end p below under (alone p hints (upon below (forgotten final p f w))) rests taker final q it c (forgets_with taker f q)
+    (forgotten_by taker final p f below w q c is many hints has rests) in
     (e.0, e.1)
-
-keeps_output : (phase : Phase) (t : AbstractTask Output Waker) → (finish_by phase t).dropped ≡ None
-keeps_output Idle t = refl
-keeps_output Queued t = refl
-keeps_output Polling t = refl
-keeps_output PollingWoken t = refl
-keeps_output Finished t = refl
-
-module _ (taker : Taker Waker) (final : Op) (it : Finally taker final) (c : Choice) (f : ℕ) where
-  ended_inside : (l : abstract.Left Output Waker) (q : Plain Output Waker) → l.dropped ≡ None
-      → (plain_takes.ended wakes c f l (Some taker) q).inside ≡ q.inside
-  ended_inside l q none =
-      let q1 : Plain Output Waker = put f l.task q in
-      let q2 : Plain Output Waker = on l.let_go (let_go wakes (tell wakes c)) q1 in
-      ap (λ (o : Option Output). (or o (λ v. enters (Lose l.called (Some taker)) (see (Loses v) q1))
-      (plain_takes.lost wakes c l.called (Some taker) q2)).inside) none
-      ∙ (final_inside taker final it c (on l.called (called wakes (tell wakes c)) q2)
-      ∙ (called_inside c l.called q2 ∙ (goes_inside c l.let_go q1 ∙ put_by (λ p. p.inside) f l.task q (λ fs. refl))))
-
-  pub forgotten_inside : (q : Plain Output Waker)
-      → (does wakes c Ends (record q { inside = Drop f Closed taker ∷ q.inside })).inside ≡ q.inside
-  forgotten_inside q =
-      let m = marked f q in
-      let q1 : Plain Output Waker = plain_takes.given_up wakes c f m in
-      ended_inside (plain_takes.left_by wakes c Closed (task f q1)) q1 (keeps_output (task f q1).phase (task f q1))
-      ∙ (by m.is_static ∙ marked_inside f q)
-    where
-      by : (b : Bool) → (if b then marked f q else release wakes (tell wakes c) f (marked f q)).inside ≡ (marked f q).inside
-      by true = refl
-      by false = becomes_inside c f (abstract.release (task f (marked f q))) (marked f q)

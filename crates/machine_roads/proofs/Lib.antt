@@ -24,7 +24,9 @@ pub mod Calling
 pub mod PollCalls
 pub mod Standing
 pub mod Aside
+pub mod GivingWay
 pub mod Trying
+pub mod RunsStay
 pub mod Passing
 pub mod Unseen
 pub mod Pending

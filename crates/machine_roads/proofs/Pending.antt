@@ -37,6 +37,7 @@ use Rattle.machine_roads.proofs.Changing.{logs, puts, sees}
 use Rattle.machine_roads.proofs.Exchanging.{loudly}
 use Rattle.machine_roads.proofs.Moved.{Then, becoming, fits}
 use Rattle.machine_roads.proofs.Passing.{GoesBy, passed, stays_by, stood, telling}
+use Rattle.machine_roads.proofs.RunsStay.{RunsStay, becomes_stays}
 use Rattle.machine_roads.proofs.Running.{end_of, pending_is, run_alike}
 use Rattle.machine_roads.proofs.Standing.{InDrop, IsTaken, StaysSo, stopped_so}
 use Rattle.machine_roads.proofs.Stepping.{Way, next}
@@ -74,6 +75,7 @@ module _ (p : ℕ) (below : List Op) (under : is_resting below ≡ true) (end : 
         so = so;
         fit = fits p end rests (tell wakes c) (λ q. length q.lying ≤ c.tells) (loudly p end rests c) f new q many;
         inside = becomes_inside c f new q;
+        stay = becomes_stays c f new q;
         is = is;
       })
 
@@ -117,6 +119,9 @@ module _ (p : ℕ) (below : List Op) (under : is_resting below ≡ true) (end : 
                 stands_in (Drop f Closed taker ∷ q.inside) w3 (see (DropsFuture f) q)
                 (sees w2 q (places_so (slice_set w.inside f false) w q follows) (event.Dropped p f) (DropsFuture f) refl) refl;
           })))
+          (λ d. subst (λ e. RunsStay q (plain_calls.pending_by wakes (telling c.tells d) e f taker q))
+          (sym (ap abstract.pending_end (follows.tasks f is.known) ∙ ending))
+          (record { runs = refl; kept = λ k. refl }))
       by false true z open_still woken last_one reached ending way =
           let os = final ∷ below in
           let s = world.task w f in
@@ -188,12 +193,12 @@ pends_by p below w q under follows taker final f is c many hints has rests =
     (record { known = is.known; polled = is.polled; entered = is.entered; reached = is.reached }) s.way
 
 pub pends_so : (p : ℕ) (below : List Op) (w : World) (q : Plain Output Waker) → is_resting below ≡ true → Follows w q
-    → (taker : Taker Waker) (final : Op) → Finally taker final → (f : ℕ) → IsInPoll w f → (c : Choice) → length q.lying ≤ c.tells
+    → (taker : Taker Waker) (final : Op) → Finally q taker final → (f : ℕ) → IsInPoll w f → (c : Choice) → length q.lying ≤ c.tells
     → (hints : List Hint) → HasAll p hints (pended p f final below w) → is_resting (alone p hints (pended p f final below w)).next ≡ true
     → StaysSo taker final below q (alone p hints (pended p f final below w))
     (does wakes c Pends (record q { inside = Poll f taker ∷ q.inside }))
 pends_so p below w q under follows taker final it f is c many hints has rests =
-    stays_by p below under (alone p hints (pended p f final below w)) rests taker final it q c
+    stays_by p below under (alone p hints (pended p f final below w)) rests taker final q it c
     (λ d. does wakes d Pends (record q { inside = Poll f taker ∷ q.inside }))
     (pends_by p below w q under follows taker final f is c many hints has rests)
 

@@ -40,6 +40,7 @@ use Rattle.machine_roads.proofs.Lists.{length_set, set_twice}
 use Rattle.machine_roads.proofs.Moving.{state}
 use Rattle.machine_roads.proofs.Passing.{GoesBy, Passes, drops_by, passed, passes_end, stood, telling}
 use Rattle.machine_roads.proofs.Puts.{put_by, put_lying}
+use Rattle.machine_roads.proofs.RunsStay.{RunsStay, called_stays, given_up_stays, put_stays, stay_on}
 use Rattle.machine_roads.proofs.Stepping.{Way, next}
 use Rattle.machine_roads.proofs.Trying.{stops_at}
 use Rattle.machine_roads.proofs.Unseen.{stands_in}
@@ -349,6 +350,7 @@ module _ (p : ℕ) (below : List Op) (under : is_resting below ≡ true) (end : 
             so = ending_so p below end rests c final f w3 z aw many1 ending (subst (Way p end w3) to_do_is way);
             fit = ending_fits p below end rests c final f w3 z aw many1 ending;
             inside = called_inside c aw z ∙ z_inside;
+            stay = stay_on q z (on aw (called wakes (tell wakes c)) z) (put_stays f l.task q) (called_stays c aw z);
             is = λ d. goes_out taker (telling c.tells d) l z aw None called_so let_go_so none;
           })
       by true some way =
@@ -375,10 +377,12 @@ module _ (p : ℕ) (below : List Op) (under : is_resting below ≡ true) (end : 
           })) in
           stood (λ d. subst (Drops taker final below f q end)
           (sym (goes_out taker (telling c.tells d) l z aw (Some tt) called_so let_go_so some)) there)
+          (λ d. subst (RunsStay q) (sym (goes_out taker (telling c.tells d) l z aw (Some tt) called_so let_go_so some))
+          (record { runs = (put_stays f l.task q).runs; kept = (put_stays f l.task q).kept }))
 
 -- of another plain scheduler whose code is the same
 module _ (p : ℕ) (taker : Taker Waker) (final : Op) (below : List Op) (f n : ℕ) (end : Done) (q after : Plain Output Waker)
-    (same : after.inside ≡ q.inside) where
+    (same : after.inside ≡ q.inside) (stay : RunsStay q after) where
   moved_one : (new : Plain Output Waker) → Drops taker final below f after end new → Drops taker final below f q end new
   moved_one new (answered next inside follows) = answered next (inside ∙ same) follows
   moved_one new (loses awaiter next inside ending) =
@@ -394,10 +398,12 @@ module _ (p : ℕ) (taker : Taker Waker) (final : Op) (below : List Op) (f n : �
         so = so.so;
         fit = so.fit;
         inside = so.inside ∙ same;
+        stay = stay_on q after so.before stay so.stay;
         is = λ d. alike d ∙ so.is d;
       })
-  moved_on new old alike (stood so) =
+  moved_on new old alike (stood so stays) =
       stood (λ d. subst (Drops taker final below f q end) (sym (alike d)) (moved_one (old (telling n d)) (so d)))
+      (λ d. subst (RunsStay q) (sym (alike d)) (stay_on q after (old (telling n d)) stay (stays d)))
 
 -- the drop of the future ends
 abbrev pub drops_with : (taker : Taker Waker) (f : ℕ) (why : End Output) → Plain Output Waker → Choice → Plain Output Waker
@@ -416,7 +422,7 @@ dropped_by p below w q under follows taker final f m why at there ends c many hi
     let start : Way p end w (op.Table (table_op.LeaveTable f) ∷ os) = record { hints = hints; has = has; is = refl } in
     let left = leaves p end rests c f w q follows at m why ends os there start in
     let after = plain_takes.given_up wakes c f (marked f q) in
-    moved_on p taker final below f c.tells end q after left.inside (drops_with taker f why q)
+    moved_on p taker final below f c.tells end q after left.inside (given_up_stays c f q) (drops_with taker f why q)
     (λ d. plain_takes.ended wakes d f (plain_takes.left_by wakes c why (task f after)) (Some taker) after) (λ d. refl)
     (runs_out p below under end rests c taker final f left.now after (subst (λ ls. length ls ≤ c.tells) (sym left.lying) many)
     left.stands left.known m why left.run left.way)
@@ -424,7 +430,7 @@ dropped_by p below w q under follows taker final f m why at there ends c many hi
 pub drops : (p : ℕ) (here : Option Waker) (below : List Op) (w : World) (q : Plain Output Waker) → is_resting below ≡ true
     → Follows w q → DropsAlikeInTake p here below w q
 drops p here below w q under follows taker final it f m why at there ends c many hints has rests =
-    drops_by p below under (alone p hints (upon below (dropped m final p f w))) rests taker final it q c (drops_with taker f why q) f
+    drops_by p below under (alone p hints (upon below (dropped m final p f w))) rests taker final q it c (drops_with taker f why q) f
     (dropped_by p below w q under follows taker final f m why at there ends c many hints has rests)
 
 -- the drop of the output ends
@@ -442,12 +448,13 @@ lost_by taker final p f below w q awaiter c ending many hints has rests =
       so = ending_so p below end rests c final f w q awaiter many ending (record { hints = hints; has = has; is = refl });
       fit = ending_fits p below end rests c final f w q awaiter many ending;
       inside = called_inside c awaiter q;
+      stay = called_stays c awaiter q;
       is = λ d. refl;
     }
 
 pub loses_in_take : LosesAlikeInTake
 loses_in_take taker final p f below w q awaiter c it under ending many hints unit has rests =
     let e =
-    passes_end p below under (alone p hints (upon below (lost final p f w))) rests taker final it q c (loses_with taker awaiter q)
+    passes_end p below under (alone p hints (upon below (lost final p f w))) rests taker final q it c (loses_with taker awaiter q)
     (lost_by taker final p f below w q awaiter c ending many hints has rests) in
     (e.0, e.1)

@@ -1,6 +1,6 @@
--- The end of the drop of a future that a try or a tick took, or a run with its 200th: its entry goes from the table, the task's run ends, and who awaits the task is
--- called. An output that nobody can take is dropped before that: there the plain scheduler has given up the run's reference and who
--- awaits the task, and the machine does so once that drop has ended. Till then both stand alike but for these.
+-- The end of the drop of a future that a try or a tick took, or a run with its 200th: its entry goes from the table, the task's run
+-- ends, and who awaits the task is called. An output that nobody can take is dropped before that: there the plain scheduler has given up
+-- the run's reference and who awaits the task, and the machine does so once that drop has ended. Till then both stand alike but for these.
 use Rattle.std.specs.Prelude.{◌≡◌, ℕ, ◌-◌, ◌≤◌, ◌<◌, Bool, true, false, List, [], ◌∷◌, ◌++◌, length, Option, Some, None}
 use Rattle.task_moves.specs.declared.moves.owed.Move.{Move}
 use Rattle.task_moves.specs.declared.moves.owed.Move.TheVariants as move

@@ -88,7 +88,7 @@ module _ {B : Type 0} (ask : Plain Output Waker → B) (aside : IsAside ask) whe
   goes_keeps c None q = refl
   goes_keeps c (Some a) q = let_go_keeps c a q
 
-  up_keeps : (c : Choice) (who : Who) (q : Plain Output Waker) → ask (up wakes c who q) ≡ ask q
+  pub up_keeps : (c : Choice) (who : Who) (q : Plain Output Waker) → ask (up wakes c who q) ≡ ask q
   up_keeps c who q = by (find (lies who) q.lying)
     where
       by : (o : Option (Lying Waker))
@@ -131,7 +131,7 @@ module _ {B : Type 0} (ask : Plain Output Waker → B) (aside : IsAside ask) whe
       by None = lain
       by (Some l) = waker l.waker
 
-  rests_keeps : (c : Choice) (r : Refusal) (who : Who) (a : Waker) (q : Plain Output Waker)
+  pub rests_keeps : (c : Choice) (r : Refusal) (who : Who) (a : Waker) (q : Plain Output Waker)
       → ask (plain_takes.rests wakes c r who a q) ≡ ask q
   rests_keeps c Granted who a q =
       let z = plain_takes.lies_down wakes c who a q in

@@ -67,6 +67,8 @@ pub mod Keeping
 pub mod Stealing
 pub mod RunTaking
 pub mod RunSearching
+pub mod TakenBeside
+pub mod RunsOn
 pub mod Inside
 pub mod Open
 pub mod Course

@@ -25,7 +25,7 @@ runs_aside : IsAside (λ (q : Plain Output Waker). q.runs)
 runs_aside = record { futures = λ q fs. refl; due = λ q f. refl; lying = λ q ls. refl; seen = λ q e. refl }
 
 -- what is due without a keeper no run keeps
-kept_aside : (k : ℕ) → IsAside (λ (q : Plain Output Waker). futures_in (is_kept k) q.due)
+pub kept_aside : (k : ℕ) → IsAside (λ (q : Plain Output Waker). futures_in (is_kept k) q.due)
 kept_aside k = record {
   futures = λ q fs. refl;
   due = λ q f.

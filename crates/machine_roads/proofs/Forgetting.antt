@@ -35,6 +35,7 @@ use Rattle.machine_roads.specs.Alone.{alone, is_resting, HasAll}
 use Rattle.machine_roads.specs.Alike.{upon}
 use Rattle.machine_roads.specs.Forgotten.{ForgetsAlikeInTake, ForgottenGoesAlike, IsForgotten, IsLastPoll, StopsForgetting, unawaited}
 use Rattle.machine_roads.specs.Forgotten.{forgotten, without_awaiter}
+use Rattle.machine_roads.specs.Stopped.{pended}
 use Rattle.machine_roads.proofs.Aside.{goes_inside}
 use Rattle.machine_roads.proofs.Changing.{logs, sees, settles}
 use Rattle.machine_roads.proofs.Dropped.{gone, gone_at, gone_task, marked, marks}
@@ -45,7 +46,7 @@ use Rattle.machine_roads.proofs.Pending.{pends_as}
 use Rattle.machine_roads.proofs.Polling.{let_go_fits, lets_go_so}
 use Rattle.machine_roads.proofs.Puts.{put_at, put_by, put_is, put_lying, task_put, with_task}
 use Rattle.machine_roads.proofs.Running.{end_of, pending_is}
-use Rattle.machine_roads.proofs.RunsStay.{goes_stays, marked_stays, put_stays, stay_on}
+use Rattle.machine_roads.proofs.RunsStay.{RunsStay, goes_stays, marked_stays, put_stays, stay_on}
 use Rattle.machine_roads.proofs.Stepping.{Way, next}
 use Rattle.machine_roads.proofs.Trying.{stops_at}
 use Rattle.machine_roads.proofs.Unseen.{places_so, stands_in}
@@ -61,6 +62,12 @@ left_task t = record t { phase = Finished; closed = true }
 
 abbrev left_alone : AbstractTask Output Waker → AbstractTask Output Waker
 left_alone t = record t { phase = Finished; closed = true; awaiter = None }
+
+-- it stands in the drop of that future, and runs are as they were
+pub record Forgets (taker : Taker Waker) (final : Op) (below : List Op) (f : ℕ) (q : Plain Output Waker) (end : Done)
+    (new : Plain Output Waker) : Type 0 where
+  pub stops : StopsForgetting taker final below f q end new
+  pub stay : RunsStay q new
 
 module _ (p : ℕ) (below : List Op) (under : is_resting below ≡ true) (end : Done) (rests : is_resting end.next ≡ true)
     (taker : Taker Waker) (final : Op) (c : Choice) (f : ℕ) (w : World) (q : Plain Output Waker) (follows : Follows w q)
@@ -148,7 +155,7 @@ module _ (p : ℕ) (below : List Op) (under : is_resting below ≡ true) (end : 
       }
 
   forgets_end : Way p end w (op.Move move.EndPending f ∷ os)
-      → StopsForgetting taker final below f q end (does wakes c Pends (record q { inside = Poll f taker ∷ q.inside }))
+      → Forgets taker final below f q end (does wakes c Pends (record q { inside = Poll f taker ∷ q.inside }))
   forgets_end way =
       by s.closed s.scheduled (moves.is_last s) refl refl refl is.last (pending_is s aw is.polled)
       (next p end rests (op.Move move.EndPending f) w os refl way).way
@@ -159,7 +166,7 @@ module _ (p : ℕ) (below : List Op) (under : is_resting below ≡ true) (end : 
           (moves.end_pending_by x y z s).state)
           (owed_ops (among f (told_of (not x && (not y && z)) false move.EndPending p w f).table) f (moves.end_pending_by x y z s).owed
           ++ os)
-          → StopsForgetting taker final below f q end (does wakes c Pends (record q { inside = Poll f taker ∷ q.inside }))
+          → Forgets taker final below f q end (does wakes c Pends (record q { inside = Poll f taker ∷ q.inside }))
       by true y z closed woken last_one last ending way = absurd cc
       by false true z closed woken last_one last ending way = absurd cc
       by false false false closed woken last_one last ending way = absurd cc
@@ -176,19 +183,21 @@ module _ (p : ℕ) (below : List Op) (under : is_resting below ≡ true) (end : 
           let x = get_below q.futures f (subst (λ n. f < n) follows.many is.known) in
           let z_is : plain_takes.dropping wakes c f Closed taker (put f (left_task t) q) ≡ dropping x.0 =
           ap (λ q2. plain_takes.dropping wakes c f Closed taker q2) (put_is f (left_task t) q x.0 x.1) in
-          subst (λ e. StopsForgetting taker final below f q end (plain_calls.pending_by wakes c e f taker q))
+          subst (λ e. Forgets taker final below f q end (plain_calls.pending_by wakes c e f taker q))
           (sym (ap abstract.pending_end (follows.tasks f is.known) ∙ ending))
-          (subst (StopsForgetting taker final below f q end) (sym z_is)
-          (subst (λ (e : Done). StopsForgetting taker final below f q e (dropping x.0)) last_is
+          (subst (Forgets taker final below f q end) (sym z_is)
+          (subst (λ (e : Done). Forgets taker final below f q e (dropping x.0)) last_is
           (record {
-            left = refl;
-            inside = refl;
-            forgotten = forgotten_so open_still unwoken last_one x.0 x.1;
+            stops = record { left = refl; inside = refl; forgotten = forgotten_so open_still unwoken last_one x.0 x.1 };
+            stay = record { runs = refl; kept = λ k. refl };
           })))
 
-pub forgets_so : (p : ℕ) (here : Option Waker) (below : List Op) (w : World) (q : Plain Output Waker) → is_resting below ≡ true
-    → Follows w q → ForgetsAlikeInTake p here below w q
-forgets_so p here below w q under follows taker final f is c hints has rests =
+pub forgets_by : (p : ℕ) (below : List Op) (w : World) (q : Plain Output Waker) → is_resting below ≡ true → Follows w q
+    → (taker : Taker Waker) (final : Op) (f : ℕ) → IsLastPoll w f → (c : Choice) (hints : List Hint)
+    → HasAll p hints (pended p f final below w) → is_resting (alone p hints (pended p f final below w)).next ≡ true
+    → Forgets taker final below f q (alone p hints (pended p f final below w))
+    (does wakes c Pends (record q { inside = Poll f taker ∷ q.inside }))
+forgets_by p below w q under follows taker final f is c hints has rests =
     let w0 = log w (event.Answered p f answer.Pending) in
     let os = final ∷ below in
     let end = alone p hints (done w0 (op.Table (table_op.PutBack f) ∷ os)) in
@@ -199,6 +208,11 @@ forgets_so p here below w q under follows taker final f is c hints has rests =
     places_so (slice_set w.inside f true) w0 q (logs w q follows (event.Answered p f answer.Pending) refl) in
     forgets_end p below under end rests taker final c f w1 q follows1
     (record { known = is.known; polled = is.polled; entered = is.entered; last = is.last }) step.way
+
+pub forgets_so : (p : ℕ) (here : Option Waker) (below : List Op) (w : World) (q : Plain Output Waker) → is_resting below ≡ true
+    → Follows w q → ForgetsAlikeInTake p here below w q
+forgets_so p here below w q under follows taker final f is c hints has rests =
+    (forgets_by p below w q under follows taker final f is c hints has rests).stops
 
 -- that its future is dropped is nothing to who awaits a task
 module _ (f : ℕ) (q : Plain Output Waker) (x : Future Output Waker) (there : slice_get q.futures f ≡ Some x) where

@@ -69,6 +69,7 @@ pub mod RunTaking
 pub mod RunSearching
 pub mod TakenBeside
 pub mod RunsOn
+pub mod LoneRunsOn
 pub mod Inside
 pub mod Open
 pub mod Course

@@ -24,15 +24,16 @@ KeepsNone k q = futures_in (is_kept k) q.due ≡ []
 
 none_left : (test other : Due → Bool) (ds : List Due) → futures_in other ds ≡ [] → futures_in other (without test ds) ≡ []
 none_left test other [] none = refl
-none_left test other (d ∷ ds) none = by (test d) (other d) refl none
+none_left test other (d ∷ ds) none = by (λ none. none_left test other ds none) (test d) (other d) refl none
   where
-    by : (b o : Bool) → other d ≡ o → map (λ (d : Due). d.future) (cond o (d ∷ filter other ds) (filter other ds)) ≡ []
+    by : (futures_in other ds ≡ [] → futures_in other (without test ds) ≡ []) → (b o : Bool) → other d ≡ o
+        → map (λ (d : Due). d.future) (cond o (d ∷ filter other ds) (filter other ds)) ≡ []
         → futures_in other (if b then ds else d ∷ without test ds) ≡ []
-    by b true is none = absurd cc
-    by true false is none = none
-    by false false is none =
+    by more b true is none = absurd cc
+    by more true false is none = none
+    by more false false is none =
         ap (λ o. map (λ (d : Due). d.future) (cond o (d ∷ filter other (without test ds)) (filter other (without test ds)))) is
-        ∙ none_left test other ds none
+        ∙ more none
 
 module _ (r k : ℕ) (apart : (k == r) ≡ false) where
   keeps_none : (test : Due → Bool) (q : Plain Output Waker) → KeepsNone k q → KeepsNone k (keeps r test q)

@@ -70,6 +70,7 @@ pub mod RunSearching
 pub mod TakenBeside
 pub mod RunsOn
 pub mod LoneRunsOn
+pub mod LoneGoesOn
 pub mod Inside
 pub mod Open
 pub mod Course

@@ -37,7 +37,7 @@ use Rattle.plain_scheduler.specs.Lists.{any}
 use Rattle.plain_scheduler.specs.Moves.{is_due, task as plain_task}
 use Rattle.plain_scheduler.specs.Calls.{does, Ends, EndsWith, Pends}
 use Rattle.plain_scheduler.specs.Takes as plain_takes
-use Rattle.machine_roads.specs.Lone.{Ended, ends as ends_with, is_end, over}
+use Rattle.machine_roads.specs.Lone.{GoesOn, ended, ends as ends_with, idle, is_end, over}
 use Rattle.machine_roads.specs.Searching.{goes_on_by}
 use Rattle.machine_roads.specs.Stopped.{IsInPoll}
 use Rattle.machine_roads.proofs.LoneRuns.{InCode, Inside, IsBefore, Rests, Whole, before, goes_on_of}
@@ -77,12 +77,8 @@ module _ (p : ℕ) (new : Machine) (later : new.world.gone ≡ false) (at_last :
   abbrev pub taker : Taker Waker
   taker = Run x.run x.waker
 
-  -- the poll has ended, or it has come to where nothing is due
-  pub data Result (r : Plain Output Waker) : Type 0 where
-    ended : (z : Plain Output Waker) → Ended r z → z.inside ≡ codes → Follows new.world z → Result r
-    idle : (z b : Plain Output Waker) (e : plain_calls.Call Output Waker) → Ended r z → is_end e ≡ true → any is_due b.due ≡ false
-        → ((d : Choice) → does wakes (telling (length z.lying) d) e z ≡ plain_takes.next wakes (telling (length z.lying) d) taker b)
-        → Result r
+  abbrev pub Result : Plain Output Waker → Type 0
+  Result r = GoesOn x.run x.waker codes new.world r
 
   least : (n m : ℕ) → m ≡ n → n ≤ m
   least n m is = omega (arith, is)
@@ -115,7 +111,7 @@ module _ (p : ℕ) (new : Machine) (later : new.world.gone ≡ false) (at_last :
     Now r = Between x.run last t r
 
     -- it has taken the next one, has let others go first, or nothing is due
-    from_after : (e : plain_calls.Call Output Waker) → is_end e ≡ true → (r b : Plain Output Waker) → b.inside ≡ codes
+    pub from_after : (e : plain_calls.Call Output Waker) → is_end e ≡ true → (r b : Plain Output Waker) → b.inside ≡ codes
         → Rests p (λ d. After p x [] b (length r.lying) t d (λ d. does wakes d e r)) new → Result r
     from_after e it r b same (Whole so) = by so
       where

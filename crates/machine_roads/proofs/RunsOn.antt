@@ -1,12 +1,12 @@
 -- A run goes on behind the poll or the drop of a future that it took: it takes the next one, lets others go first, or nothing is due.
-use Rattle.std.proofs.Common.{◌≡◌, ℕ, suc, ◌≤◌, ◌==◌, nat_lt, not, Bool, true, false, List, [], ◌∷◌, Option, Some, None, slice_get}
+use Rattle.std.proofs.Common.{◌≡◌, ℕ, suc, ◌≤◌, ◌==◌, nat_lt, not, Bool, true, false, List, [], ◌∷◌, Option, Some, None, length, slice_get}
 use Rattle.std.proofs.Common.{if◌then◌else◌, refl, sym, ap, subst, ◌∙◌, arith}
 use Rattle.std.proofs.lemmas.Bool.Decides.{nat_tests}
 use Rattle.executor_parts.specs.Marks.{first_of}
 use Rattle.executor_model.specs.declared.op.Op.{Op}
 use Rattle.executor_model.specs.declared.op.RunPoll.{RunPoll}
 use Rattle.executor_model.specs.declared.op.Waker.{Waker}
-use Rattle.executor_model.specs.World.{Done}
+use Rattle.executor_model.specs.World.{Done, World}
 use Rattle.plain_scheduler.specs.State.{Choice, Granted, Plain, Run, Running, Taker}
 use Rattle.plain_scheduler.specs.Lists.{any, or}
 use Rattle.plain_scheduler.specs.Moves.{is_due, is_kept}
@@ -20,6 +20,7 @@ use Rattle.machine_roads.proofs.Lists.{clash, same_of}
 use Rattle.machine_roads.proofs.Passing.{Passes, passes_end, telling}
 use Rattle.machine_roads.proofs.RunSearching.{Found, pick, searches}
 use Rattle.machine_roads.proofs.RunsStay.{RunsStay}
+use Rattle.machine_roads.proofs.Stepping.{Way}
 use Rattle.machine_roads.proofs.Standing.{Stands, StandsSo}
 use Rattle.machine_roads.proofs.TakenBeside.{counted_more, counted_over, takes_none}
 
@@ -52,7 +53,7 @@ few_of qs r t taken few = by (slice_get qs r) taken
 all_of : (t : ℕ) → t ≤ 200 → nat_lt t 200 ≡ false → t ≡ 200
 all_of t most last = grind (arith, nat_tests)
 
-more_of : (t : ℕ) → nat_lt t 200 ≡ true → suc t ≤ 200
+pub more_of : (t : ℕ) → nat_lt t 200 ≡ true → suc t ≤ 200
 more_of t few = grind (arith, nat_tests)
 
 module _ (p : ℕ) (x : RunPoll) (below : List Op) (q : Plain Output Waker) (n t : ℕ) (end : Done) (new : Choice → Plain Output Waker) where
@@ -107,22 +108,27 @@ module _ (p : ℕ) (x : RunPoll) (below : List Op) (q : Plain Output Waker) (n t
             absurd (clash so.going (ap (λ k. or (slice_get b.runs k) (λ run. run.is_over) true) (sym (same_of k x.run here)) ∙ over))
         left_so d k false apart over = takes_none x.run k apart d x.waker b (so.left k over)
 
+    -- from a search on
+    pub goes_from : (w : World) (b : Plain Output Waker) → Follows w b → length b.lying ≤ n → Between x.run false t b → b.inside ≡ q.inside
+        → Way p end w (goes_on_by x false ∷ below)
+        → ((d : Choice) → new (telling n d) ≡ plain_takes.next wakes (telling n d) taker b) → After
+    goes_from w b follows fit now inside way is = by (any is_due b.due) refl
+      where
+        by : (some : Bool) → any is_due b.due ≡ some → After
+        by false none = idles b none is
+        by true some =
+            let first : Choice = record (telling n c) { first = first_of w.urgent_turns; refusal = Granted } in
+            takes_more b now inside first refl
+            (searches p below under end rests first x w b follows fit
+            (record { going = few_of b.runs x.run t now.taken now.early; left = now.left }) some refl way)
+            is
+
     pub goes_on : (last : Bool) → Between x.run last t q → Passes p taker (goes_on_by x last) below q n end new → After
     goes_on true so pass =
         let e =
         passes_end p below under end rests taker (goes_on_by x true) q (of_last x (so.taken ∙ all_of t so.most so.early)) (telling n c) new
         pass in
         ends c e.0 e.1 e.2
-    goes_on false so pass = by (any is_due pass.before.due) refl
-      where
-        now : Between x.run false t pass.before
-        now = between_stays x.run false t q pass.before pass.stay so
-
-        by : (b : Bool) → any is_due pass.before.due ≡ b → After
-        by false none = idles pass.before none pass.is
-        by true some =
-            let first : Choice = record (telling n c) { first = first_of pass.so.world.urgent_turns; refusal = Granted } in
-            takes_more pass.before now pass.inside first refl
-            (searches p below under end rests first x pass.so.world pass.before pass.so.follows pass.fit
-            (record { going = few_of pass.before.runs x.run t now.taken now.early; left = now.left }) some refl pass.so.way)
-            pass.is
+    goes_on false so pass =
+        goes_from pass.so.world pass.before pass.so.follows pass.fit (between_stays x.run false t q pass.before pass.stay so) pass.inside
+        pass.so.way pass.is

@@ -1,5 +1,5 @@
--- A lone poll of a run whose own future gives no output, with the ends of all the code that it comes to: it takes until it has taken 200 and
--- lets others go first, or nothing is due.
+-- A lone poll of a run whose own future gives no output, with the ends of all the code that it comes to: it takes until it has taken 200
+-- and lets others go first, or nothing is due.
 use Rattle.std.proofs.Common.{◌≡◌, ℕ, suc, ◌+◌, ◌-◌, ◌≤◌, ◌++◌, ◌||◌, nat_lt, Bool, true, false, List, [], ◌∷◌, length, slice_get, Option}
 use Rattle.std.proofs.Common.{Some, None, if◌then◌else◌, refl, sym, ap, subst, ◌∙◌, arith}
 use Rattle.std.proofs.lemmas.Bool.Decides.{nat_tests}
@@ -88,7 +88,13 @@ module _ (s : Machine) (reached : Reached s) (q : Plain Output Waker) (quiet : I
   few = few_taken q.runs r going
 
   now : Between r false t q
-  now = record { taken = refl; most = up_to t (fewer t few); early = few; going = unended; left = over_keeps_none s reached q quiet follows }
+  now = record {
+    taken = refl;
+    most = up_to t (fewer t few);
+    early = few;
+    going = unended;
+    left = over_keeps_none s reached q quiet follows;
+  }
 
   -- its own future's poll ends, as it does in the plain scheduler
   abbrev polled : Plain Output Waker
@@ -110,8 +116,8 @@ module _ (s : Machine) (reached : Reached s) (q : Plain Output Waker) (quiet : I
 
   leads : LeadsSo p (done own.world (op.Tick (tick_op.Search (asleep x)) ∷ [])) S
   leads hints all rests =
-      goes_from p x [] q (length q.lying) t (alone p hints (done own.world (op.Tick (tick_op.Search (asleep x)) ∷ []))) pends_with refl rests c
-      own.world q own.follows_in (least (length q.lying)) now refl (record { hints = hints; has = all; is = refl }) next_so
+      goes_from p x [] q (length q.lying) t (alone p hints (done own.world (op.Tick (tick_op.Search (asleep x)) ∷ []))) pends_with refl
+      rests c own.world q own.follows_in (least (length q.lying)) now refl (record { hints = hints; has = all; is = refl }) next_so
 
   rested : Rests p S new
   rested =
@@ -137,7 +143,8 @@ module _ (s : Machine) (reached : Reached s) (q : Plain Output Waker) (quiet : I
       subst (GoesOn r a q.inside new.world)
       (sym (ap (λ b. if b then answers Finished q else polled) unended))
       (from_after p new later at_last lone.ended c q.inside x t false
-      (takes_on p new later at_last lone.ended c q.inside x (199 - t) (suc t) (left_to_take t (fewer t few))) Pends refl polled q refl rested)
+      (takes_on p new later at_last lone.ended c q.inside x (199 - t) (suc t) (left_to_take t (fewer t few))) Pends refl polled q refl
+      rested)
 
 pub lone_run_goes_on : EachLoneAlike LoneRunGoesOn
 lone_run_goes_on = each LoneRunGoesOn (λ s reached q quiet follows p r c b steps pending going unended many new later lone.

@@ -314,8 +314,8 @@ module _ (p : ℕ) (new : Machine) (later : new.world.gone ≡ false) (last : Re
 
 pub tries_end_so : (s : Machine) → Reached s → (q : Plain Output Waker) → IsQuiet s.world.trace → Follows s.world q → LoneTriesEnd s q
 tries_end_so s reached q quiet follows p c steps first many new later lone =
-    from_take p new later (reached-more (Begin p call.TryTick ∷ steps) s new reached lone.made) lone.ended c q.inside Try yes (λ q. of_try) q
-    (does wakes c TryTick q) refl
+    from_take p new later (reached-more (Begin p call.TryTick ∷ steps) s new reached lone.made) lone.ended c q.inside Try yes
+    (λ q. of_try) q (does wakes c TryTick q) refl
     (lone_calls_rest s reached p call.TryTick steps new (λ e. StandsSo Try yes [] q e (does wakes c TryTick q)) quiet later
     (λ hints all rests. tries_so p [] s.world q refl follows c first many hints all rests) lone)
 

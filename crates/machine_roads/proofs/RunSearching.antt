@@ -181,7 +181,8 @@ module _ (p : ℕ) (below : List Op) (under : is_resting below ≡ true) (end : 
   -- what is taken so is what the plain scheduler takes
   ends_in : (ms : List Mark) (k n f : ℕ) (rest : List ℕ) (last : Bool) (test : Due → Bool) (q qr : Plain Output Waker) (fit : fits qr)
       (one : First test q.due f rest) → ((e : Due) → its_test k q.due e ≡ test e)
-      → plain_takes.robbed wakes (pick ms k n) r one.due_one.keeper (with_due (without test q.due) q) ≡ qr → qr.inside ≡ q.inside → qr.runs ≡ q.runs
+      → plain_takes.robbed wakes (pick ms k n) r one.due_one.keeper (with_due (without test q.due) q) ≡ qr
+      → qr.inside ≡ q.inside → qr.runs ≡ q.runs
       → Begun p below under end rests c x qr fit f last (takes_so p below under end rests c x qr fit ms)
       → Took ms k n last q
   ends_in ms k n f rest last test q qr fit one same robbed_is inside still so =

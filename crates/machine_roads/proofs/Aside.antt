@@ -39,7 +39,7 @@ module _ {B : Type 0} (ask : Plain Output Waker → B) (aside : IsAside ask) whe
       by true = keeps (appended g (put g new q)) ∙ (aside.due (put g new q) g ∙ put_keeps g new q)
       by false = put_keeps g new q
 
-  called_with : (more : Plain Output Waker → Plain Output Waker) → ((q : Plain Output Waker) → ask (more q) ≡ ask q)
+  pub called_with : (more : Plain Output Waker → Plain Output Waker) → ((q : Plain Output Waker) → ask (more q) ≡ ask q)
       → (a : Waker) (q : Plain Output Waker) → ask (called wakes more a q) ≡ ask q
   called_with more keeps a q = by (wakes a)
     where
@@ -66,7 +66,7 @@ module _ {B : Type 0} (ask : Plain Output Waker → B) (aside : IsAside ask) whe
       by true = refl
       by false = one (min c.tells (length q.lying - 1)) (slice_get q.lying (min c.tells (length q.lying - 1)))
 
-  becomes_keeps : (c : Choice) (g : ℕ) (new : AbstractTask Output Waker) (q : Plain Output Waker)
+  pub becomes_keeps : (c : Choice) (g : ℕ) (new : AbstractTask Output Waker) (q : Plain Output Waker)
       → ask (becomes wakes (tell wakes c) g new q) ≡ ask q
   becomes_keeps c g new q = becomes_with (tell wakes c) (tell_keeps c) g new q
 
@@ -84,11 +84,11 @@ module _ {B : Type 0} (ask : Plain Output Waker → B) (aside : IsAside ask) whe
       by None = refl
       by (Some g) = put_keeps g (abstract.copy (task g q)) q
 
-  goes_keeps : (c : Choice) (o : Option Waker) (q : Plain Output Waker) → ask (on o (let_go wakes (tell wakes c)) q) ≡ ask q
+  pub goes_keeps : (c : Choice) (o : Option Waker) (q : Plain Output Waker) → ask (on o (let_go wakes (tell wakes c)) q) ≡ ask q
   goes_keeps c None q = refl
   goes_keeps c (Some a) q = let_go_keeps c a q
 
-  up_keeps : (c : Choice) (who : Who) (q : Plain Output Waker) → ask (up wakes c who q) ≡ ask q
+  pub up_keeps : (c : Choice) (who : Who) (q : Plain Output Waker) → ask (up wakes c who q) ≡ ask q
   up_keeps c who q = by (find (lies who) q.lying)
     where
       by : (o : Option (Lying Waker))
@@ -131,7 +131,7 @@ module _ {B : Type 0} (ask : Plain Output Waker → B) (aside : IsAside ask) whe
       by None = lain
       by (Some l) = waker l.waker
 
-  rests_keeps : (c : Choice) (r : Refusal) (who : Who) (a : Waker) (q : Plain Output Waker)
+  pub rests_keeps : (c : Choice) (r : Refusal) (who : Who) (a : Waker) (q : Plain Output Waker)
       → ask (plain_takes.rests wakes c r who a q) ≡ ask q
   rests_keeps c Granted who a q =
       let z = plain_takes.lies_down wakes c who a q in

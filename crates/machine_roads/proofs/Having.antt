@@ -14,6 +14,7 @@ use Rattle.executor_model.specs.declared.op.ListOp.TheVariants as list_op
 use Rattle.executor_model.specs.declared.op.Op.{Op}
 use Rattle.executor_model.specs.declared.op.Op.TheVariants as op
 use Rattle.executor_model.specs.declared.op.QueueOp.TheVariants as queue_op
+use Rattle.executor_model.specs.declared.op.RunOp.TheVariants as run_op
 use Rattle.executor_model.specs.declared.op.RunPoll.{RunPoll}
 use Rattle.executor_model.specs.declared.op.SleeperOp.TheVariants as sleeper_op
 use Rattle.executor_model.specs.declared.op.Steal.{Steal}
@@ -287,6 +288,8 @@ module _ (s : Machine) (p : ℕ) (reached : Reached s) (there : p < length s.par
       (open_still, λ f rest here. (needs s p (op.Closing closing_op.LeakNext) there is good f rest here).0)
   has_here (op.Handle o) open_still is = needs s p (op.Handle o) there is good
   has_here (op.List (list_op.LockRead x)) open_still is = walks x is
+  has_here (op.Run (run_op.WakeOwn x)) open_still is =
+      known_by s.world x.waker (needs s p (op.Run (run_op.WakeOwn x)) there is good)
   has_here (op.Steal (steal_op.Take x more)) open_still is = steals x more is
   has_here o open_still is = tt
 

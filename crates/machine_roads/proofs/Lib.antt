@@ -24,7 +24,10 @@ pub mod Calling
 pub mod PollCalls
 pub mod Standing
 pub mod Aside
+pub mod GivingWay
 pub mod Trying
+pub mod RunsStay
+pub mod Passing
 pub mod Unseen
 pub mod Pending
 pub mod Losing
@@ -64,6 +67,10 @@ pub mod Keeping
 pub mod Stealing
 pub mod RunTaking
 pub mod RunSearching
+pub mod TakenBeside
+pub mod RunsOn
+pub mod LoneRunsOn
+pub mod LoneGoesOn
 pub mod Inside
 pub mod Open
 pub mod Course

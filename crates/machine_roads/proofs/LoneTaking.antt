@@ -46,7 +46,7 @@ use Rattle.machine_roads.proofs.RunSearching.{run_takes}
 use Rattle.machine_roads.proofs.Runs.{over_is}
 use Rattle.machine_roads.proofs.Tying.{LeadsSo}
 
-end_is : (e f : UserEnd) → ◌≡◌ {A = Option UserEnd} (Some e) (Some f) → e ≡ f
+pub end_is : (e f : UserEnd) → ◌≡◌ {A = Option UserEnd} (Some e) (Some f) → e ≡ f
 end_is e f is = ap (λ (o : Option UserEnd). or o (λ g. g) e) is
 
 none_of : (xs : List ℕ) → length xs ≡ 0 → xs ≡ []
@@ -55,7 +55,7 @@ none_of (x ∷ xs) is = absurd (omega (arith, is))
 
 module _ (s : Machine) (reached : Reached s) (q : Plain Output Waker) (quiet : IsQuiet s.world.trace) (follows : Follows s.world q) where
   -- no run that is over keeps anything
-  over_keeps_none : (k : ℕ) → or (slice_get q.runs k) (λ run. run.is_over) true ≡ true → futures_in (is_kept k) q.due ≡ []
+  pub over_keeps_none : (k : ℕ) → or (slice_get q.runs k) (λ run. run.is_over) true ≡ true → futures_in (is_kept k) q.due ≡ []
   over_keeps_none k over =
       sym (follows.kept k)
       ∙ none_of (own_of s.world k)

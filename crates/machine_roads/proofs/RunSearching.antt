@@ -30,7 +30,7 @@ use Rattle.executor_model.specs.ActsOfRuns.{search_common_by, search_own_by, wal
 use Rattle.executor_model.specs.Sound.{times}
 use Rattle.executor_model.specs.World.{Done, Lock, World, done, own_of, put_own, put_queue, queue_of, run_of}
 use Rattle.executor_model.proofs.WalksRound.Ahead.{Ahead, all-ahead, in-list}
-use Rattle.plain_scheduler.specs.State.{ARun, Choice, Due, Plain, Granted, Run as ByRun, Taker}
+use Rattle.plain_scheduler.specs.State.{ARun, Choice, Due, Plain, Granted, Run as ByRun, Running, Taker}
 use Rattle.plain_scheduler.specs.Lists.{any, each, on, or, repeat, without}
 use Rattle.plain_scheduler.specs.Moves.{is_common, is_due, is_kept, is_run, keeps, looks, tell, up}
 use Rattle.plain_scheduler.specs.Moves as plain
@@ -46,7 +46,7 @@ use Rattle.machine_roads.proofs.Keeping.{HasPlaces, IsAway, IsBeside, Kept, Line
 use Rattle.machine_roads.proofs.Keeping.{many_kept, repeat_is}
 use Rattle.machine_roads.proofs.Lists.{cons_is, equal, same_of, turned as turned_apart}
 use Rattle.machine_roads.proofs.RunTaking.{Begun, finds, takes_so}
-use Rattle.machine_roads.proofs.Runs.{one_more, over_is}
+use Rattle.machine_roads.proofs.Runs.{changed, one_more, over_is}
 use Rattle.machine_roads.proofs.RunsGone.{kept_uncommon, runs_apart, takes_own}
 use Rattle.machine_roads.proofs.Standing.{Stands, StandsSo, stops_so}
 use Rattle.machine_roads.proofs.Stealing.{steals}
@@ -160,6 +160,7 @@ module _ (p : ℕ) (below : List Op) (under : is_resting below ≡ true) (end : 
   pub record Took (ms : List Mark) (k n : ℕ) (last : Bool) (q : Plain Output Waker) : Type 0 where
     pub stood : StandsSo taker (goes_on_by x last) below q end (plain_takes.take wakes (pick ms k n) taker q)
     pub early : IsLast r last (plain_takes.take wakes (pick ms k n) taker q)
+    pub runs : (plain_takes.take wakes (pick ms k n) taker q).runs ≡ changed one_more r q.runs
 
   abbrev pub Found : Plain Output Waker → Type 0
   Found q = (ms : List Mark) × (k : ℕ) × (n : ℕ) × (last : Bool) × Took ms k n last q
@@ -180,10 +181,11 @@ module _ (p : ℕ) (below : List Op) (under : is_resting below ≡ true) (end : 
   -- what is taken so is what the plain scheduler takes
   ends_in : (ms : List Mark) (k n f : ℕ) (rest : List ℕ) (last : Bool) (test : Due → Bool) (q qr : Plain Output Waker) (fit : fits qr)
       (one : First test q.due f rest) → ((e : Due) → its_test k q.due e ≡ test e)
-      → plain_takes.robbed wakes (pick ms k n) r one.due_one.keeper (with_due (without test q.due) q) ≡ qr → qr.inside ≡ q.inside
+      → plain_takes.robbed wakes (pick ms k n) r one.due_one.keeper (with_due (without test q.due) q) ≡ qr
+      → qr.inside ≡ q.inside → qr.runs ≡ q.runs
       → Begun p below under end rests c x qr fit f last (takes_so p below under end rests c x qr fit ms)
       → Took ms k n last q
-  ends_in ms k n f rest last test q qr fit one same robbed_is inside so =
+  ends_in ms k n f rest last test q qr fit one same robbed_is inside still so =
       let d = pick ms k n in
       let take : Option Due → List Due → Plain Output Waker = λ o ds.
       or o (λ e. plain_takes.takes wakes d taker e (with_due ds q)) (plain_takes.nothing wakes d taker q) in
@@ -203,6 +205,7 @@ module _ (p : ℕ) (below : List Op) (under : is_resting below ≡ true) (end : 
               follows = so.stood.follows;
             });
         early = subst (IsLast r last) (sym is) so.early;
+        runs = ap (λ (q : Plain Output Waker). q.runs) is ∙ (so.runs ∙ ap (λ (rs : List Running). changed one_more r rs) still);
       }
 
   -- one of its own
@@ -221,7 +224,7 @@ module _ (p : ℕ) (below : List Op) (under : is_resting below ≡ true) (end : 
         g.1,
         ends_in g.0 0 0 f rest g.1 (is_kept r) q q0 fit t.0
             (λ e. ap (λ b. if b then is_kept r e else second 0 q.due e) t.0.some)
-            (robs_nobody t.0.due_one.keeper t.0.passes) refl g.2,
+            (robs_nobody t.0.due_one.keeper t.0.passes) refl refl g.2,
       )
     where
       robs_nobody : (o : Option ℕ) → is_run r o ≡ true
@@ -249,7 +252,7 @@ module _ (p : ℕ) (below : List Op) (under : is_resting below ≡ true) (end : 
         0,
         g.1,
         ends_in g.0 0 0 f rest g.1 (is_common m) q q0 fit t.0 (λ e. tests e t.0.some)
-            (robs_nobody t.0.due_one.keeper t.0.due_one.mark t.0.passes) refl g.2,
+            (robs_nobody t.0.due_one.keeper t.0.due_one.mark t.0.passes) refl refl g.2,
       )
     where
       robs_nobody : (o : Option ℕ) (n : Mark) → (not (is_some o) && same_mark m n) ≡ true
@@ -315,7 +318,7 @@ module _ (p : ℕ) (below : List Op) (under : is_resting below ≡ true) (end : 
         k,
         n,
         h.1,
-        ends_in h.0 k n f rest h.1 (is_kept k) q qr fit one (λ e. tests e one.some) (robs one.due_one.keeper one.passes) refl
+        ends_in h.0 k n f rest h.1 (is_kept k) q qr fit one (λ e. tests e one.some) (robs one.due_one.keeper one.passes) refl refl
             (subst
             (λ f. Begun p below under end rests c x qr fit f h.1 (takes_so p below under end rests c x qr fit h.0)) same h.2),
       )

@@ -280,6 +280,7 @@ module _ (p : ℕ) (below : List Op) (under : is_resting below ≡ true) (end : 
     pub record Begun (f : ℕ) (last : Bool) (y : Plain Output Waker) : Type 0 where
       pub stood : StandsSo taker (final last) below q0 end (plain_takes.run wakes c f taker y)
       pub early : IsLast r last (plain_takes.run wakes c f taker y)
+      pub runs : (plain_takes.run wakes c f taker y).runs ≡ changed one_more r q0.runs
 
     begins : (f : ℕ) (last : Bool) (w : World) (es : List Due) (ms : List Mark) → Follows w (with_both es (counted q0.runs) z)
         → takes_so ms ≡ with_both es (counted q0.runs) z → IsLast r last (with_both es (counted q0.runs) z)
@@ -295,6 +296,7 @@ module _ (p : ℕ) (below : List Op) (under : is_resting below ≡ true) (end : 
             follows = so.follows;
           };
           early = ap (λ (rs : List Running). nat_lt (or (slice_get rs r) (λ run. run.taken) 0) 200) (run_runs c f taker q1) ∙ early;
+          runs = run_runs c f taker q1;
         })
 
     module _ (f k : ℕ) (m : Mark) (there : k ≤ length (futures_in (is_common m) q0.due)) (few : HasPlaces r k q0.due)

@@ -23,7 +23,7 @@ one_more run = record run { taken = run.taken + 1 }
 abbrev pub changed : (Running → Running) → ℕ → List Running → List Running
 changed h r runs = or (slice_get runs r) (λ run. slice_set runs r (h run)) runs
 
-changed_rest : (h : Running → Running) (x : Running) (xs : List Running) (r : ℕ) → changed h (suc r) (x ∷ xs) ≡ x ∷ changed h r xs
+pub changed_rest : (h : Running → Running) (x : Running) (xs : List Running) (r : ℕ) → changed h (suc r) (x ∷ xs) ≡ x ∷ changed h r xs
 changed_rest h x xs r = by (slice_get xs r)
   where
     by : (o : Option Running)

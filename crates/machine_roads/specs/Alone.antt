@@ -16,6 +16,8 @@ use Rattle.executor_model.specs.declared.op.Op.{Op}
 use Rattle.executor_model.specs.declared.op.Op.TheVariants as op
 use Rattle.executor_model.specs.declared.op.QueueOp.{QueueOp}
 use Rattle.executor_model.specs.declared.op.QueueOp.TheVariants as queue_op
+use Rattle.executor_model.specs.declared.op.RunOp.{RunOp}
+use Rattle.executor_model.specs.declared.op.RunOp.TheVariants as run_op
 use Rattle.executor_model.specs.declared.op.SleeperOp.{SleeperOp}
 use Rattle.executor_model.specs.declared.op.SleeperOp.TheVariants as sleeper_op
 use Rattle.executor_model.specs.declared.op.StealOp.{StealOp}
@@ -120,6 +122,11 @@ ClosingHas w closing_op.LeakOut = w.gone ≡ false
 ClosingHas w closing_op.LeakNext = (w.gone ≡ false) × ((f : ℕ) (rest : List ℕ) → w.waking ≡ f ∷ rest → IsKnown w f)
 ClosingHas w _ = Unit {0}
 
+-- whom a run's own waker wakes is there
+abbrev pub RunHas : World → RunOp → Type 0
+RunHas w (run_op.WakeOwn x) = IsKnownWaker w x.waker
+RunHas w _ = Unit {0}
+
 -- who walks has an own queue, and what a run keeps that isn't over stands in the list
 abbrev pub ListHas : World → ListOp → Type 0
 ListHas w (list_op.LockRead x) =
@@ -141,6 +148,7 @@ Has w (op.Sleeper o) = SleeperHas w o
 Has w (op.Handle o) = HandleHas w o
 Has w (op.Tick o) = TickHas w o
 Has w (op.List o) = ListHas w o
+Has w (op.Run o) = RunHas w o
 Has w (op.Steal o) = StealHas w o
 Has w (op.Closing o) = ClosingHas w o
 Has w _ = Unit {0}

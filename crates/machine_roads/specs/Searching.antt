@@ -22,16 +22,13 @@ use Rattle.machine_roads.specs.View.{Output, wakes}
 use Rattle.machine_roads.specs.Road.{futures_in}
 use Rattle.machine_roads.specs.Alone.{alone, is_resting, HasAll}
 use Rattle.machine_roads.specs.Alike.{upon}
-use Rattle.machine_roads.specs.Stopped.{Stops}
+use Rattle.machine_roads.specs.Stopped.{Stops, taken_by}
 
 -- how the poll goes on behind a future that it took: it searches again, or after 200 calls its own waker
 abbrev pub goes_on_by : RunPoll → Bool → Op
 goes_on_by x last = if last then op.Run (run_op.WakeOwn x) else op.Tick (tick_op.Search (asleep x))
 
--- so many it has taken since it let others go first, and it searches on while these are fewer than 200
-abbrev pub taken_by : ℕ → Plain Output Waker → ℕ
-taken_by r q = or (slice_get q.runs r) (λ run. run.taken) 0
-
+-- it searches on while it has taken fewer than 200 since it let others go first
 abbrev pub IsLast : ℕ → Bool → Plain Output Waker → Type 0
 IsLast r last q = nat_lt (taken_by r q) 200 ≡ not last
 

@@ -2,8 +2,8 @@
 ghost use Rattle.executor_model.specs.Executions.{EveryMachine};
 ghost use Rattle.machine_roads.specs.Course.{ListsGoAlike};
 ghost use Rattle.machine_roads.specs.Lone.{EachLoneAlike, LoneCallIsAlone, LoneCancels, LoneCopies};
-ghost use Rattle.machine_roads.specs.Lone.{LoneEmpty, LoneLeaks, LoneRunEnds, LoneRunGoes, LoneRunIsMade, LoneRunTakes};
-ghost use Rattle.machine_roads.specs.Lone.{LoneSpawns, LoneUses, LoneWakerGoes};
+ghost use Rattle.machine_roads.specs.Lone.{LoneEmpty, LoneLeaks, LoneRunEnds, LoneRunGoes, LoneRunGoesOn, LoneRunIsMade};
+ghost use Rattle.machine_roads.specs.Lone.{LoneRunTakes, LoneSpawns, LoneUses, LoneWakerGoes};
 ghost use Rattle.machine_roads.specs.Lone.{LoneDetachLoses, LoneDropEnds, LoneGoesWithOutput};
 ghost use Rattle.machine_roads.specs.Lone.{LoneDetaches, LoneHandleGoes, LoneHandlePolls};
 ghost use Rattle.machine_roads.specs.Lone.{LoneHandleWaits, LoneTickGoes, LoneTickIsMade};
@@ -107,6 +107,13 @@ pub fn lone_runs_end()
 /// the plain scheduler's does: in the poll or the drop of the future that it took.
 pub fn lone_runs_take()
     ensures { EachLoneAlike LoneRunTakes }
+{}
+
+/// From the end of its own future's poll without an output on, with the ends of all the code that it
+/// comes to, a lone poll of a run that isn't over and has taken fewer than 200 is one, until it has
+/// taken 200 and lets others go first; or it comes to where nothing is due.
+pub fn lone_runs_go_on()
+    ensures { EachLoneAlike LoneRunGoesOn }
 {}
 
 /// With the end of its own future's drop, if that isn't over, a lone drop of a run is one: those that

@@ -87,8 +87,9 @@ pub fn a_try_is_a_try()
     ensures { EachAlike TriesAlike }
 {}
 
-/// And so does the end of such a poll, in a try or a tick's poll, where it gives no output and the
-/// future can still be reached.
+/// And so does the end of such a poll, where it gives no output and the future can still be reached: in
+/// a try or a tick's poll, and in a run's with its 200th, which then calls its own waker and lets others
+/// go first.
 pub fn an_end_without_output_ends_alike()
     ensures { EachAlike PendsAlikeInTake }
 {}

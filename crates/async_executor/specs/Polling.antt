@@ -1,7 +1,8 @@
 -- What a poll of a task has of its future.
-use Rattle.std.specs.Prelude.{◌≡◌, Option, Some, None, List, ◌∷◌}
+use Rattle.std.specs.Prelude.{◌≡◌, Bool, true, false, Option, Some, None, List, ◌∷◌}
 use Rattle.async_executor.specs.declared.sections.Taken.{Taken}
 use Rattle.async_executor.specs.declared.task_run.Dropping.{Dropping}
+use Rattle.async_task.specs.Runs.{was_closed}
 use Rattle.async_task.specs.declared.cell.Identity.{Identity}
 use Rattle.async_task.specs.declared.poll.Poll.{Poll}
 use Rattle.async_task.specs.declared.poll.Poll.TheVariants.{Ready, Pending}
@@ -11,6 +12,7 @@ use Rattle.call_steps.specs.declared.saw.Saw.{Saw}
 use Rattle.call_steps.specs.declared.saw.Saw.TheVariants as saw
 use Rattle.call_steps.specs.declared.step.CallStep.{CallStep}
 use Rattle.call_steps.specs.declared.step.CallStep.TheVariants as step
+use Rattle.call_steps.specs.declared.step.handle.HandleStep.TheVariants as handle_step
 use Rattle.call_steps.specs.declared.step.table.TableStep.TheVariants as table_step
 use Rattle.task_moves.specs.declared.local_task.answers.Back.{Back}
 use Rattle.task_moves.specs.declared.local_task.answers.Back.TheVariants as back
@@ -44,6 +46,15 @@ IsEndOf b Over f = Unit {0}
 IsEndOf b (Pause pause) f = (pause.held.identity ≡ f) × (end_by b ≡ move.EndPending)
 IsEndOf b (Drop place closing) f = end_by b ≡ move.EndPending
 
--- a future is taken out to be dropped, and the run then ends by a move of its own
+-- by which step a run ends whose future is dropped: that of a closed task by this move; that of one which nobody can reach any more
+-- lets go of who awaited it
+abbrev pub ended_by : Bool → Move → Identity → CallStep Identity (Unit {0})
+ended_by true move f = step.Move move f
+ended_by false move f = step.Handle (handle_step.LetGo f)
+
+abbrev pub end_step : {T W R : Type 0} → Dropping T W R → Identity → CallStep Identity (Unit {0})
+end_step dropping f = ended_by (was_closed dropping.closing.closed) dropping.ends.value f
+
+-- a future is taken out to be dropped, and the run then ends by a step of its own
 abbrev pub dropped_by : {T W R : Type 0} → Dropping T W R → Identity → Todo → Todo
-dropped_by dropping f rest = step.Table (table_step.TakeToDrop f) ∷ step.Move dropping.ends.value f ∷ rest
+dropped_by dropping f rest = step.Table (table_step.TakeToDrop f) ∷ end_step dropping f ∷ rest

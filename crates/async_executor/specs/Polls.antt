@@ -13,7 +13,7 @@ use Rattle.call_steps.specs.declared.reply.Reply.TheVariants as reply
 -- it has left the sleepers for good
 abbrev pub has_left : Ticker → Bool
 has_left (Awake room) = false
-has_left (Asleep sleeper) = false
+has_left (Asleep sleeper w) = false
 has_left Left = true
 
 -- a call of this poll ended with this reply, and the poll with it

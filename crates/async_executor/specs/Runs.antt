@@ -5,7 +5,7 @@ use Rattle.async_task.specs.declared.poll.Poll.{Poll}
 use Rattle.async_task.specs.declared.poll.Poll.TheVariants.{Ready, Pending}
 use Rattle.executor_parts.specs.declared.mark.Mark.{Mark}
 use Rattle.call_steps.specs.Sleeping.{counted_by, found_by_run, run_by}
-use Rattle.call_steps.specs.Stealing.{walk_ends}
+use Rattle.call_steps.specs.Stealing.{put_refused, stolen_as}
 use Rattle.call_steps.specs.declared.names.RunPoll.{RunPoll}
 use Rattle.call_steps.specs.declared.names.Section.TheVariants as section
 use Rattle.call_steps.specs.declared.names.Source.{Source}
@@ -92,15 +92,15 @@ abbrev pub walks : Waker Identity → Option ℕ → Todo
 walks w None = step.List (list_step.LockRead (poll_with w)) ∷ []
 walks w (Some left) = step.Run (run_step.LookOwn (poll_with w) left) ∷ []
 
+-- what is left once it stole: its own queue gave the Runnable of this future back, or none
+abbrev pub robbed : Waker Identity → Then Identity → Searcher → Option Identity → Todo
+robbed w then at None = stolen_as then at (poll_with w)
+robbed w then at (Some f) = put_refused then at (poll_with w) f
+
 -- its own queue had this in a walk, or nothing yet, with so many queues to go to
 abbrev pub looked_walking : Searcher → Waker Identity → ℕ → Option Identity → Todo
 looked_walking at w left None = step.Run (run_step.LookOwn (poll_with w) left) ∷ []
 looked_walking at w left (Some f) = step.List list_step.UnlockRead ∷ found_by_run at (poll_with w) f
-
--- the walk is over
-abbrev pub walked : Searcher → Waker Identity → Option Identity → Todo
-walked at w None = walk_ends (poll_with w)
-walked at w (Some f) = step.List list_step.UnlockRead ∷ found_by_run at (poll_with w) f
 
 -- the search is over
 abbrev pub searched_by_run : Searcher → Waker Identity → Option Identity → Todo

@@ -5,18 +5,35 @@ use Rattle.async_executor.specs.declared.ticker.FellAsleep.{FellAsleep}
 use Rattle.async_executor.specs.declared.ticker.FellAsleep.TheVariants.{Anew, Already, Nowhere}
 use Rattle.async_executor.specs.declared.ticker.Laid.{Laid}
 use Rattle.async_executor.specs.declared.ticker.Laid.TheVariants as laid
+use Rattle.async_executor.specs.declared.ticker.Slept.{Slept}
+use Rattle.async_executor.specs.declared.ticker.Slept.TheVariants as slept
 use Rattle.async_executor.specs.declared.ticker.WokenUp.{WokenUp}
 use Rattle.async_executor.specs.Foreign.{value_of}
 use Rattle.async_executor.specs.declared.ticker.Ticker.{Ticker}
 use Rattle.async_executor.specs.declared.ticker.Ticker.TheVariants.{Awake, Asleep, Left}
 use Rattle.executor_parts.specs.Sleepers.{Sleepers, flag_of, next_number, put_to_sleep, IsAgain, waker_of, woken_up}
+use Rattle.async_task.specs.declared.cell.Identity.{Identity}
+use Rattle.call_steps.specs.declared.names.Waker.{Waker}
 use Rattle.executor_parts.specs.declared.sleepers.Again.TheVariants.{Replaced, Notified, Unknown}
 
 -- whether it is among the sleepers
 abbrev pub is_asleep : Ticker → Bool
 is_asleep (Awake room) = false
-is_asleep (Asleep s) = true
+is_asleep (Asleep s w) = true
 is_asleep Left = false
+
+-- the name of the waker with which it sleeps
+abbrev pub sleeps_with : Ticker → Option (Waker Identity)
+sleeps_with (Awake room) = None
+sleeps_with (Asleep s w) = Some w.value
+sleeps_with Left = None
+
+-- who searches again, or is pending and wasn't called, sleeps with the waker that its poll was given, of this name
+abbrev pub SleepsBy : Waker Identity → Ticker → Slept → Type 0
+SleepsBy name ticker slept.Anew = sleeps_with ticker ≡ Some name
+SleepsBy name ticker slept.Still = sleeps_with ticker ≡ Some name
+SleepsBy name ticker slept.Called = Unit {0}
+SleepsBy name ticker slept.NoMemory = Unit {0}
 
 module _ {W : Type 0} where
   -- how one that slept sleeps now
@@ -28,10 +45,10 @@ module _ {W : Type 0} where
   -- one that is awake sleeps under a new number, with this waker, and one that slept sleeps under its own
   abbrev pub FallsAsleep :
       Ticker → SleeperWaker W → Sleepers (SleeperWaker W) → Sleepers (SleeperWaker W) → Ticker → FellAsleep W → Type 0
-  FallsAsleep (Awake room) waker old new (Asleep s) (Anew flag) =
+  FallsAsleep (Awake room) waker old new (Asleep s w) (Anew flag) =
       (s.number ≡ next_number old) × (new ≡ put_to_sleep waker old) × (flag ≡ flag_of new)
   FallsAsleep (Awake room) waker old new (Awake _) (Nowhere back) = (back.value ≡ waker) × (new ≡ old) × (old.rooms ≤ old.count)
-  FallsAsleep (Asleep s) waker old new (Asleep t) fell_asleep = (t ≡ s) × SleepsAgain s.number waker old new fell_asleep
+  FallsAsleep (Asleep s v) waker old new (Asleep t w) fell_asleep = (t ≡ s) × SleepsAgain s.number waker old new fell_asleep
   FallsAsleep Left waker old new Left (Nowhere back) = (back.value ≡ waker) × (new ≡ old)
   FallsAsleep _ _ _ _ _ _ = ⊥
 
@@ -43,7 +60,7 @@ module _ {W : Type 0} where
 
   -- one that slept is awake, and its number is free; its waker, if it had one, is handed out
   abbrev pub WakesUp : Ticker → Sleepers (SleeperWaker W) → Sleepers (SleeperWaker W) → Ticker → Option (WokenUp W) → Type 0
-  WakesUp (Asleep s) old new (Awake _) (Some r) =
+  WakesUp (Asleep s w) old new (Awake _) (Some r) =
       (value_of r.waker ≡ waker_of s.number old.wakers) × (new ≡ woken_up s.number old) × (r.notified ≡ flag_of new)
   WakesUp (Awake _) old new (Awake _) None = new ≡ old
   WakesUp Left old new Left None = new ≡ old
@@ -71,11 +88,11 @@ module _ {W : Type 0} where
   laid_as (Already was) = laid.Already was
   laid_as (Nowhere back) = laid.Nowhere back
 
-  -- one that fell asleep, or slept there already, is among the sleepers
-  abbrev pub Lies : Bool → Laid W → Type 0
-  Lies sleeps laid.Anew = sleeps ≡ true
-  Lies sleeps (laid.Already was) = sleeps ≡ true
-  Lies sleeps (laid.Nowhere back) = Unit {0}
+  -- one that fell asleep, or slept there already, sleeps with the waker of this name
+  abbrev pub Lies : Waker Identity → Ticker → Laid W → Type 0
+  Lies name ticker laid.Anew = sleeps_with ticker ≡ Some name
+  Lies name ticker (laid.Already was) = sleeps_with ticker ≡ Some name
+  Lies name ticker (laid.Nowhere back) = Unit {0}
 
   abbrev pub LaidBack : SleeperWaker W → Laid W → Type 0
   LaidBack waker laid.Anew = Unit {0}

@@ -38,4 +38,5 @@ searched_first mark w sleeps (Some f) = found_asleep sleeps f
 abbrev pub slept : TickOrRun (Unit {0}) → Waker Identity → Slept → List (CallStep Identity (Unit {0}))
 slept who w slept_as.Anew = step.Tick (tick_step.Search (sleeping who w)) ∷ []
 slept who w slept_as.Still = step.End reply.Pending ∷ []
+slept who w slept_as.Called = step.End reply.Pending ∷ []
 slept who w slept_as.NoMemory = step.End reply.NoMemory ∷ []

@@ -13,7 +13,7 @@ use crate::body::Body;
 use crate::due::close_and_pay;
 use crate::entry::{Executor, Unlocked};
 use crate::foreign::Foreign;
-use crate::leaving::{Leaving, NoRoom, ToCall, see_woken};
+use crate::leaving::{Leaving, NoRoom, ToCall};
 use crate::locks::Guarded;
 use crate::names::{ExRealm, ExWaker, TableWaker};
 use crate::sections;
@@ -202,8 +202,8 @@ where
 {
     let left = (left - 1) as u64;
     match sections::turn(table) {
-        Some(waker) => waker.call_in_leak(rt, realm, left, steps, unlocked),
-        None => see_woken(TaskName::of_none(), false, left, steps),
+        Some(waker) => waker.call_and_pay(rt, realm, left, steps, unlocked),
+        None => steps.see_woken(TaskName::of_none(), false, left),
     }
 }
 

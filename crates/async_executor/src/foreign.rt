@@ -10,7 +10,7 @@ ghost use Rattle.call_steps.specs.declared.step.tick.TickStep.TheVariants as tic
 ghost use Rattle.call_steps.specs.declared.step.user.UserStep.TheVariants as user_step;
 ghost use Rattle.async_executor.specs.Foreign.{value_of};
 ghost use Rattle.async_executor.specs.Runs.{poll_with, polled_own};
-ghost use Rattle.async_executor.specs.Sleeping.{is_asleep};
+ghost use Rattle.async_executor.specs.Sleeping.{sleeps_with};
 ghost use Rattle.async_executor.specs.Steps.{name_given, of_handed, sleeper_as};
 ghost use Rattle.async_executor.specs.Ticks.{sleeping};
 
@@ -185,7 +185,7 @@ impl<W: Wake + Drop + 'static> Foreign<SleeperWaker<W>> {
     where
         T: Drop + 'static,
         R: Wait + Copy + Drop + 'static,
-        requires asleep { is_asleep ticker.now ≡ true }
+        requires asleep { sleeps_with ticker.now ≡ Some name.now }
         requires falls { steps.old ≡ step.Tick (tick_step.FallAsleep (sleeping who.now name.now)) ∷ [] }
         ensures { steps.new ≡ step.End reply.Pending ∷ [] }
     {

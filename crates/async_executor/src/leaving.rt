@@ -1,9 +1,9 @@
 //! The wakers that an executor's drop, or its leak, takes out of its table.
 ghost use Rattle.std.specs.Prelude.{◌≡◌, ◌+◌, [], ◌∷◌, ◌++◌, false, drop as list_drop, length, slice_get};
 ghost use Rattle.std.specs.Prelude.{IfErr, IfSome, None, OnOk, OnSome, Some};
-ghost use Rattle.async_executor.specs.Closing.{listed, woke};
-ghost use Rattle.call_steps.specs.Closing.{closing, leaking};
-ghost use Rattle.call_steps.specs.Fitting.{Fits};
+ghost use Rattle.async_executor.specs.Closing.{listed, CallsWaker};
+ghost use Rattle.call_steps.specs.Closing.{closing};
+ghost use Rattle.call_steps.specs.Seeing.{woke};
 ghost use Rattle.call_steps.specs.Todo.{following, top};
 ghost use Rattle.call_steps.specs.declared.reply.Reply.TheVariants as reply;
 ghost use Rattle.call_steps.specs.declared.step.CallStep.TheVariants as step;
@@ -16,12 +16,9 @@ use crate::names::{ExRealm, TableWaker};
 use crate::steps::Steps;
 use crate::task_name::TaskName;
 use async_task::{Returning, StoredWaker, Wake};
-use call_steps::Saw;
 use std::collections::VecDeque;
 use std::marker::Model;
 use std::sync::Wait;
-use task_moves::ScheduleInfo;
-use task_moves::moves::Owed;
 
 /// A waker that came out of the table. It has no drop: it is called.
 #[must_use]
@@ -88,8 +85,9 @@ impl ToCall {
         }
     }
 
-    /// A leak calls it, with all that this leads to, and so many are left.
-    pub fn call_in_leak<T, W, R>(
+    /// Calls it, with all that this leads to, where so many are left: as a leak does, and an executor's drop.
+    #[tactic(auto, using(crate::proofs::Waking::sees_waking, crate::proofs::Waking::appends_first))]
+    pub fn call_and_pay<T, W, R>(
         self,
         rt: R,
         realm: &'static ExRealm<T, W, R>,
@@ -101,42 +99,16 @@ impl ToCall {
         T: Drop + 'static,
         W: Wake + Drop + 'static,
         R: Wait + Copy + Drop + 'static,
-        requires { steps.old ≡ step.Closing closing_step.LeakNext ∷ step.End reply.Done ∷ [] }
-        ensures { steps.new ≡ leaking left ++ step.End reply.Done ∷ [] }
+        requires { CallsWaker (top steps.old) }
+        ensures { steps.new ≡ following (woke self.identity false left) steps.old }
     {
         let name = self.name();
         match self.call(rt, realm, unlocked) {
             Some(handed) => {
-                see_woken(name, true, left, steps);
+                steps.see_woken(name, true, left);
                 pay_next(rt, Some(handed), steps, unlocked);
             }
-            None => see_woken(name, false, left, steps),
-        }
-    }
-
-    /// An executor's drop calls it, with all that this leads to, and so many are left.
-    fn call_in_drop<T, W, R>(
-        self,
-        rt: R,
-        realm: &'static ExRealm<T, W, R>,
-        left: u64,
-        steps: &mut Steps,
-        unlocked: &mut Unlocked,
-    )
-    where
-        T: Drop + 'static,
-        W: Wake + Drop + 'static,
-        R: Wait + Copy + Drop + 'static,
-        requires { steps.old ≡ step.Closing closing_step.WakeNext ∷ step.End reply.Done ∷ [] }
-        ensures { steps.new ≡ closing 0 left ++ step.End reply.Done ∷ [] }
-    {
-        let name = self.name();
-        match self.call(rt, realm, unlocked) {
-            Some(handed) => {
-                see_woken(name, true, left, steps);
-                pay_next(rt, Some(handed), steps, unlocked);
-            }
-            None => see_woken(name, false, left, steps),
+            None => steps.see_woken(name, false, left),
         }
     }
 }
@@ -248,7 +220,7 @@ impl Leaving {
                 return;
             };
             let left = self.len() as u64;
-            waker.call_in_drop(rt, realm, left, steps, unlocked);
+            waker.call_and_pay(rt, realm, left, steps, unlocked);
         }
         unreachable!()
     }
@@ -259,44 +231,5 @@ impl Leaving {
     {
         let Leaving { wakers } = self;
         drop(wakers);
-    }
-}
-
-/// A waker that came out of the table was called, of this task, and all that this owed was paid in that, but for its Runnable,
-/// where that is due; so many wakers are left.
-pub fn see_woken(woken: TaskName, is_due: bool, left: u64, steps: &mut Steps)
-    requires { Fits (top steps.old) (woke woken is_due left) }
-    ensures { steps.new ≡ following (woke woken is_due left) steps.old }
-{
-    if is_due {
-        let info = ScheduleInfo {
-            woken_while_running: false,
-        };
-        steps.follow(Saw::Wakes(woken, false, owing(Some(info)), left));
-    } else {
-        steps.follow(Saw::Wakes(woken, false, owing(None), left));
-    }
-}
-
-/// What a task owes that was woken: its Runnable, where that is due.
-fn owing(schedule: Option<ScheduleInfo>) -> Owed
-    ensures { result ≡ record {
-      schedule = schedule;
-      future = None;
-      drop_output = false;
-      awaiter = None;
-      next = None;
-      answer = None;
-      empty_cell = false;
-    } }
-{
-    Owed {
-        schedule,
-        future: None,
-        drop_output: false,
-        awaiter: None,
-        next: None,
-        answer: None,
-        empty_cell: false,
     }
 }

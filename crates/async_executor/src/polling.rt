@@ -7,7 +7,7 @@ ghost use Rattle.call_steps.specs.Todo.{below, top};
 ghost use Rattle.call_steps.specs.declared.step.CallStep.TheVariants as step;
 ghost use Rattle.call_steps.specs.declared.step.table.TableStep.TheVariants as table_step;
 ghost use Rattle.call_steps.specs.declared.step.user.UserStep.TheVariants as user_step;
-ghost use Rattle.async_executor.specs.Polling.{end_by, end_of};
+ghost use Rattle.async_executor.specs.Polling.{end_by, end_of, end_step};
 
 use crate::body::Body;
 use crate::due::pay;
@@ -192,7 +192,7 @@ where
         unlocked: &mut Unlocked,
     )
         requires taken { top steps.old ≡ Some (step.Table (table_step.TakeToDrop name.now)) }
-        requires ends { top (below steps.old) ≡ Some (step.Move dropping.ends.value name.now) }
+        requires ends { top (below steps.old) ≡ Some (end_step dropping name.now) }
         ensures { steps.new ≡ below (below steps.old) }
     {
         self.drop_and_leave(place, name, steps, unlocked);

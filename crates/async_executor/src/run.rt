@@ -5,7 +5,7 @@ ghost use Rattle.async_executor.specs.Counting.{GoesOn};
 ghost use Rattle.async_executor.specs.Polls.{has_left, EndsWith, GoesOnOrWants, HasLeft, IsRunAnswer, replied_by_run};
 ghost use Rattle.async_executor.specs.Runs.{counts, ends_ready, has_ended, poll_with, ran, runs, searched_by_run};
 ghost use Rattle.async_executor.specs.Runs.{stage_by, stage_polled, tells};
-ghost use Rattle.async_executor.specs.Sleeping.{is_asleep};
+ghost use Rattle.async_executor.specs.Sleeping.{is_asleep, SleepsBy};
 ghost use Rattle.async_executor.specs.Sought.{sought};
 ghost use Rattle.async_executor.specs.Steps.{name_given, of_stored};
 ghost use Rattle.async_executor.specs.Ticks.{sleeping, slept};
@@ -214,7 +214,7 @@ where
             }
             match self.sleep(waker, name, steps, unlocked) {
                 Slept::Anew => {}
-                Slept::Still => return Sought::Nothing,
+                Slept::Still | Slept::Called => return Sought::Nothing,
                 Slept::NoMemory => return Sought::NoMemory,
             }
         }
@@ -261,6 +261,7 @@ where
         requires named { name.now ≡ name_given waker.now }
         requires copies { steps.old ≡ step.Tick (tick_step.CopyWaker (sleeping (tick_or_run.Run tt) name.now)) ∷ [] }
         ensures steps { steps.new ≡ slept (tick_or_run.Run tt) name.now result }
+        ensures asleep { SleepsBy name.now self.new.ticker result }
         ensures future { self.new.future ≡ self.old.future }
         ensures answered { self.new.answered ≡ self.old.answered }
         ensures counts { self.new.counts ≡ self.old.counts }

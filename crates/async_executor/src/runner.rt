@@ -1,8 +1,8 @@
 //! The own queue of a run, and how a run searches.
-ghost use Rattle.std.specs.Prelude.{◌≡◌, ◌∷◌, [], true, false, None, Some, IfOk, length};
+ghost use Rattle.std.specs.Prelude.{◌≡◌, ◌∷◌, [], true, false, None, Some, IfOk};
 ghost use Rattle.std.specs.Arc.{arc_value};
 ghost use Rattle.call_steps.specs.Begins.{poll_run};
-ghost use Rattle.call_steps.specs.Stealing.{stolen_as};
+ghost use Rattle.call_steps.specs.Stealing.{is_walk, stolen_as};
 ghost use Rattle.call_steps.specs.declared.names.Section.TheVariants as section;
 ghost use Rattle.call_steps.specs.declared.names.Source.TheVariants as source;
 ghost use Rattle.call_steps.specs.declared.names.Then.TheVariants as then;
@@ -13,11 +13,12 @@ ghost use Rattle.call_steps.specs.declared.step.run.ListStep.TheVariants as list
 ghost use Rattle.call_steps.specs.declared.step.tick.TickStep.TheVariants as tick_step;
 ghost use Rattle.call_steps.specs.declared.step.user.UserStep.TheVariants as user_step;
 ghost use Rattle.executor_parts.specs.declared.mark.Mark.TheVariants as mark;
-ghost use Rattle.async_executor.specs.Seeds.{seeded, words_after};
+ghost use Rattle.async_executor.specs.Seeds.{seeded};
 ghost use Rattle.async_executor.specs.Making.{IsUnlisted};
 ghost use Rattle.async_executor.specs.OwnQueues.{listed};
-ghost use Rattle.async_executor.specs.Runs.{looked_own, looked_walking, poll_with, reads_length, registered, runs};
-ghost use Rattle.async_executor.specs.Runs.{searched_by_run, stage_by, walked, walks};
+ghost use Rattle.async_executor.specs.Runs.{looked_own, poll_with, reads_length, registered, robbed, runs};
+ghost use Rattle.async_executor.specs.Runs.{searched_by_run, stage_by};
+ghost use Rattle.async_executor.specs.Searched.{searched};
 ghost use Rattle.async_executor.specs.Steps.{of_stored};
 ghost use Rattle.async_executor.specs.Ticks.{sleeping};
 
@@ -26,15 +27,14 @@ use crate::due::{close_and_pay, share};
 use crate::entry::Unlocked;
 use crate::looking::pop;
 use crate::names::{ExRealm, ExStoredRunnable};
-use crate::own_queues::{Numbered, OwnQueues, RunRoom};
+use crate::own_queues::{OwnQueues, RunRoom};
 use crate::queues::{FromQueues, Queue};
 use crate::state::{OWN_PLACES, State};
 use crate::steal::{Theft, steal};
 use crate::steps::Steps;
 use crate::task_name::TaskName;
-use crate::walks::Walk;
 use async_task::{NoMemory, Wake};
-use call_steps::{Part, Saw, Searcher, Source, Then, Waker};
+use call_steps::{Saw, Searcher, Source, Then, Waker};
 use concurrent_queue::ConcurrentQueue;
 use executor_parts::Mark;
 use rand_core::SeedableRng;
@@ -43,6 +43,7 @@ use std::alloc::Global;
 use std::sync::{Arc, Wait};
 
 mod ending;
+mod walking;
 
 /// What a search of a run is, as contracts see it: the name of the waker that the run was polled with, and how far it had counted
 /// as it began to search.
@@ -50,6 +51,14 @@ mod ending;
 pub struct Search<'a> {
     pub name: &'a Waker<TaskName>,
     pub at: Searcher,
+}
+
+/// What a search came to.
+pub enum Searched {
+    Found(ExStoredRunnable),
+    Nothing,
+    /// The own queue was full and gave this back, which ended the walk.
+    Refused(ExStoredRunnable),
 }
 
 /// What a run has of its own among the queues.
@@ -223,7 +232,8 @@ impl Runner {
         T: Drop + 'static,
         W: Wake + Drop + 'static,
         R: Wait + Copy + Drop + 'static,
-        requires { steps.old ≡ reads_length search.now.name.now (source.Common mark) then.now }
+        requires apart { is_walk then.now ≡ false }
+        requires steals { steps.old ≡ reads_length search.now.name.now (source.Common mark) then.now }
         ensures { steps.new ≡ stolen_as then.now search.now.at (poll_with search.now.name.now) }
     {
         let theft = Theft {
@@ -233,15 +243,11 @@ impl Runner {
             at: search.at,
         };
         let refused = steal(&rt, state.queues.of(mark), &self.own, &theft, steps);
-        drop_refused(rt, realm, refused, unlocked);
+        drop_refused(rt, realm, refused, &theft, steps, unlocked);
     }
 
-    /// The next Runnable of the run, or None where none was found.
-    ///
-    /// 1. The first of its own queue.
-    /// 2. The first of the global queue that its turn names, or else of the other one; then it steals from where that stood.
-    /// 3. Under the read lock of the list, round the other runs' queues from the starting place: it steals from each, and
-    ///    takes the first of its own queue.
+    /// The next Runnable of the run, or None where none was found. What its own queue gave back in a walk is closed, and it
+    /// searches anew.
     pub fn search<T, W, R>(
         &mut self,
         rt: R,
@@ -258,17 +264,49 @@ impl Runner {
         requires { steps.old ≡ step.Tick (tick_step.Search (sleeping (tick_or_run.Run tt) search.now.name.now)) ∷ [] }
         ensures { steps.new ≡ searched_by_run search.now.at search.now.name.now (of_stored result) }
     {
+        for _ in rt.forever() {
+            match self.search_once(rt, state, realm, search, steps, unlocked) {
+                Searched::Found(runnable) => return Some(runnable),
+                Searched::Nothing => return None,
+                Searched::Refused(runnable) => {
+                    close_and_pay(rt, realm, steps, runnable, unlocked);
+                }
+            }
+        }
+        unreachable!()
+    }
+
+    /// Searches once.
+    ///
+    /// 1. The first of its own queue.
+    /// 2. The first of the global queue that its turn names, or else of the other one; then it steals from where that stood.
+    /// 3. Under the read lock of the list, round the other runs' queues from the starting place: it steals from each, and
+    ///    takes the first of its own queue.
+    fn search_once<T, W, R>(
+        &mut self,
+        rt: R,
+        state: &State<W>,
+        realm: &'static ExRealm<T, W, R>,
+        search: &Search<'_>,
+        steps: &mut Steps,
+        unlocked: &mut Unlocked,
+    ) -> Searched
+    where
+        T: Drop + 'static,
+        W: Wake + Drop + 'static,
+        R: Wait + Copy + Drop + 'static,
+        requires { steps.old ≡ step.Tick (tick_step.Search (sleeping (tick_or_run.Run tt) search.now.name.now)) ∷ [] }
+        ensures { steps.new ≡ searched search.now.at search.now.name.now result }
+    {
         if let Some(runnable) = self.look_own(&rt, search, steps) {
-            return Some(runnable);
+            return Searched::Found(runnable);
         }
         if let Some(FromQueues { runnable, mark }) = state.look_common(&rt, search.name, steps) {
             let then = Then::Found(TaskName::of_runnable(&runnable));
             self.steal_from(mark, rt, state, realm, search, &then, steps, unlocked);
-            return Some(runnable);
+            return Searched::Found(runnable);
         }
-        let (found, refused) = self.walk(&rt, state, search, steps, unlocked);
-        drop_refused(rt, realm, refused, unlocked);
-        found
+        self.walk(&rt, state, search, steps, unlocked)
     }
 
     /// A search begins with the own queue.
@@ -292,153 +330,6 @@ impl Runner {
                 None
             }
         }
-    }
-
-    /// Steals from the queues of other runs, one after the other, until the own queue has something. A Runnable that the own
-    /// queue refused ends it, and is the second answer.
-    fn walk<W: Drop, R: Wait>(
-        &mut self,
-        rt: &R,
-        state: &State<W>,
-        search: &Search<'_>,
-        steps: &mut Steps,
-        unlocked: &mut Unlocked,
-    ) -> (Option<ExStoredRunnable>, Option<ExStoredRunnable>)
-        requires { steps.old ≡ walks search.now.name.now None }
-        ensures { steps.new ≡ searched_by_run search.now.at search.now.name.now (of_stored result.0) }
-    {
-        let walked = {
-            let reading = state.own_queues.read(rt, unlocked);
-            self.walk_round(rt, reading.get().all(), search, steps)
-        };
-        unlock_read(&walked.0, search, steps);
-        walked
-    }
-
-    /// The section of the list's lock in which a run walks round its queues. Of an empty list it reads no word.
-    fn walk_round<R: Wait>(
-        &mut self,
-        rt: &R,
-        queues: &[Numbered<Arc<Queue, Global>>],
-        search: &Search<'_>,
-        steps: &mut Steps,
-    ) -> (Option<ExStoredRunnable>, Option<ExStoredRunnable>)
-        requires { steps.old ≡ walks search.now.name.now None }
-        ensures steps { steps.new ≡ walked search.now.at search.now.name.now (of_stored result.0) }
-        ensures words { self.new.words ≡ words_after (length queues.now) self.old.words }
-    {
-        if queues.is_empty() {
-            search.end_walk(&None, steps);
-            return (None, None);
-        }
-        let walk = Walk::begin(&mut self.words, queues.len());
-        let mut behind = None;
-        for nth in 0..queues.len() {
-            let listed = &queues[walk.place(nth)];
-            if listed.number == self.number {
-                continue;
-            }
-            let left = (queues.len() - nth - 1) as u64;
-            let refused = self.steal_in_walk(rt, &listed.queue, left, &behind, search, steps);
-            behind = Some(left);
-            match (self.look_own_in_walk(rt, left, search, steps), refused) {
-                (None, None) => {}
-                (Some(found), refused) => return (Some(found), refused),
-                (None, Some(refused)) => {
-                    search.end_walk(&behind, steps);
-                    return (None, Some(refused));
-                }
-            }
-        }
-        search.end_walk(&behind, steps);
-        (None, None)
-    }
-
-    /// In a walk, steals from this queue, with so many still to go to.
-    fn steal_in_walk<R: Wait>(
-        &self,
-        rt: &R,
-        queue: &Queue,
-        left: u64,
-        behind: &Option<u64>,
-        search: &Search<'_>,
-        steps: &mut Steps,
-    ) -> Option<ExStoredRunnable>
-        requires { steps.old ≡ walks search.now.name.now behind.now }
-        ensures { steps.new ≡ walks search.now.name.now (Some left) }
-    {
-        search.go_to(left, behind, steps);
-        let theft = Theft {
-            name: search.name,
-            from: &Source::Own(()),
-            then: &Then::Walk(left),
-            at: search.at,
-        };
-        steal(rt, queue, &self.own, &theft, steps)
-    }
-
-    /// In a walk, looks into the own queue, with so many still to go to.
-    #[inline(always)]
-    fn look_own_in_walk<R: Wait>(
-        &self,
-        rt: &R,
-        left: u64,
-        search: &Search<'_>,
-        steps: &mut Steps,
-    ) -> Option<ExStoredRunnable>
-        requires { steps.old ≡ walks search.now.name.now (Some left) }
-        ensures { steps.new ≡ looked_walking search.now.at search.now.name.now left (of_stored result) }
-    {
-        let _ = left;
-        match pop(&self.own, rt) {
-            Some(runnable) => {
-                steps.follow(Saw::FoundBy(TaskName::of_runnable(&runnable), search.at));
-                Some(runnable)
-            }
-            None => None,
-        }
-    }
-}
-
-impl Search<'_> {
-    /// A walk goes to the next queue, with so many behind it.
-    #[inline(always)]
-    fn go_to(&self, left: u64, behind: &Option<u64>, steps: &mut Steps)
-        requires { steps.old ≡ walks self.now.name.now behind.now }
-        ensures { steps.new ≡ reads_length self.now.name.now (source.Own tt) (then.Walk left) }
-    {
-        // The same is seen either way: contracts go by the case.
-        match behind {
-            None => steps.follow(Saw::Queue((), left)),
-            Some(_) => steps.follow(Saw::Queue((), left)),
-        }
-    }
-
-    /// A walk has no queue to go to any more.
-    #[inline(always)]
-    fn end_walk(&self, behind: &Option<u64>, steps: &mut Steps)
-        requires { steps.old ≡ walks self.now.name.now behind.now }
-        ensures { steps.new ≡ walked self.now.at self.now.name.now None }
-    {
-        // The same is seen either way: contracts go by the case.
-        match behind {
-            None => steps.follow(Saw::Nothing),
-            Some(_) => steps.follow(Saw::Nothing),
-        }
-    }
-}
-
-/// The list's lock was given back, once a walk was over.
-#[inline(always)]
-fn unlock_read(found: &Option<ExStoredRunnable>, search: &Search<'_>, steps: &mut Steps)
-    requires { steps.old ≡ walked search.now.at search.now.name.now (of_stored found.now) }
-    ensures { steps.new ≡ searched_by_run search.now.at search.now.name.now (of_stored found.now) }
-{
-    let _ = search;
-    // The same is seen either way: contracts go by the case.
-    match found {
-        Some(_) => steps.follow(Saw::Nothing),
-        None => steps.follow(Saw::Nothing),
     }
 }
 
@@ -469,21 +360,26 @@ fn list_in<Q: Drop>(
     }
 }
 
-/// Closes a Runnable that came back from a full queue, where one did.
+/// Closes a Runnable that came back from a full queue, where one did. No lock is held, as this was no walk.
+#[tactic(auto, using(crate::proofs::Refusing::drops_it))]
 fn drop_refused<T, W, R>(
     rt: R,
     realm: &'static ExRealm<T, W, R>,
     refused: Option<ExStoredRunnable>,
+    theft: &Theft<'_>,
+    steps: &mut Steps,
     unlocked: &mut Unlocked,
 )
 where
     T: Drop + 'static,
     W: Wake + Drop + 'static,
     R: Wait + Copy + Drop + 'static,
+    requires apart { is_walk theft.now.then.now ≡ false }
+    requires steals { steps.old ≡ robbed theft.now.name.now theft.now.then.now theft.now.at (of_stored refused) }
+    ensures { steps.new ≡ stolen_as theft.now.then.now theft.now.at (poll_with theft.now.name.now) }
 {
+    let _ = theft;
     if let Some(stored) = refused {
-        let mut steps = Steps::part(Part::Close(TaskName::of_runnable(&stored)));
-        close_and_pay(rt, realm, &mut steps, stored, unlocked);
-        steps.close();
+        close_and_pay(rt, realm, steps, stored, unlocked);
     }
 }

@@ -1,12 +1,13 @@
 //! A task while it is run. Its end calls who awaits it, so it is lent an `Unlocked`.
-ghost use Rattle.std.specs.Prelude.{◌≡◌, ◌∷◌, Some};
+ghost use Rattle.std.specs.Prelude.{◌≡◌, ◌∷◌, true, Some};
 ghost use Rattle.task_moves.specs.declared.moves.owed.Move.TheVariants as move;
 ghost use Rattle.async_task.specs.Awaiters.{identity_of};
+ghost use Rattle.async_task.specs.Runs.{was_closed};
 ghost use Rattle.call_steps.specs.Todo.{below, top};
 ghost use Rattle.call_steps.specs.declared.step.CallStep.TheVariants as step;
 ghost use Rattle.call_steps.specs.declared.step.table.QueueStep.TheVariants as queue_step;
 ghost use Rattle.call_steps.specs.declared.step.table.TableStep.TheVariants as table_step;
-ghost use Rattle.async_executor.specs.Polling.{dropped_by, IsEndOf};
+ghost use Rattle.async_executor.specs.Polling.{dropped_by, end_step, IsEndOf};
 
 use crate::entry::Unlocked;
 use crate::names::{ExClosing, ExRunEnd, ExRunning, ExWaker};
@@ -39,7 +40,7 @@ where
     R: Wait + Copy + Drop + 'static,
 {
     closing: ExClosing<T, W, R>,
-    // By which move it ends.
+    // By which move it ends, where the task was closed.
     ends: Snapshot<Move>,
 }
 
@@ -93,7 +94,8 @@ where
 {
     /// A task was taken up that is closed: its future is to be dropped.
     pub fn begin(closing: ExClosing<T, W, R>, name: &TaskName, steps: &mut Steps) -> Self
-        requires { top steps.old ≡ Some (step.Move move.TakeUp name.now) }
+        requires closed { was_closed closing.closed ≡ true }
+        requires taken_up { top steps.old ≡ Some (step.Move move.TakeUp name.now) }
         ensures { steps.new ≡ dropped_by result name.now (below steps.old) }
     {
         let _ = name;
@@ -101,19 +103,26 @@ where
         Dropping::by(closing, Move::SettleClosed)
     }
 
-    /// A task was closed while it was polled: its future is to be dropped.
+    /// A poll has ended of a task whose future is to be dropped: it was closed meanwhile, or nobody can reach it any more.
     pub fn left(closing: ExClosing<T, W, R>, name: &TaskName, steps: &mut Steps) -> Self
         requires { top steps.old ≡ Some (step.Move move.EndPending name.now) }
         ensures { steps.new ≡ dropped_by result name.now (below steps.old) }
     {
         let _ = name;
-        steps.see_future(FutureDebt::DropFuture, Some(Move::EndClosed));
-        Dropping::by(closing, Move::EndClosed)
+        let closed = closing.was_closed();
+        let dropping = Dropping::by(closing, Move::EndClosed);
+        if closed {
+            steps.see_future(FutureDebt::DropFuture, Some(Move::EndClosed));
+        } else {
+            steps.see_forgotten();
+        }
+        dropping
     }
 
-    /// One that ends by this move.
+    /// One that ends by this move, where the task was closed.
     fn by(closing: ExClosing<T, W, R>, ends: Move) -> Self
-        ensures { result.ends.value ≡ ends }
+        ensures closing { result.closing ≡ closing }
+        ensures ends { result.ends.value ≡ ends }
     {
         Dropping {
             closing,
@@ -123,13 +132,18 @@ where
 
     /// Ends the run, with no lock held, once the future is dropped.
     pub fn finish(self, name: &TaskName, steps: &mut Steps, unlocked: &Unlocked)
-        requires { top steps.old ≡ Some (step.Move self.ends.value name.now) }
+        requires { top steps.old ≡ Some (end_step self name.now) }
         ensures { steps.new ≡ below steps.old }
     {
         let (_, _) = (unlocked, name);
         let Dropping { closing, ends: _ } = self;
+        let was_closed = closing.was_closed();
         closing.finish();
-        steps.see_moved(false);
+        if was_closed {
+            steps.see_moved(false);
+        } else {
+            steps.follow(Saw::Awaiter(false, None));
+        }
     }
 }
 

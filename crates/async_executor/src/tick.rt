@@ -1,7 +1,7 @@
 //! How a tick is polled, and ends.
 ghost use Rattle.std.specs.Prelude.{◌≡◌, ◌∷◌, [], false};
 ghost use Rattle.async_executor.specs.Polls.{has_left, IsTickAnswer};
-ghost use Rattle.async_executor.specs.Sleeping.{is_asleep};
+ghost use Rattle.async_executor.specs.Sleeping.{is_asleep, SleepsBy};
 ghost use Rattle.async_executor.specs.Steps.{name_given};
 ghost use Rattle.async_executor.specs.Ticks.{found_asleep, sleeping, slept};
 ghost use Rattle.call_steps.specs.declared.names.TickOrRun.TheVariants as tick_or_run;
@@ -57,7 +57,7 @@ where
             }
             match self.sleep(waker, &name, &mut steps, unlocked) {
                 Slept::Anew => {}
-                Slept::Still => {
+                Slept::Still | Slept::Called => {
                     self.answered.end(Reply::Pending, steps.end(Reply::Pending));
                     return Poll::Pending;
                 }
@@ -82,6 +82,7 @@ where
         requires named { name.now ≡ name_given waker.now }
         requires copies { steps.old ≡ step.Tick (tick_step.CopyWaker (sleeping (tick_or_run.Tick tt) name.now)) ∷ [] }
         ensures steps { steps.new ≡ slept (tick_or_run.Tick tt) name.now result }
+        ensures asleep { SleepsBy name.now self.new.ticker result }
         ensures stays { has_left self.new.ticker ≡ has_left self.old.ticker }
         ensures answered { self.new.answered ≡ self.old.answered }
     {

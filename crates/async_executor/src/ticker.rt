@@ -5,7 +5,8 @@ ghost use Rattle.call_steps.specs.declared.step.tick.TickStep.TheVariants as tic
 ghost use Rattle.call_steps.specs.declared.reply.Reply.TheVariants as reply;
 ghost use Rattle.async_executor.specs.Polls.{has_left};
 ghost use Rattle.async_executor.specs.Foreign.{value_of};
-ghost use Rattle.async_executor.specs.Sleeping.{is_asleep, laid_as, ComesBack, FallsAsleep, LaidBack, Lies, WakesUp, SaysFellAsleep};
+ghost use Rattle.async_executor.specs.Sleeping.{is_asleep, laid_as, ComesBack, FallsAsleep, LaidBack, Lies, SleepsBy, WakesUp};
+ghost use Rattle.async_executor.specs.Sleeping.{SaysFellAsleep};
 ghost use Rattle.async_executor.specs.Steps.{name_of, name_given};
 ghost use Rattle.async_executor.specs.Ticks.{sleeping, slept};
 ghost use Rattle.call_steps.specs.Todo.{below, top};
@@ -25,6 +26,7 @@ use executor_parts::{
     Again, Room, Sleeper, Sleepers, Slept as Started, Unreserved, WokenUp as Stood,
 };
 use std::mem;
+use std::snapshot::Snapshot;
 use std::sync::Wait;
 
 mod leave;
@@ -33,8 +35,8 @@ mod leave;
 pub enum Ticker {
     /// It is awake, and has the room in which it can fall asleep.
     Awake(Room),
-    /// It sleeps. It has been told once its waker is missing from the list.
-    Asleep(Sleeper),
+    /// It sleeps, with a waker of this name. It has been told once that is missing from the list.
+    Asleep(Sleeper, Snapshot<Waker<TaskName>>),
     /// It left the sleepers, and gave its room back.
     Left,
 }
@@ -60,8 +62,10 @@ pub enum Laid<W> {
 pub enum Slept {
     /// It fell asleep, and has to search once more.
     Anew,
-    /// It sleeps, and its waker will be called, or was called at once where it can't be kept.
+    /// It sleeps, and its waker will be called.
     Still,
+    /// That can't be kept: it was called at once.
+    Called,
     /// No copy of the waker could be had.
     NoMemory,
 }
@@ -120,12 +124,12 @@ impl Ticker {
         requires named { name.now ≡ name_given waker.now }
         requires copies { steps.old ≡ step.Tick (tick_step.CopyWaker (sleeping who.now name.now)) ∷ [] }
         ensures steps { steps.new ≡ slept who.now name.now result }
-        ensures asleep { result ≡ Slept.Anew → is_asleep self.new ≡ true }
+        ensures asleep { SleepsBy name.now self.new result }
         ensures stays { has_left self.new ≡ has_left self.old }
     {
         if sleeps_elsewhere(waker, realm) {
             call_at_once(waker, name, who, steps, unlocked);
-            return Slept::Still;
+            return Slept::Called;
         }
         let Some(copy) = SleeperWaker::of(waker, unlocked) else {
             steps.follow(Saw::NoMemory);
@@ -154,10 +158,10 @@ impl Ticker {
         requires named { name_of copy.value ≡ name.now }
         requires falls { steps.old ≡ step.Tick (tick_step.FallAsleep (sleeping who.now name.now)) ∷ [] }
         ensures steps { steps.new ≡ slept who.now name.now result }
-        ensures asleep { result ≡ Slept.Anew → is_asleep self.new ≡ true }
+        ensures asleep { SleepsBy name.now self.new result }
         ensures stays { has_left self.new ≡ has_left self.old }
     {
-        match self.lie_down(&rt, state, copy, unlocked) {
+        match self.lie_down(&rt, state, copy, name, unlocked) {
             Laid::Anew => {
                 steps.follow(Saw::Anew);
                 Slept::Anew
@@ -169,27 +173,29 @@ impl Ticker {
             Laid::Nowhere(waker) => {
                 steps.follow(Saw::Nowhere);
                 waker.wake_and_pay(rt, realm, who, steps, unlocked);
-                Slept::Still
+                Slept::Called
             }
         }
     }
 
-    /// Falls asleep with this waker, in one section of the sleepers' lock.
+    /// Falls asleep with this waker, of this name, in one section of the sleepers' lock.
     fn lie_down<W: Drop, R: Wait>(
         &mut self,
         rt: &R,
         state: &State<W>,
         waker: Foreign<SleeperWaker<W>>,
+        name: &Waker<TaskName>,
         unlocked: &mut Unlocked,
     ) -> Laid<W>
+        requires named { name_of waker.value ≡ name.now }
         ensures back { LaidBack waker.value result }
-        ensures lies { Lies (is_asleep self.new) result }
+        ensures lies { Lies name.now self.new result }
         ensures stays { has_left self.new ≡ has_left self.old }
     {
         let mut locked = state.sleepers.lock(rt, unlocked);
         let sleepers = locked.get();
         let (ticker, fell_asleep) = mem::replace(self, Ticker::Left).fall_asleep_in(
-            sleepers, waker,
+            sleepers, waker, name,
         );
         self.turn_into(ticker);
         state.store_fell_asleep(sleepers, fell_asleep)
@@ -219,7 +225,7 @@ impl Ticker {
         ensures { result ≡ is_asleep self.now }
     {
         match self {
-            Ticker::Asleep(_) => true,
+            Ticker::Asleep(_, _) => true,
             Ticker::Awake(_) | Ticker::Left => false,
         }
     }
@@ -232,39 +238,49 @@ impl Ticker {
         match mem::replace(self, ticker) {
             Ticker::Left => {}
             Ticker::Awake(_room) => unreachable!(),
-            Ticker::Asleep(_sleeper) => unreachable!(),
+            Ticker::Asleep(_sleeper, _) => unreachable!(),
         }
     }
 
-    /// The section of the sleepers' lock in which one falls asleep.
+    /// The section of the sleepers' lock in which one falls asleep with this waker, of this name.
     pub fn fall_asleep_in<W>(
         self,
         sleepers: &mut Sleepers<SleeperWaker<W>>,
         waker: Foreign<SleeperWaker<W>>,
+        name: &Waker<TaskName>,
     ) -> (Ticker, FellAsleep<W>)
+        requires named { name_of waker.value ≡ name.now }
         ensures sleeps { FallsAsleep self waker.value sleepers.old sleepers.new result.0 result.1 }
         ensures stays { has_left result.0 ≡ has_left self }
         ensures said { SaysFellAsleep sleepers.new result.1 }
-        ensures lies { Lies (is_asleep result.0) (laid_as result.1) }
+        ensures lies { Lies name.now result.0 (laid_as result.1) }
         ensures back { ComesBack waker.value result.1 }
     {
         match self {
             Ticker::Awake(room) => match sleepers.fall_asleep(room, waker.into_stored()) {
                 Ok(Started { sleeper, notified }) => (
-                    Ticker::Asleep(sleeper),
+                    Ticker::Asleep(sleeper, Snapshot::of(name)),
                     FellAsleep::Anew(NewFlag::of(notified)),
                 ),
                 Err(Unreserved { room, waker }) => {
                     (Ticker::Awake(room), FellAsleep::Nowhere(Foreign::of(waker)))
                 }
             },
-            Ticker::Asleep(sleeper) => {
-                let fell_asleep = match sleepers.fall_asleep_again(&sleeper, waker.into_stored()) {
-                    Again::Replaced(old) => FellAsleep::Already(Foreign::of(old)),
-                    Again::Notified(notified) => FellAsleep::Anew(NewFlag::of(notified)),
-                    Again::Unknown(waker) => FellAsleep::Nowhere(Foreign::of(waker)),
-                };
-                (Ticker::Asleep(sleeper), fell_asleep)
+            Ticker::Asleep(sleeper, before) => {
+                match sleepers.fall_asleep_again(&sleeper, waker.into_stored()) {
+                    Again::Replaced(old) => (
+                        Ticker::Asleep(sleeper, Snapshot::of(name)),
+                        FellAsleep::Already(Foreign::of(old)),
+                    ),
+                    Again::Notified(notified) => (
+                        Ticker::Asleep(sleeper, Snapshot::of(name)),
+                        FellAsleep::Anew(NewFlag::of(notified)),
+                    ),
+                    Again::Unknown(waker) => (
+                        Ticker::Asleep(sleeper, before),
+                        FellAsleep::Nowhere(Foreign::of(waker)),
+                    ),
+                }
             }
             Ticker::Left => (Ticker::Left, FellAsleep::Nowhere(waker)),
         }
@@ -281,7 +297,7 @@ impl Ticker {
         ensures said { IfSome result.1 (λ woken_up. woken_up.notified ≡ flag_of sleepers.new) }
     {
         match self {
-            Ticker::Asleep(sleeper) => {
+            Ticker::Asleep(sleeper, _) => {
                 let Stood {
                     room,
                     waker,

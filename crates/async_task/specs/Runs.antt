@@ -1,5 +1,5 @@
 -- How a run begins and ends.
-use Rattle.std.specs.Prelude.{◌≡◌, true, false, is_some, MatchOption, MatchResult, ⊤}
+use Rattle.std.specs.Prelude.{◌≡◌, Bool, true, false, is_some, MatchOption, MatchResult, ⊤}
 use Rattle.atomic_table.specs.declared.shared.Shared.{Shared}
 use Rattle.async_task.specs.declared.cell.Kept.{Kept}
 use Rattle.async_task.specs.declared.cell.turns.Remains.{Remains}
@@ -21,6 +21,12 @@ use Rattle.task_word.specs.declared.rule.View.{View}
 use Rattle.task_word.specs.Cell.{Slot}
 use Rattle.task_word.specs.Tokens.{Shows, ShowsSeat, Owes}
 
+-- whether a future is dropped since its task was closed, and not since nobody can reach that any more
+abbrev pub was_closed : {F T W : Type 0} → Closed F T W → Bool
+was_closed (Runnable closed) = true
+was_closed (Run closed) = true
+was_closed (Left remains) = false
+
 module _ {F T W K P : Type 0} where
   -- this is left to be done by the move that the end of a poll with no output makes, on the word of this board
   abbrev pub IsLeftBy : Shared (Slot F T (Kept W)) View K P → Remains F T W → Type 0
@@ -30,9 +36,10 @@ module _ {F T W K P : Type 0} where
       (λ t. Shows board moves.end_pending remains.owed t.claim))
       (λ awaiter. Owes moves.end_pending remains.owed)
 
-  -- the same, where the future is to be dropped first
+  -- the same, where the future is to be dropped first; another move follows exactly where the task was closed
   abbrev pub ClosesBy : Shared (Slot F T (Kept W)) View K P → Closed F T W → Type 0
-  ClosesBy board (Left remains) = IsLeftBy board remains × (is_some remains.owed.future ≡ true)
+  ClosesBy board (Left remains) =
+      IsLeftBy board remains × (is_some remains.owed.next ≡ false) × (is_some remains.owed.future ≡ true)
   ClosesBy board (Run closed) = (owed : Owed) × ShowsSeat board moves.end_pending owed closed.pass × (is_some owed.next ≡ true)
       × (is_some owed.future ≡ true)
   ClosesBy board (Runnable closed) = ⊥
@@ -51,7 +58,7 @@ module _ {F T S M W R K P : Type 0} where
       (dropped ≡ future) × IsLentBy waker closing.held × ClosesBy board closing.closed
 
 module _ {F T S M W R : Type 0} where
-  -- what a Runnable begins is a run or a closing call of its own task
+  -- what a Runnable begins is a run or a closing call of its own task, which is closed then
   abbrev pub BeginsAt : {wakes : Ghosts W} → Handle M → Started F T S M W R wakes → Type 0
   BeginsAt task (PollIt future running) = IsLentBy running.waker task
-  BeginsAt task (DropIt future closing) = closing.held ≡ task
+  BeginsAt task (DropIt future closing) = (closing.held ≡ task) × (was_closed closing.closed ≡ true)

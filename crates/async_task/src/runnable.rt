@@ -1,6 +1,6 @@
 ghost use Rattle.std.specs.Prelude.{◌≡◌, IfOk, MatchOption, None, Some};
 ghost use Rattle.async_task.specs.Rests.{was_woken_by};
-ghost use Rattle.async_task.specs.Runs.{BeginsAt};
+ghost use Rattle.async_task.specs.Runs.{BeginsAt, was_closed};
 
 use crate::cell::{
     Due, Held, Kept, Remains, Rest, RunnableToken, Scheduled, Site, Woken, pay_due, was_woken,
@@ -222,7 +222,19 @@ where
     W: Wake + Drop + 'static,
     R: Wait + Copy + Drop,
 {
-    /// Ends the call, once the future is dropped: who awaits the task is woken.
+    /// Whether the task was closed: else nobody can reach it any more.
+    #[inline(always)]
+    pub fn was_closed(&self) -> bool
+        ensures { result ≡ was_closed self.now.closed }
+    {
+        match &self.closed {
+            Closed::Runnable(_) | Closed::Run(_) => true,
+            Closed::Left(_) => false,
+        }
+    }
+
+    /// Ends the call, once the future is dropped: who awaits a closed task is woken, and who awaited one that nobody can reach is let
+    /// go.
     pub fn finish(self) {
         let Self { held, closed } = self;
         match closed {

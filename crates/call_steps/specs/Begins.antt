@@ -62,4 +62,3 @@ module _ {F T : Type 0} where
   -- a part of a call answers nothing
   abbrev pub part_begins : Part F → List (CallStep F T)
   part_begins (part.Append f) = step.Queue (queue_step.Append f) ∷ []
-  part_begins (part.Close f) = step.Move move.DropRunnable f ∷ []

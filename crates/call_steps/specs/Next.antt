@@ -43,7 +43,7 @@ use Rattle.call_steps.specs.Looking.{mark_in, missed}
 use Rattle.call_steps.specs.Owing.{answered, owed, released, told}
 use Rattle.call_steps.specs.Sleeping.{asleep, found, found_by_run, found_by_tick, found_nothing}
 use Rattle.call_steps.specs.Sleeping.{sleep_nowhere, tell, tell_and_return, took_turn}
-use Rattle.call_steps.specs.Stealing.{of_length, share, steal_on, stolen, walk_ends, walk_to}
+use Rattle.call_steps.specs.Stealing.{of_length, put_refused, share, steal_on, stolen, walk_ends, walk_to}
 
 module _ {F T : Type 0} where
   -- a move of this future's task
@@ -168,7 +168,7 @@ module _ {F T : Type 0} where
   next_steal (steal_step.Take s more) (saw.StealEnds at) = stolen at s
   next_steal (steal_step.Take s more) (saw.Found f) = step.Steal (steal_step.Put s more f) ∷ []
   next_steal (steal_step.Put s more f) (saw.Fits at) = steal_on more at s
-  next_steal (steal_step.Put s more f) (saw.Refused at) = step.Queue (queue_step.Append f) ∷ stolen at s
+  next_steal (steal_step.Put s more f) (saw.Refused at) = put_refused s.then at s.poll f
   next_steal _ _ = []
 
   abbrev pub next_run : RunStep F T → Saw F T → List (CallStep F T)

@@ -1,6 +1,7 @@
 -- What a running call sees, and how that leaves what it has still to do.
-use Rattle.std.specs.Prelude.{◌≡◌, Bool, true, false, Option, Some, None, List, ◌∷◌}
+use Rattle.std.specs.Prelude.{◌≡◌, ℕ, Bool, true, false, Option, Some, None, List, ◌∷◌}
 use Rattle.task_moves.specs.declared.moves.owed.FutureDebt.{FutureDebt}
+use Rattle.task_moves.specs.declared.moves.owed.FutureDebt.TheVariants.{DropFuture}
 use Rattle.task_moves.specs.declared.moves.owed.Move.{Move}
 use Rattle.task_moves.specs.declared.moves.owed.Owed.{Owed}
 use Rattle.task_moves.specs.declared.schedule_info.ScheduleInfo.{ScheduleInfo}
@@ -52,9 +53,18 @@ module _ {F T : Type 0} where
   abbrev pub moved : Bool → Saw F T
   moved is_due = saw.Moved false (owes is_due)
 
+  -- a waker that came out of the table was called, of the task of this future, and so many are left; all that this owed was
+  -- paid but a Runnable, where that is due
+  abbrev pub woke : F → Bool → ℕ → Saw F T
+  woke f is_due left = saw.Wakes f false (owes is_due) left
+
   -- a task has moved, and this is owed to its future, and then this move follows
   abbrev pub futured : FutureDebt → Option Move → Saw F T
   futured debt next = saw.Moved true (owes_future debt next)
+
+  -- a poll has ended of a task that nobody can reach any more: its future is to be dropped, and then all that its cell still has
+  abbrev pub forgotten : Saw F T
+  forgotten = saw.Moved true (record (owes_future DropFuture None) { empty_cell = true })
 
   -- the waker that was handed out is called first
   abbrev pub called : Option (Sleeping F T) → List (CallStep F T) → List (CallStep F T)

@@ -1,6 +1,7 @@
 -- How a steal goes on, and a walk.
-use Rattle.std.specs.Prelude.{ℕ, zero, suc, ◌+◌, ◌/◌, nat_lt, cond, List, [], ◌∷◌}
+use Rattle.std.specs.Prelude.{ℕ, zero, suc, ◌+◌, ◌/◌, nat_lt, cond, Bool, true, false, List, [], ◌∷◌}
 use Rattle.executor_parts.specs.declared.mark.Mark.TheVariants.{Plain}
+use Rattle.task_moves.specs.declared.moves.owed.Move.TheVariants as move
 use Rattle.call_steps.specs.declared.names.RunPoll.{RunPoll}
 use Rattle.call_steps.specs.declared.names.Source.TheVariants.{Common, Own}
 use Rattle.call_steps.specs.declared.names.Steal.{Steal}
@@ -18,6 +19,13 @@ use Rattle.call_steps.specs.Sleeping.{asleep, found_by_run, run_found}
 -- of so many about half, at most as many as places are free
 abbrev pub share : ℕ → ℕ → ℕ
 share n free = cond (nat_lt ((n + 1) / 2) free) ((n + 1) / 2) free
+
+-- a steal goes on with a walk
+abbrev pub is_walk : {F : Type 0} → Then F → Bool
+is_walk (then.Walk left) = true
+is_walk (then.Found f) = false
+is_walk (then.StealPlain f) = false
+is_walk (then.Run f) = false
 
 module _ {F T : Type 0} where
   -- a steal has ended
@@ -40,6 +48,13 @@ module _ {F T : Type 0} where
   abbrev pub steal_on : ℕ → Searcher → Steal F T → List (CallStep F T)
   steal_on zero at s = stolen at s
   steal_on (suc more) at s = step.Steal (steal_step.Take s more) ∷ []
+
+  -- a full own queue gave it back: the steal ends, and it is dropped once no lock is held. A walk ends with it, and the run
+  -- searches anew
+  abbrev pub put_refused : Then F → Searcher → RunPoll F T → F → List (CallStep F T)
+  put_refused (then.Walk left) at x f =
+      step.List list_step.UnlockRead ∷ step.Move move.DropRunnable f ∷ step.Tick (tick_step.Search (asleep x)) ∷ []
+  put_refused t at x f = step.Move move.DropRunnable f ∷ stolen_as t at x
 
   -- the walk has no queue to go to any more
   abbrev pub walk_ends : RunPoll F T → List (CallStep F T)

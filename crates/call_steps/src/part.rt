@@ -3,6 +3,4 @@
 pub enum Part<F> {
     /// A Runnable of this future is handed to the executor's queue.
     Append(F),
-    /// A Runnable of this future is closed.
-    Close(F),
 }

@@ -7,7 +7,7 @@ ghost use Rattle.call_steps.specs.declared.step.CallStep.TheVariants as step;
 ghost use Rattle.call_steps.specs.declared.step.handle.HandleStep.TheVariants as handle_step;
 ghost use Rattle.call_steps.specs.declared.step.handle.WakerStep.TheVariants as waker_step;
 ghost use Rattle.call_steps.specs.Fitting.{Fits};
-ghost use Rattle.call_steps.specs.Seeing.{due, futured, moved, seen};
+ghost use Rattle.call_steps.specs.Seeing.{due, forgotten, futured, infos, moved, seen, woke};
 ghost use Rattle.call_steps.specs.Todo.{below, following, top};
 
 use crate::call::Call;
@@ -37,14 +37,18 @@ impl<F: Drop, T: Drop, B: Drop> Call<F, T, B> {
         requires { Fits (top self.old) (moved is_due) }
         ensures { self.new ≡ following (moved is_due) self.old }
     {
-        if is_due {
-            let info = ScheduleInfo {
-                woken_while_running: false,
-            };
-            self.follow(Saw::Moved(false, owing(Some(info), None, None, None)));
-        } else {
-            self.follow(Saw::Moved(false, owing(None, None, None, None)));
-        }
+        let owed = owing(scheduled(is_due), None, None, None);
+        self.follow(Saw::Moved(false, owed));
+    }
+
+    /// A waker was called that came out of the table, of this future's task, and all that this owed was paid in that, but for its
+    /// Runnable, where that is due; so many wakers are left.
+    pub fn see_woken(&mut self, woken: F, is_due: bool, left: u64)
+        requires { Fits (top self.old) (woke woken is_due left) }
+        ensures { self.new ≡ following (woke woken is_due left) self.old }
+    {
+        let owed = owing(scheduled(is_due), None, None, None);
+        self.follow(Saw::Wakes(woken, false, owed, left));
     }
 
     /// A task has moved: this is owed to its future, and this move follows, where one does. All else was paid in that.
@@ -54,6 +58,18 @@ impl<F: Drop, T: Drop, B: Drop> Call<F, T, B> {
         ensures { self.new ≡ following (futured debt next) self.old }
     {
         self.follow(Saw::Moved(true, owing(None, Some(debt), None, next)));
+    }
+
+    /// A poll has ended of a task that nobody can reach any more: its future is to be dropped, and then all that its cell still has.
+    pub fn see_forgotten(&mut self)
+        requires { Fits (top self.old) forgotten }
+        ensures { self.new ≡ following forgotten self.old }
+    {
+        let owed = Owed {
+            empty_cell: true,
+            ..owing(None, Some(FutureDebt::DropFuture), None, None)
+        };
+        self.follow(Saw::Moved(true, owed));
     }
 
     /// A Runnable of the first future was closed. The second awaited that one, and was woken: its Runnable is due.
@@ -85,6 +101,19 @@ impl<F: Drop, T: Drop, B: Drop> Call<F, T, B> {
         self.follow(Saw::Awaiter(false, None));
         self.follow(Saw::Awaiter(false, Some(Waker::Task(awaiter))));
     }
+}
+
+/// How a task is to be scheduled whose Runnable is due: it wasn't woken while it was polled.
+#[inline(always)]
+fn scheduled(is_due: bool) -> Option<ScheduleInfo>
+    ensures { result ≡ infos is_due }
+{
+    if is_due {
+        return Some(ScheduleInfo {
+            woken_while_running: false,
+        });
+    }
+    None
 }
 
 /// What a task owes that has moved.

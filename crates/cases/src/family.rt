@@ -83,6 +83,7 @@ impl Family {
                 "refused-calls.txt",
                 "refused-static.txt",
                 "nested-calls.txt",
+                "worked.txt",
             ],
             Family::Executor | Family::Local => &[
                 "calls.txt",

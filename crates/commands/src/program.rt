@@ -60,20 +60,3 @@ where
         None => Err(Fault::Usage),
     }
 }
-
-#[cfg(test)]
-mod faults;
-#[cfg(test)]
-mod job_tests;
-#[cfg(test)]
-mod refusal_scripts;
-#[cfg(test)]
-mod run_scripts;
-#[cfg(test)]
-mod scripts;
-#[cfg(test)]
-mod tests;
-#[cfg(test)]
-mod tick_scripts;
-#[cfg(test)]
-mod urgent_scripts;

@@ -1,6 +1,8 @@
 //! An output that borrows.
-use async_executor::Executor;
-use async_task::{Awaiter, Future, Nobody, Poll, Realm, Wake};
+use async_executor::{ExRealm, Executor};
+use async_task::{Awaiter, Future, Nobody, Poll, Wake};
+use std::alloc::Global;
+use std::sync::Wait;
 use std::test::Fail;
 
 /// A text that is borrowed.
@@ -19,19 +21,29 @@ impl<K: Wake> Future<K> for Says {
     }
 }
 
-#[test]
-fn a_borrowed_text_outlives_its_executor(rt: HostRuntime) -> Result<(), Fail> {
-    let (alloc, realm) = (rt.alloc(), Realm::leak(rt, rt.alloc())?);
-    let executor = Executor::<Says, Text, Nobody, HostRuntime>::new(rt, alloc, realm, 1)?;
+/// Whether the text is there once its executor is gone.
+fn outlives<R: Wait + Copy + Drop + 'static>(
+    rt: R,
+    alloc: Global,
+    realm: &'static ExRealm<Text, Nobody, R>,
+) -> bool {
+    let Ok(executor) = Executor::new(rt, alloc, realm, 1) else {
+        return false;
+    };
     let Ok(mut task) = executor.spawn(Says(Text("hello"))) else {
-        panic!(rt; "refused");
+        return false;
     };
     let has_ticked = executor.try_tick();
     drop(executor);
-    let is_given = match task.poll(&Awaiter::Outside(Nobody)) {
-        Poll::Ready(Ok(Text(text))) => text == "hello",
+    match task.poll(&Awaiter::Outside(Nobody)) {
+        Poll::Ready(Ok(Text(text))) => has_ticked & (text == "hello"),
         _ => false,
-    };
-    assert!(rt; has_ticked & is_given);
+    }
+}
+
+#[test]
+fn a_borrowed_text_outlives_its_executor(rt: HostRuntime) -> Result<(), Fail> {
+    let realm = ExRealm::<Text, Nobody, HostRuntime>::leak(rt, rt.alloc())?;
+    assert!(rt; outlives(rt, rt.alloc(), realm));
     Ok(())
 }

@@ -10,15 +10,13 @@ mod locks;
 #[cfg(test)]
 mod many;
 #[cfg(test)]
-mod marks;
-#[cfg(test)]
 mod parts;
-#[cfg(test)]
-mod rows;
 #[cfg(test)]
 mod stage;
 #[cfg(test)]
 mod texts;
+#[cfg(test)]
+mod theatre;
 #[cfg(test)]
 mod threads;
 

@@ -1,14 +1,10 @@
 //! Tests of executors of one thread, by what these give their users.
 
 #[cfg(test)]
+mod alone;
+#[cfg(test)]
 mod door;
-#[cfg(test)]
-mod many;
 mod moving;
-#[cfg(test)]
-mod runs;
-#[cfg(test)]
-mod texts;
 #[cfg(test)]
 mod threads;
 

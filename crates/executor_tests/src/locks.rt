@@ -1,6 +1,6 @@
 //! Code of a user runs while no lock of the executor is held: futures and wakers that wait, in each of their calls, until
 //! another thread has taken each lock. A lock that is held lets the wait come to its bound.
-use crate::parts::{Job, TestRealm, Work};
+use crate::parts::Work;
 use crate::stage::{End, MOST_TURNS, OWN, Planned, Stage};
 use std::process::Abort;
 use std::sync::Wait;
@@ -41,12 +41,13 @@ impl Asks {
 }
 
 impl<F: Planned<R>, R: Abort + Wait + Copy + Drop + 'static> Stage<F, R> {
-    /// Takes each lock of the executor when it is asked: the table's, the sleepers', and that of the runs' queues.
-    fn take_locks(&self) {
+    /// Takes each lock of the executor when it is asked: the table's, the sleepers', and that of the runs' queues. Says whether it was
+    /// told to stop.
+    pub fn takes_locks(&self) -> bool {
         let asks = &self.notes.asks;
         for _ in 0..MOST_TURNS {
             if !asks.are_on() {
-                return;
+                return true;
             }
             let asked = asks.asked.load(SeqCst);
             if asks.answered.load(SeqCst) < asked {
@@ -57,10 +58,11 @@ impl<F: Planned<R>, R: Abort + Wait + Copy + Drop + 'static> Stage<F, R> {
             }
             thread::yield_now();
         }
+        false
     }
 
     /// Ticks when a poll asks, and then lets that poll go on. Says whether it ran a future.
-    fn tick_when_asked(&self) -> bool {
+    pub fn tick_when_asked(&self) -> bool {
         let asks = &self.notes.asks;
         for _ in 0..MOST_TURNS {
             if asks.asked.load(SeqCst) > 0 {
@@ -75,7 +77,7 @@ impl<F: Planned<R>, R: Abort + Wait + Copy + Drop + 'static> Stage<F, R> {
 
     /// Spawns a future that asks in its poll, and one that is ready and asks nothing, and says whether one tick is all that is
     /// left for this thread.
-    fn tick_the_first_of_two(&self) -> bool {
+    pub fn tick_the_first_of_two(&self) -> bool {
         self.notes.asks.is_on.store(true, SeqCst);
         let Some(task) = self.spawn(self.job(0, Work::Pend)) else {
             return false;
@@ -98,8 +100,20 @@ impl<F: Planned<R>, R: Abort + Wait + Copy + Drop + 'static> Stage<F, R> {
         lies & is_ready & self.try_tick()
     }
 
+    /// Asks from now on.
+    pub fn ask_from_now(&self) -> bool {
+        self.notes.asks.is_on.store(true, SeqCst);
+        true
+    }
+
+    /// Whether the other thread was asked so often at least, and took all locks each time.
+    pub fn has_asked(&self, least: u64) -> bool {
+        let asks = &self.notes.asks;
+        (asks.missed.load(SeqCst) == 0) & (asks.asked.load(SeqCst) >= least)
+    }
+
     /// Makes all calls that lead to code of a user.
-    fn ask_all(&self) -> bool {
+    pub fn ask_all(&self) -> bool {
         let has_ticked = self.tick_and_ask();
         let mut run = self.run_of(self.job(1, Work::Pend), 0);
         let is_well = has_ticked & (self.poll(&mut run) == End::Pending);
@@ -107,33 +121,4 @@ impl<F: Planned<R>, R: Abort + Wait + Copy + Drop + 'static> Stage<F, R> {
         self.notes.asks.is_on.store(false, SeqCst);
         is_well
     }
-}
-
-/// No lock is held in a poll, a wake, a copy or a drop.
-#[test]
-fn code_of_a_user_runs_under_no_lock(rt: HostRuntime) {
-    let stage = Stage::<Job<_>, _>::new(rt, rt.alloc(), TestRealm::leak(rt, rt.alloc()), 4);
-    let asks = &stage.notes.asks;
-    asks.is_on.store(true, SeqCst);
-    let (_, is_well) = thread::join(&rt, || stage.take_locks(), || stage.ask_all());
-    let (missed, asked) = (asks.missed.load(SeqCst), asks.asked.load(SeqCst));
-    assert!(rt;
-        is_well & (missed == 0) & (asked >= 12),
-        "{missed} of {asked}"
-    );
-}
-
-/// A future has another of its executor run in its poll, which waits for that. No future can hold its own executor, so a second
-/// thread makes the call.
-#[test]
-fn a_future_has_another_run_in_its_poll(rt: HostRuntime) {
-    let stage = Stage::<Job<_>, _>::new(rt, rt.alloc(), TestRealm::leak(rt, rt.alloc()), 2);
-    let (inner, outer) = thread::join(
-        &rt,
-        || stage.tick_when_asked(),
-        || stage.tick_the_first_of_two(),
-    );
-    let missed = stage.notes.asks.missed.load(SeqCst);
-    let polls = stage.notes.of(0).polls.load(SeqCst);
-    assert!(rt; inner & outer & (missed == 0) & (polls == 1));
 }

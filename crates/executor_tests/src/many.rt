@@ -1,12 +1,14 @@
 //! Many of a kind, one after the other.
 use crate::parts::{Bell, Gift, Job, TestRealm, TestWaker, Work};
-use crate::stage::{Planned, Stage};
+use crate::stage::{End, Planned, Stage};
+use crate::threads::outputs;
 use async_executor::{ExStoredTask, Handles, SpawnError};
 use async_task::{Future, Poll, Returning};
 use std::mem;
 use std::process::Abort;
 use std::sync::Wait;
 use std::sync::atomic::Ordering::SeqCst;
+use std::test::Fail;
 
 /// Awaits handles in order, and gives the number of outputs that came as numbered from 0 on.
 #[derive(Drop)]
@@ -98,28 +100,7 @@ impl<F: Planned<R>, R: Abort + Wait + Copy + Drop + 'static> Stage<F, R> {
         }
         ended
     }
-}
 
-/// A spawn of many accepts as many as there are places, and hands the next future back. None is no refusal. A run takes 200 tasks
-/// at each poll, so that it is ready after 250 polls that are pending. Each future is polled once.
-#[test]
-fn a_run_awaits_fifty_thousand_handles_in_order(rt: HostRuntime) {
-    let stage = Stage::<Job<_>, _>::new(rt, rt.alloc(), TestRealm::leak(rt, rt.alloc()), 50_000);
-    let mut are_well = true;
-    for (count, refused, came) in [(0, None, (0, 0)), (50_001, Some(50_000), (50_000, 250))] {
-        let (future, was_refused) = stage.in_order(count, true);
-        are_well = are_well
-            & (was_refused == refused)
-            & (stage.run_to_its_end(future, 999) == came);
-    }
-    for each in &stage.notes.each {
-        let is_well = (each.polls.load(SeqCst), each.drops.load(SeqCst)) == (1, 1);
-        are_well = are_well & is_well & (each.lost.load(SeqCst) == 1);
-    }
-    assert!(rt; are_well & stage.is_empty());
-}
-
-impl<F: Planned<R>, R: Abort + Wait + Copy + Drop + 'static> Stage<F, R> {
     /// Ticks until nothing is due, and says how many futures were dropped so far.
     fn dropped(&self) -> u64 {
         for _ in 0..100 {
@@ -129,29 +110,42 @@ impl<F: Planned<R>, R: Abort + Wait + Copy + Drop + 'static> Stage<F, R> {
         }
         self.notes.dropped.load(SeqCst)
     }
-}
 
-/// Handles that are left are dropped, which cancels their tasks; one that is let go at rest cancels its task once another
-/// future is handed in.
-#[test]
-fn what_is_let_go_is_cancelled(rt: HostRuntime) {
-    let stage = Stage::<Job<_>, _>::new(rt, rt.alloc(), TestRealm::leak(rt, rt.alloc()), 8);
-    let (future, _) = stage.in_order(3, false);
-    let is_left = stage.dropped() == 0;
-    drop(future);
-    let is_dropped = stage.dropped() == 3;
-    drop(stage.spawn(stage.job(3, Work::Pend)));
-    let is_let_go = stage.dropped() == 3;
-    let last = stage.spawn(stage.job(4, Work::Pend));
-    let is_closed = stage.dropped() == 4;
-    if let Some(last) = last {
-        stage.drop_handle(last);
+    /// One that is let go at rest cancels its task once another future is handed in: three were dropped before.
+    fn cancels_what_is_let_go(&self) -> bool {
+        drop(self.spawn(self.job(3, Work::Pend)));
+        let is_let_go = self.dropped() == 3;
+        let last = self.spawn(self.job(4, Work::Pend));
+        let is_closed = self.dropped() == 4;
+        if let Some(last) = last {
+            self.drop_handle(last);
+        }
+        is_let_go & is_closed & (self.dropped() == 5) & self.is_empty()
     }
-    let is_over = (stage.dropped() == 5) & stage.is_empty();
-    assert!(rt; is_left & is_dropped & is_let_go & is_closed & is_over);
+
+    /// A tick is told by its own executor alone, and by no other of the realm.
+    pub fn tells_its_own(&self) -> bool {
+        let (other, mut tick) = (self.another(1), self.tick());
+        let lies = self.poll(&mut tick) == End::Pending;
+        let has_run = other.spawn_detached(other.ready(0)) & other.try_tick();
+        let is_untold = self.rings() == 0;
+        let is_told = self.spawn_detached(self.ready(0)) & (self.rings() == 1);
+        lies & has_run & is_untold & is_told & (self.poll(&mut tick) == End::Ready)
+    }
+
+    /// What a realm takes of memory for an executor's task is used again once that executor is gone: each of a thousand
+    /// executors, one after the other, has its task in the place of the first one's.
+    pub fn uses_one_place(&self) -> bool {
+        let first = place_of_a_short_life(self.another(1));
+        let mut is_the_same = first.is_some();
+        for _ in 0..1_000 {
+            is_the_same = is_the_same & (place_of_a_short_life(self.another(1)) == first);
+        }
+        is_the_same
+    }
 }
 
-/// Makes an executor, spawns a future on it, and drops both: the text of where the task lay.
+/// Spawns a future on an executor, and drops both: the text of where the task lay.
 fn place_of_a_short_life<F, R>(stage: Stage<F, R>) -> Option<String>
 where
     F: Planned<R>,
@@ -163,18 +157,33 @@ where
     text
 }
 
-/// What a realm takes of memory for an executor's task is used again once that executor is gone: each of a thousand
-/// executors, one after the other, has its task in the place of the first one's.
+/// A spawn of many accepts as many as there are places, and hands the next future back. None is no refusal. A run takes 200 tasks
+/// at each poll, so that it is ready after 250 polls that are pending. Each future is polled once.
 #[test]
-fn a_thousand_executors_use_the_place_of_the_first(rt: HostRuntime) {
-    let Ok(realm) = TestRealm::leak(rt, rt.alloc()) else {
-        panic!(rt; "no realm");
-    };
-    let new = || Stage::<Job<_>, _>::new(rt, rt.alloc(), Ok(realm), 1);
-    let first = place_of_a_short_life(new());
-    let mut is_the_same = first.is_some();
-    for _ in 0..1_000 {
-        is_the_same = is_the_same & (place_of_a_short_life(new()) == first);
+fn a_run_awaits_fifty_thousand_handles_in_order(rt: HostRuntime) -> Result<(), Fail> {
+    let realm = TestRealm::leak(rt, rt.alloc())?;
+    let stage = Stage::<Job<_>, _>::new(rt, rt.alloc(), realm, false, 50_000);
+    let mut are_well = true;
+    for (count, refused, came) in [(0, None, (0, 0)), (50_001, Some(50_000), (50_000, 250))] {
+        let (future, was_refused) = stage.in_order(count, true);
+        are_well = are_well
+            & (was_refused == refused)
+            & (stage.run_to_its_end(future, 999) == came);
     }
-    assert!(rt; is_the_same);
+    let made = outputs(stage.notes.each.as_slice(), Some(1));
+    assert!(rt; are_well & (made == Some(50_000)) & stage.is_empty());
+    Ok(())
+}
+
+/// Handles that are left are dropped, which cancels their tasks.
+#[test]
+fn what_is_let_go_is_cancelled(rt: HostRuntime) -> Result<(), Fail> {
+    let realm = TestRealm::leak(rt, rt.alloc())?;
+    let stage = Stage::<Job<_>, _>::new(rt, rt.alloc(), realm, false, 8);
+    let (future, _) = stage.in_order(3, false);
+    let is_left = stage.dropped() == 0;
+    drop(future);
+    let is_dropped = stage.dropped() == 3;
+    assert!(rt; is_left & is_dropped & stage.cancels_what_is_let_go());
+    Ok(())
 }

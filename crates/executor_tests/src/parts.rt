@@ -36,8 +36,6 @@ pub struct Notes {
     pub given: AtomicU64,
     /// How often an outside waker was called.
     pub rings: AtomicU64,
-    /// How many copies of outside wakers may still be made.
-    pub copies: AtomicU64,
     /// What is asked of another thread by each poll and drop of a future that isn't a run's, and by each call, copy and drop of an
     /// outside waker.
     pub asks: Asks,
@@ -56,7 +54,6 @@ impl Notes {
             dropped: AtomicU64::new(0),
             given: AtomicU64::new(0),
             rings: AtomicU64::new(0),
-            copies: AtomicU64::new(u64::MAX),
             asks: Asks::default(),
         };
         Ok(Arc::new(alloc, notes)?)
@@ -144,11 +141,6 @@ impl Wake for Bell {
 
     fn clone(&self) -> Option<Self> {
         self.notes.asks.ask(0);
-        let left = self.notes.copies.load(SeqCst);
-        if left == 0 {
-            return None;
-        }
-        self.notes.copies.store(left - 1, SeqCst);
         match Arc::try_clone(&self.notes) {
             Ok(notes) => Some(Bell { notes }),
             Err(_) => None,

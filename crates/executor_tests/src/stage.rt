@@ -1,12 +1,11 @@
 //! An executor with what is noted of its futures, and calls on it whose answers are plain values, so that what calls these is
-//! cheap to prove. No request for memory is refused here, but for copies of wakers.
-ghost use Rattle.std.specs.Prelude.{◌<◌};
+//! cheap to prove. No request for memory is refused here.
 
 use crate::parts::{
     Bell, Gift, Job, Notes, TestExecutor, TestRealm, TestStatic, TestWaker, Work, drop_stored,
 };
-use async_executor::{ExStoredTask, Mark, Run, RunError, Tick};
-use async_task::{Awaiter, Future, NoMemory, Poll, RealmError, Returning};
+use async_executor::{ExStoredTask, Run, RunError, Tick};
+use async_task::{Awaiter, Future, NoMemory, Poll, Returning};
 use std::alloc::Global;
 use std::process::Abort;
 use std::sync::atomic::AtomicU64;
@@ -40,14 +39,10 @@ impl<R: Wait + Copy + Drop + 'static> Planned<R> for Job<R> {
 #[derive(Clone, Copy, PartialEq)]
 pub enum End {
     Pending,
-    /// The output of this number.
-    Gives(u64),
     /// A tick polled a future.
     Ready,
-    /// No copy of the waker could be had.
-    NoMemory,
-    /// The run gave its output before.
-    Finished,
+    /// The run has its output, or was refused something, as the tick was.
+    Over,
 }
 
 /// A tick or run.
@@ -81,38 +76,21 @@ pub struct Stage<F: Drop, R: Wait + Copy + Drop + 'static> {
 }
 
 impl<F: Planned<R>, R: Abort + Wait + Copy + Drop + 'static> Stage<F, R> {
-    /// An executor of so many places. As many futures are noted one by one, by their names from 0 on.
+    /// An executor of so many places, one at least, static or not. As many futures are noted one by one, by their names from 0 on.
     pub fn new(
         rt: R,
         alloc: Global,
-        realm: Result<&'static TestRealm<R>, RealmError>,
-        limit: usize,
-    ) -> Stage<F, R>
-        requires { 0 < limit }
-    {
-        Stage::of_kind(rt, alloc, realm, false, limit)
-    }
-
-    /// The same, static or not.
-    pub fn of_kind(
-        rt: R,
-        alloc: Global,
-        realm: Result<&'static TestRealm<R>, RealmError>,
+        realm: &'static TestRealm<R>,
         is_static: bool,
         limit: usize,
-    ) -> Stage<F, R>
-        requires { 0 < limit }
-    {
-        let Ok(realm) = realm else {
-            panic!(rt; "no realm");
-        };
+    ) -> Stage<F, R> {
         let executor = if is_static {
-            let Ok(executor) = TestStatic::new(rt, alloc, realm, limit) else {
+            let Ok(executor) = TestStatic::new(rt, alloc, realm, limit.max(1)) else {
                 panic!(rt; "memory");
             };
             TestKind::Static(executor)
         } else {
-            let Ok(executor) = TestExecutor::new(rt, alloc, realm, limit) else {
+            let Ok(executor) = TestExecutor::new(rt, alloc, realm, limit.max(1)) else {
                 panic!(rt; "memory");
             };
             TestKind::Owned(executor)
@@ -125,6 +103,11 @@ impl<F: Planned<R>, R: Abort + Wait + Copy + Drop + 'static> Stage<F, R> {
             executor,
             accepted: AtomicU64::new(0),
         }
+    }
+
+    /// Another of its realm, which isn't static.
+    pub fn another(&self, limit: usize) -> Stage<F, R> {
+        Stage::new(self.rt, self.alloc, self.realm, false, limit)
     }
 
     /// The executor, which isn't static.
@@ -187,14 +170,9 @@ impl<F: Planned<R>, R: Abort + Wait + Copy + Drop + 'static> Stage<F, R> {
 
     /// Spawns a future and gives its handle up, and says whether it was accepted.
     pub fn spawn_detached(&self, future: F) -> bool {
-        self.spawn_to_run(future, Mark::Plain)
-    }
-
-    /// The same, of either mark.
-    pub fn spawn_to_run(&self, future: F, mark: Mark) -> bool {
         let accepted = match &self.executor {
-            TestKind::Owned(executor) => executor.spawn_marked(future, mark),
-            TestKind::Static(executor) => executor.spawn_marked(future, mark),
+            TestKind::Owned(executor) => executor.spawn(future),
+            TestKind::Static(executor) => executor.spawn(future),
         };
         match accepted {
             Ok(task) => {
@@ -203,6 +181,13 @@ impl<F: Planned<R>, R: Abort + Wait + Copy + Drop + 'static> Stage<F, R> {
                 true
             }
             Err(_) => false,
+        }
+    }
+
+    /// Spawns futures of these names that are ready, and gives their handles up.
+    pub fn spawn_ready(&self, from: u64, end: u64) {
+        for name in from..end {
+            self.spawn_detached(self.ready(name));
         }
     }
 
@@ -252,6 +237,19 @@ impl<F: Planned<R>, R: Abort + Wait + Copy + Drop + 'static> Stage<F, R> {
         }
     }
 
+    /// Polls it so often.
+    pub fn poll_often(&self, seat: &mut Seat<'_, F, R>, times: u64) {
+        for _ in 0..times {
+            self.poll(seat);
+        }
+    }
+
+    /// Whether there is no memory for an executor with more places than memory can have.
+    pub fn refuses_too_many_places(&self) -> bool {
+        let made = TestExecutor::<F, R>::new(self.rt, self.alloc, self.realm, usize::MAX);
+        matches!(made, Err(_))
+    }
+
     /// How often outside wakers were called so far.
     pub fn rings(&self) -> u64 {
         self.notes.rings.load(SeqCst)
@@ -262,15 +260,13 @@ fn end_of_tick(polled: Poll<Result<(), NoMemory>>) -> End {
     match polled {
         Poll::Pending => End::Pending,
         Poll::Ready(Ok(())) => End::Ready,
-        Poll::Ready(Err(NoMemory)) => End::NoMemory,
+        Poll::Ready(Err(NoMemory)) => End::Over,
     }
 }
 
 fn end_of_run(polled: Poll<Result<Gift, RunError>>) -> End {
     match polled {
         Poll::Pending => End::Pending,
-        Poll::Ready(Ok(gift)) => End::Gives(gift.number()),
-        Poll::Ready(Err(RunError::NoMemory)) => End::NoMemory,
-        Poll::Ready(Err(RunError::Finished)) => End::Finished,
+        Poll::Ready(_) => End::Over,
     }
 }

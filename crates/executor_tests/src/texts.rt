@@ -1,5 +1,5 @@
 //! Texts of an executor and of errors, and what may move to other threads or be shared with them.
-use crate::parts::{Job, TestExecutor, TestRealm, TestTask, Work};
+use crate::parts::{Job, TestRealm, Work};
 use crate::stage::{MOST_TURNS, Planned, Stage, TestKind};
 use async_executor::{NoMemory, RunError, SpawnError};
 use std::alloc::Global;
@@ -8,6 +8,7 @@ use std::process::Abort;
 use std::sync::Wait;
 use std::sync::atomic::AtomicBool;
 use std::sync::atomic::Ordering::SeqCst;
+use std::test::Fail;
 use std::thread;
 
 /// Whether this is its text of Debug.
@@ -23,26 +24,22 @@ fn is_shown<X: Debug>(alloc: Global, value: &X, want: &str) -> bool {
 /// global queue to itself, and at each 64th as many as its own queue of 512 places then has room for. A static executor's table
 /// has no wakers to be counted.
 #[test]
-fn the_text_of_an_executor(rt: HostRuntime) {
-    let stage = Stage::<Job<_>, _>::new(rt, rt.alloc(), TestRealm::leak(rt, rt.alloc()), 1000);
+fn the_text_of_an_executor(rt: HostRuntime) -> Result<(), Fail> {
+    let realm = TestRealm::leak(rt, rt.alloc())?;
+    let stage = Stage::<Job<_>, _>::new(rt, rt.alloc(), realm, false, 1000);
     stage.spawn_detached(stage.ready(0));
     let fresh = "Executor { active: 1, global_tasks: 1, local_runners: [], sleepers: 0 }";
     let is_shown_fresh = is_shown(rt.alloc(), stage.owned(), fresh);
-    for name in 1..1000 {
-        stage.spawn_detached(stage.ready(name));
-    }
+    stage.spawn_ready(1, 1000);
     let mut run = stage.run(Work::Pend, 0);
     stage.poll(&mut run);
     let busy = "Executor { active: 800, global_tasks: 296, local_runners: [504], sleepers: 0 }";
     let is_shown_busy = is_shown(rt.alloc(), stage.owned(), busy);
-    for _ in 0..5 {
-        stage.poll(&mut run);
-    }
+    stage.poll_often(&mut run, 5);
     let idle = "Executor { active: 0, global_tasks: 0, local_runners: [0], sleepers: 1 }";
     let is_shown_idle = is_shown(rt.alloc(), stage.owned(), idle);
     drop(run);
-    let realm = TestRealm::leak(rt, rt.alloc());
-    let fixed = Stage::<Job<_>, _>::of_kind(rt, rt.alloc(), realm, true, 1);
+    let fixed = Stage::<Job<_>, _>::new(rt, rt.alloc(), realm, true, 1);
     fixed.spawn_detached(fixed.ready(0));
     let lasting = "StaticExecutor { active: 0, global_tasks: 1, local_runners: [], sleepers: 0 }";
     let is_shown_lasting = match &fixed.executor {
@@ -50,6 +47,7 @@ fn the_text_of_an_executor(rt: HostRuntime) {
         TestKind::Owned(_) => false,
     };
     assert!(rt; is_shown_fresh & is_shown_busy & is_shown_idle & is_shown_lasting);
+    Ok(())
 }
 
 /// Uses each lock of the executor again and again until it is told to stop, and says whether it was.
@@ -94,8 +92,9 @@ fn sees_each_lock<X: Debug>(alloc: Global, value: &X, is_over: &AtomicBool) -> b
 
 /// The text waits for no lock: `<locked>` stands for what is under one that isn't free.
 #[test]
-fn the_text_of_an_executor_has_locked_for_what_is_in_use(rt: HostRuntime) {
-    let stage = Stage::<Job<_>, _>::new(rt, rt.alloc(), TestRealm::leak(rt, rt.alloc()), 2);
+fn the_text_of_an_executor_has_locked_for_what_is_in_use(rt: HostRuntime) -> Result<(), Fail> {
+    let realm = TestRealm::leak(rt, rt.alloc())?;
+    let stage = Stage::<Job<_>, _>::new(rt, rt.alloc(), realm, false, 2);
     let is_over = AtomicBool::new(false);
     let (used, seen) = thread::join(
         &rt,
@@ -103,6 +102,7 @@ fn the_text_of_an_executor_has_locked_for_what_is_in_use(rt: HostRuntime) {
         || sees_each_lock(rt.alloc(), stage.owned(), &is_over),
     );
     assert!(rt; used & seen);
+    Ok(())
 }
 
 fn is_plain<X: Clone + Copy + PartialEq + Eq + Debug>(value: X) -> X {
@@ -110,34 +110,27 @@ fn is_plain<X: Clone + Copy + PartialEq + Eq + Debug>(value: X) -> X {
 }
 
 /// Errors are compared, copied and shown, and that of a spawn has the future.
-#[test]
-fn errors_are_copied_compared_and_shown(rt: HostRuntime) {
-    let alloc = rt.alloc();
+fn are_errors_plain(alloc: Global) -> bool {
     let are_shown = is_shown(alloc, &is_plain(RunError::NoMemory), "NoMemory")
         & is_shown(alloc, &is_plain(RunError::Finished), "Finished")
         & is_shown(alloc, &is_plain(NoMemory), "NoMemory")
         & is_shown(alloc, &SpawnError::Full(5), "Full(5)")
         & is_shown(alloc, &SpawnError::NoMemory(5), "NoMemory(5)");
-    assert!(rt; are_shown & (SpawnError::Full(5).into_inner() == 5));
+    are_shown & (SpawnError::Full(5).into_inner() == 5)
 }
 
-fn moves<X: Send>(_value: &X) {}
+#[test]
+fn errors_are_copied_compared_and_shown(rt: HostRuntime) {
+    assert!(rt; are_errors_plain(rt.alloc()));
+}
 
 fn moves_and_is_shared<X: Send + Sync>(_value: &X) {}
 
-/// An executor and its handles move to other threads and are shared with them, ticks and runs move.
+/// An executor and its handles move to other threads and are shared with them.
 #[test]
-fn executors_and_handles_are_shared_and_ticks_and_runs_move(rt: HostRuntime) {
-    let stage = Stage::<Job<_>, _>::new(rt, rt.alloc(), TestRealm::leak(rt, rt.alloc()), 2);
+fn executors_and_handles_are_shared(rt: HostRuntime) -> Result<(), Fail> {
+    let realm = TestRealm::leak(rt, rt.alloc())?;
+    let stage = Stage::<Job<_>, _>::new(rt, rt.alloc(), realm, false, 2);
     moves_and_is_shared(stage.owned());
-    moves(&stage.tick());
-    moves(&stage.run(Work::Pend, 0));
-}
-
-/// There is no memory for an executor with more places than memory can have.
-#[test]
-fn an_executor_of_too_many_places_is_refused(rt: HostRuntime) {
-    let stage = Stage::<Job<_>, _>::new(rt, rt.alloc(), TestRealm::leak(rt, rt.alloc()), 1);
-    let made = TestExecutor::<Job<_>, _>::new(rt, rt.alloc(), stage.realm, usize::MAX);
-    assert!(rt; made.is_err());
+    Ok(())
 }

@@ -6,7 +6,7 @@ use Rattle.task_moves.specs.AbstractTask as abstract
 use Rattle.task_moves.specs.AbstractTask.{AbstractTask}
 use Rattle.task_moves.specs.LocalTask.{info_of}
 use Rattle.executor_model.specs.declared.op.Waker.{Waker}
-use Rattle.plain_scheduler.specs.State.{Answers, AtOnce, Calls, Choice, Due, Future, Granted, Later, Lying, NoMemory, Pending, Plain}
+use Rattle.plain_scheduler.specs.State.{Answers, AtOnce, Calls, Choice, Future, Granted, Later, Lying, NoMemory, Pending, Plain}
 use Rattle.plain_scheduler.specs.State.{Event as Sight, Refusal, Who}
 use Rattle.plain_scheduler.specs.Lists.{any, on, or, without}
 use Rattle.plain_scheduler.specs.Moves.{appended, becomes, called, copied, is_called, let_go, lies, put, release, see, task, tell}
@@ -16,15 +16,15 @@ use Rattle.machine_roads.specs.View.{Output, wakes}
 use Rattle.machine_roads.proofs.Lying.{called_one}
 use Rattle.machine_roads.proofs.Puts.{put_by}
 
--- what is asked of the plain scheduler that futures, who lies, what is due and what was seen say nothing of
+-- what is asked of the plain scheduler that futures, who lies, one more that is due and what was seen say nothing of
 pub record IsAside {B : Type 0} (ask : Plain Output Waker → B) : Type 0 where
   pub futures : (q : Plain Output Waker) (fs : List (Future Output Waker)) → ask (record q { futures = fs }) ≡ ask q
-  pub due : (q : Plain Output Waker) (ds : List Due) → ask (record q { due = ds }) ≡ ask q
+  pub due : (q : Plain Output Waker) (f : ℕ) → ask (appended f q) ≡ ask q
   pub lying : (q : Plain Output Waker) (ls : List (Lying Waker)) → ask (record q { lying = ls }) ≡ ask q
   pub seen : (q : Plain Output Waker) (e : Sight Output Waker) → ask (see e q) ≡ ask q
 
 inside_aside : IsAside (λ (q : Plain Output Waker). q.inside)
-inside_aside = record { futures = λ q fs. refl; due = λ q ds. refl; lying = λ q ls. refl; seen = λ q e. refl }
+inside_aside = record { futures = λ q fs. refl; due = λ q f. refl; lying = λ q ls. refl; seen = λ q e. refl }
 
 module _ {B : Type 0} (ask : Plain Output Waker → B) (aside : IsAside ask) where
   put_keeps : (g : ℕ) (new : AbstractTask Output Waker) (q : Plain Output Waker) → ask (put g new q) ≡ ask q
@@ -36,10 +36,10 @@ module _ {B : Type 0} (ask : Plain Output Waker → B) (aside : IsAside ask) whe
   becomes_with more keeps g new q = by (is_some (info_of (task g q) new))
     where
       by : (b : Bool) → ask (if b then more (appended g (put g new q)) else put g new q) ≡ ask q
-      by true = keeps (appended g (put g new q)) ∙ (aside.due (put g new q) (appended g (put g new q)).due ∙ put_keeps g new q)
+      by true = keeps (appended g (put g new q)) ∙ (aside.due (put g new q) g ∙ put_keeps g new q)
       by false = put_keeps g new q
 
-  called_with : (more : Plain Output Waker → Plain Output Waker) → ((q : Plain Output Waker) → ask (more q) ≡ ask q)
+  pub called_with : (more : Plain Output Waker → Plain Output Waker) → ((q : Plain Output Waker) → ask (more q) ≡ ask q)
       → (a : Waker) (q : Plain Output Waker) → ask (called wakes more a q) ≡ ask q
   called_with more keeps a q = by (wakes a)
     where
@@ -48,7 +48,7 @@ module _ {B : Type 0} (ask : Plain Output Waker → B) (aside : IsAside ask) whe
       by (Some g) = becomes_with more keeps g (abstract.release (abstract.wake (task g q))) q
 
   -- to tell leaves that
-  tell_keeps : (c : Choice) (q : Plain Output Waker) → ask (tell wakes c q) ≡ ask q
+  pub tell_keeps : (c : Choice) (q : Plain Output Waker) → ask (tell wakes c q) ≡ ask q
   tell_keeps c q = by (any is_called q.lying)
     where
       waker : (q : Plain Output Waker) (o : Option Waker) → ask (on o (called wakes (λ s. s)) q) ≡ ask q
@@ -66,7 +66,7 @@ module _ {B : Type 0} (ask : Plain Output Waker → B) (aside : IsAside ask) whe
       by true = refl
       by false = one (min c.tells (length q.lying - 1)) (slice_get q.lying (min c.tells (length q.lying - 1)))
 
-  becomes_keeps : (c : Choice) (g : ℕ) (new : AbstractTask Output Waker) (q : Plain Output Waker)
+  pub becomes_keeps : (c : Choice) (g : ℕ) (new : AbstractTask Output Waker) (q : Plain Output Waker)
       → ask (becomes wakes (tell wakes c) g new q) ≡ ask q
   becomes_keeps c g new q = becomes_with (tell wakes c) (tell_keeps c) g new q
 
@@ -84,11 +84,11 @@ module _ {B : Type 0} (ask : Plain Output Waker → B) (aside : IsAside ask) whe
       by None = refl
       by (Some g) = put_keeps g (abstract.copy (task g q)) q
 
-  goes_keeps : (c : Choice) (o : Option Waker) (q : Plain Output Waker) → ask (on o (let_go wakes (tell wakes c)) q) ≡ ask q
+  pub goes_keeps : (c : Choice) (o : Option Waker) (q : Plain Output Waker) → ask (on o (let_go wakes (tell wakes c)) q) ≡ ask q
   goes_keeps c None q = refl
   goes_keeps c (Some a) q = let_go_keeps c a q
 
-  up_keeps : (c : Choice) (who : Who) (q : Plain Output Waker) → ask (up wakes c who q) ≡ ask q
+  pub up_keeps : (c : Choice) (who : Who) (q : Plain Output Waker) → ask (up wakes c who q) ≡ ask q
   up_keeps c who q = by (find (lies who) q.lying)
     where
       by : (o : Option (Lying Waker))
@@ -131,7 +131,7 @@ module _ {B : Type 0} (ask : Plain Output Waker → B) (aside : IsAside ask) whe
       by None = lain
       by (Some l) = waker l.waker
 
-  rests_keeps : (c : Choice) (r : Refusal) (who : Who) (a : Waker) (q : Plain Output Waker)
+  pub rests_keeps : (c : Choice) (r : Refusal) (who : Who) (a : Waker) (q : Plain Output Waker)
       → ask (plain_takes.rests wakes c r who a q) ≡ ask q
   rests_keeps c Granted who a q =
       let z = plain_takes.lies_down wakes c who a q in
@@ -165,3 +165,6 @@ rests_inside c r who a q = rests_keeps (λ q. q.inside) inside_aside c r who a q
 
 pub leaves_inside : (c : Choice) (who : Who) (q : Plain Output Waker) → (leaves wakes c who q).inside ≡ q.inside
 leaves_inside c who q = leaves_keeps (λ q. q.inside) inside_aside c who q
+
+pub up_inside : (c : Choice) (who : Who) (q : Plain Output Waker) → (up wakes c who q).inside ≡ q.inside
+up_inside c who q = up_keeps (λ q. q.inside) inside_aside c who q

@@ -40,7 +40,7 @@ futures_by : (a : Bool) (e : Due) (ds es : List Due) (rest : List ℕ) → map (
 futures_by true e ds es rest is = ap (λ fs. e.future ∷ fs) is
 futures_by false e ds es rest is = is
 
-futures_last : (test : Due → Bool) (ds : List Due) (d : Due)
+pub futures_last : (test : Due → Bool) (ds : List Due) (d : Due)
     → futures_in test (ds ++ d ∷ []) ≡ futures_in test ds ++ (if test d then d.future ∷ [] else [])
 futures_last test [] d = by (test d)
   where
@@ -50,6 +50,11 @@ futures_last test [] d = by (test d)
 futures_last test (e ∷ ds) d =
     futures_by (test e) e (filter test ds) (filter test (ds ++ d ∷ [])) (if test d then d.future ∷ [] else [])
     (futures_last test ds d)
+
+pub futures_append : (test : Due → Bool) (ds es : List Due) → futures_in test (ds ++ es) ≡ futures_in test ds ++ futures_in test es
+futures_append test [] es = refl
+futures_append test (d ∷ ds) es =
+    futures_by (test d) d (filter test ds) (filter test (ds ++ es)) (futures_in test es) (futures_append test ds es)
 
 module _ (w : World) (p : Plain Output Waker) (r : Follows w p) where
   -- a task becomes another on both sides

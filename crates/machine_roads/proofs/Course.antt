@@ -27,9 +27,9 @@ use Rattle.machine_roads.specs.Road.{Follows}
 use Rattle.machine_roads.specs.Alike.{begins, refused_first, refuses_first, refuses_second, upon}
 use Rattle.machine_roads.specs.Lone.{NoneWaits, ends as ends_with, over}
 use Rattle.machine_roads.specs.Course.{AreLone, GoAlike, GoesBy, IsCall, IsChosen, ListsGoAlike, Lone, are_behind, are_on_road}
-use Rattle.machine_roads.specs.Course.{is_behind, is_on_road}
-use Rattle.machine_roads.specs.Course.{cancel, copy, detach, drop_executor, drop_handle, drop_tick, is_empty, leak, new_run, new_tick}
-use Rattle.machine_roads.specs.Course.{poll_handle, poll_tick, release, spawn, try_tick, use_waker, wake}
+use Rattle.machine_roads.specs.Course.{is_behind, is_on_road, is_unready}
+use Rattle.machine_roads.specs.Course.{cancel, copy, detach, drop_executor, drop_handle, drop_run, drop_tick, is_empty, leak, new_run}
+use Rattle.machine_roads.specs.Course.{new_tick, poll_handle, poll_run, poll_tick, release, spawn, try_tick, use_waker, wake}
 use Rattle.machine_roads.proofs.Calling.{begin_alike, cancels, copies_kept, detaches, empty_alike, handle_goes, spawns, uses_alike}
 use Rattle.machine_roads.proofs.Calling.{waker_goes, wakes_kept}
 use Rattle.machine_roads.proofs.Cancelling.{cancel_output}
@@ -40,7 +40,9 @@ use Rattle.machine_roads.proofs.Leaking.{leak_inside}
 use Rattle.machine_roads.proofs.Lists.{clash}
 use Rattle.machine_roads.proofs.LoneBehind.{goes_behind_so, uses_behind_so, wakes_behind_so}
 use Rattle.machine_roads.proofs.LoneCloses.{drop_ends_so}
+use Rattle.machine_roads.proofs.LoneGoes.{run_goes_so}
 use Rattle.machine_roads.proofs.LoneLosing.{detach_loses_so, goes_with_output_so}
+use Rattle.machine_roads.proofs.LonePolls.{run_ends_so}
 use Rattle.machine_roads.proofs.LoneRuns.{both_true, lone_calls_so, tells}
 use Rattle.machine_roads.proofs.LoneTakes.{leaks_so, run_made_so}
 use Rattle.machine_roads.proofs.LoneTicks.{may_begin, there_all}
@@ -191,7 +193,7 @@ module _ (s : Machine) (reached : Reached s) (q : Plain Output Waker) (quiet : I
       (ap (λ o. is_there o) some) new later lone)
 
   -- each call
-  one_call : (c : Call) → is_on_road c ≡ true → IsLoneCall p c steps s new → Goes c
+  one_call : (c : Call) → is_on_road c steps ≡ true → IsLoneCall p c steps s new → Goes c
   one_call (call.Spawn m) on_road lone =
       told (call.Spawn m) (plain_calls.Spawn m) (λ r. spawn_inside (choice r) q m) (spawn m)
       (λ hints all rests.
@@ -274,8 +276,34 @@ module _ (s : Machine) (reached : Reached s) (q : Plain Output Waker) (quiet : I
   one_call call.NewRun on_road lone =
       let e = run_made_so s reached q quiet follows p (choice Granted) steps new later lone in
       quick call.NewRun plain_calls.NewRun e.0 new_run (run_inside (choice e.0) q) e.1
-  one_call (call.PollRun r b) on_road lone = absurd cc
-  one_call (call.DropRun r) on_road lone = absurd cc
+  one_call (call.PollRun r b) on_road lone =
+      let e =
+      run_ends_so s reached q quiet follows p r (choice Granted) b steps
+      (λ pending. clash (ap (λ o. not (is_unready o)) pending) on_road) many new later lone in (
+        e.0,
+        record {
+          choice = choice Granted;
+          made = plain_calls.PollRun r (waker_of None b);
+          chosen = chosen Granted;
+          is = poll_run r b;
+          ended = e.1;
+          inside = e.2;
+        },
+        e.3,
+      )
+  one_call (call.DropRun r) on_road lone =
+      let e = run_goes_so s reached q quiet follows p r (choice Granted) steps many new later lone in (
+        e.0,
+        record {
+          choice = choice Granted;
+          made = plain_calls.DropRun r;
+          chosen = chosen Granted;
+          is = drop_run r;
+          ended = e.1;
+          inside = e.2;
+        },
+        e.3,
+      )
   one_call call.Leak on_road lone =
       quick call.Leak plain_calls.Leak Granted leak (leak_inside (choice Granted) q)
       (leaks_so s reached q quiet follows p (choice Granted) steps nowhere many new later lone)
@@ -375,16 +403,16 @@ lists_go : (s : Machine) → Reached s → (q : Plain Output Waker) → IsQuiet 
     → IsOpen s.world → (ls : List Lone) → AreLone s ls → are_on_road ls ≡ true → GoAlike s q ls
 lists_go s reached q quiet follows nowhere open_now [] lone on_road = follows
 lists_go s reached q quiet follows nowhere open_now (l ∷ ls) lone on_road =
-    by (is_on_road l.call && are_on_road ls) refl on_road (λ on.
-    let both = both_true (is_on_road l.call) (are_on_road ls) on in
+    by (is_on_road l.call l.steps && are_on_road ls) refl on_road (λ on.
+    let both = both_true (is_on_road l.call l.steps) (are_on_road ls) on in
     let next = reached-more (Begin l.party l.call ∷ l.steps) s l.left reached lone.0.made in
     let later = stays_open s l.left l.party l.call l.steps both.0 lone.0 open_now in
     let one =
     one_call s reached q quiet follows nowhere l.party l.steps l.left (sym (tells l.left next) ∙ later) l.call both.0 lone.0 in
     (follows, (one.0, one.1, lists_go l.left next one.0 lone.0.ended one.2 (one.1.inside ∙ nowhere) later ls lone.1 both.1)))
   where
-    by : (b : Bool) → (is_on_road l.call && are_on_road ls) ≡ b → (b || (is_drop l.call && are_behind ls)) ≡ true
-        → ((is_on_road l.call && are_on_road ls) ≡ true → GoAlike s q (l ∷ ls)) → GoAlike s q (l ∷ ls)
+    by : (b : Bool) → (is_on_road l.call l.steps && are_on_road ls) ≡ b → (b || (is_drop l.call && are_behind ls)) ≡ true
+        → ((is_on_road l.call l.steps && are_on_road ls) ≡ true → GoAlike s q (l ∷ ls)) → GoAlike s q (l ∷ ls)
     by true on drops goes = goes on
     by false off drops goes =
         let both = both_true (is_drop l.call) (are_behind ls) drops in

@@ -16,24 +16,21 @@ use Rattle.executor_model.specs.declared.op.Waker.{Waker}
 use Rattle.executor_model.specs.Carried.{owed_ops}
 use Rattle.executor_model.specs.World.{World, Done, among, awaiter_of, blank}
 use Rattle.executor_model.specs.World as world
-use Rattle.plain_scheduler.specs.State.{Choice, Future, Plain, Taker}
+use Rattle.plain_scheduler.specs.State.{Choice, Future, Plain}
 use Rattle.plain_scheduler.specs.Lists.{on}
 use Rattle.plain_scheduler.specs.Moves.{called, put, task, tell}
-use Rattle.plain_scheduler.specs.Takes as plain_takes
 use Rattle.machine_roads.specs.View.{Output, view, wakes, waker_in}
 use Rattle.machine_roads.specs.Road.{Follows, IsStored}
 use Rattle.machine_roads.specs.Alone.{is_resting}
 use Rattle.machine_roads.specs.Dropped.{IsEnding, rest_of, without_run}
-use Rattle.machine_roads.specs.Stopped.{Finally}
 use Rattle.machine_roads.proofs.Cancelling.{calls_taken, emptied, took}
 use Rattle.machine_roads.proofs.Changing.{put_again, puts}
 use Rattle.machine_roads.proofs.Exchanging.{loudly}
 use Rattle.machine_roads.proofs.Lists.{get_below, length_set, set_twice}
-use Rattle.machine_roads.proofs.Moved.{Then, moved}
+use Rattle.machine_roads.proofs.Moved.{Then, called_fits, moved}
 use Rattle.machine_roads.proofs.Moving.{state}
 use Rattle.machine_roads.proofs.Puts.{put_is, put_lying, task_is, task_put}
 use Rattle.machine_roads.proofs.Stepping.{Way, next}
-use Rattle.machine_roads.proofs.Trying.{finally_so}
 use Rattle.machine_roads.proofs.Used.{called_past, is_still, lower, lowered_is, lowers, put_twice}
 
 -- one reference more
@@ -107,8 +104,8 @@ module _ (p : ℕ) (end : Done) (rests : is_resting end.next ≡ true) where
         way = subst (λ ops. Way p end m.world (ops ++ os)) (gave_up_owes (among f w.table) f (moves.is_last s) s) m.way;
       }
 
-module _ (p : ℕ) (below : List Op) (under : is_resting below ≡ true) (end : Done) (rests : is_resting end.next ≡ true) (c : Choice)
-    (taker : Taker Waker) (final : Op) (it : Finally taker final) (f : ℕ) (w : World) (q : Plain Output Waker) (awaiter : Option Waker)
+module _ (p : ℕ) (below : List Op) (end : Done) (rests : is_resting end.next ≡ true) (c : Choice) (final : Op) (f : ℕ) (w : World)
+    (q : Plain Output Waker) (awaiter : Option Waker)
     (many : length q.lying ≤ c.tells)
     (is : IsEnding w f awaiter q) where
   abbrev s : State
@@ -230,11 +227,11 @@ module _ (p : ℕ) (below : List Op) (under : is_resting below ≡ true) (end : 
           subst (λ o. Then p end os (on o (called wakes more) r1)) (ap waker_in (sym none) ∙ is.awaited)
           (record { world = w; follows = follows2; way = way })
 
-  pub ending_so : Way p end w (rest_of s.awaiter f final ++ below)
-      → (end.next ≡ below) × Follows end.world (plain_takes.next wakes c taker (on awaiter (called wakes more) q))
+  pub ending_so : Way p end w (rest_of s.awaiter f final ++ below) → Then p end (final ∷ below) (on awaiter (called wakes more) q)
   ending_so way =
       let t = called_so way in
       let r = on awaiter (called wakes more) r1 in
-      let u = gives_up_so p end rests f t.world (final ∷ below) r t.follows t.way in
-      subst (λ z. (end.next ≡ below) × Follows end.world (plain_takes.next wakes c taker z)) (given_up awaiter)
-      (finally_so p below under end rests taker final it c u.world (put f (lower (task f r)) r) u.follows u.way)
+      subst (Then p end (final ∷ below)) (given_up awaiter) (gives_up_so p end rests f t.world (final ∷ below) r t.follows t.way)
+
+  pub ending_fits : fits (on awaiter (called wakes more) q)
+  ending_fits = called_fits p end rests more fits (loudly p end rests c) awaiter q many

@@ -16,6 +16,7 @@ use Rattle.executor_model.specs.declared.op.Op.TheVariants as op
 use Rattle.executor_model.specs.declared.op.TableOp.TheVariants as table_op
 use Rattle.executor_model.specs.declared.op.UserOp.TheVariants as user_op
 use Rattle.executor_model.specs.declared.op.Waker.{Waker}
+use Rattle.executor_model.specs.declared.step.Hint.{Hint}
 use Rattle.executor_model.specs.Acts.{entry_goes, leave_by, let_go_by, told_of}
 use Rattle.executor_model.specs.Acts as acts
 use Rattle.executor_model.specs.Carried.{owed_ops}
@@ -30,21 +31,24 @@ use Rattle.plain_scheduler.specs.Calls.{does, Ends, Pends}
 use Rattle.machine_roads.specs.View.{Output, view, waker_in, wakes}
 use Rattle.machine_roads.specs.Moving.{IsMove}
 use Rattle.machine_roads.specs.Road.{Follows}
-use Rattle.machine_roads.specs.Alone.{alone, is_resting}
+use Rattle.machine_roads.specs.Alone.{alone, is_resting, HasAll}
+use Rattle.machine_roads.specs.Alike.{upon}
 use Rattle.machine_roads.specs.Forgotten.{ForgetsAlikeInTake, ForgottenGoesAlike, IsForgotten, IsLastPoll, StopsForgetting, unawaited}
-use Rattle.machine_roads.specs.Forgotten.{without_awaiter}
-use Rattle.machine_roads.specs.Stopped.{Finally}
-use Rattle.machine_roads.proofs.Aside.{becomes_inside, called_inside, goes_inside}
+use Rattle.machine_roads.specs.Forgotten.{forgotten, without_awaiter}
+use Rattle.machine_roads.specs.Stopped.{pended}
+use Rattle.machine_roads.proofs.Aside.{goes_inside}
 use Rattle.machine_roads.proofs.Changing.{logs, sees, settles}
 use Rattle.machine_roads.proofs.Dropped.{gone, gone_at, gone_task, marked, marks}
 use Rattle.machine_roads.proofs.Exchanging.{loudly}
 use Rattle.machine_roads.proofs.Lists.{get_below, length_set, set_same, set_twice}
+use Rattle.machine_roads.proofs.Passing.{Passes, passes_end, telling}
 use Rattle.machine_roads.proofs.Pending.{pends_as}
-use Rattle.machine_roads.proofs.Polling.{lets_go_so}
+use Rattle.machine_roads.proofs.Polling.{let_go_fits, lets_go_so}
 use Rattle.machine_roads.proofs.Puts.{put_at, put_by, put_is, put_lying, task_put, with_task}
 use Rattle.machine_roads.proofs.Running.{end_of, pending_is}
+use Rattle.machine_roads.proofs.RunsStay.{RunsStay, goes_stays, marked_stays, put_stays, stay_on}
 use Rattle.machine_roads.proofs.Stepping.{Way, next}
-use Rattle.machine_roads.proofs.Trying.{final_inside, finally_so, stops_at}
+use Rattle.machine_roads.proofs.Trying.{stops_at}
 use Rattle.machine_roads.proofs.Unseen.{places_so, stands_in}
 
 unheld_last : (b h : Bool) → (b && not h) ≡ true → h ≡ false
@@ -58,6 +62,12 @@ left_task t = record t { phase = Finished; closed = true }
 
 abbrev left_alone : AbstractTask Output Waker → AbstractTask Output Waker
 left_alone t = record t { phase = Finished; closed = true; awaiter = None }
+
+-- it stands in the drop of that future, and runs are as they were
+pub record Forgets (taker : Taker Waker) (final : Op) (below : List Op) (f : ℕ) (q : Plain Output Waker) (end : Done)
+    (new : Plain Output Waker) : Type 0 where
+  pub stops : StopsForgetting taker final below f q end new
+  pub stay : RunsStay q new
 
 module _ (p : ℕ) (below : List Op) (under : is_resting below ≡ true) (end : Done) (rests : is_resting end.next ≡ true)
     (taker : Taker Waker) (final : Op) (c : Choice) (f : ℕ) (w : World) (q : Plain Output Waker) (follows : Follows w q)
@@ -145,7 +155,7 @@ module _ (p : ℕ) (below : List Op) (under : is_resting below ≡ true) (end : 
       }
 
   forgets_end : Way p end w (op.Move move.EndPending f ∷ os)
-      → StopsForgetting taker final below f q end (does wakes c Pends (record q { inside = Poll f taker ∷ q.inside }))
+      → Forgets taker final below f q end (does wakes c Pends (record q { inside = Poll f taker ∷ q.inside }))
   forgets_end way =
       by s.closed s.scheduled (moves.is_last s) refl refl refl is.last (pending_is s aw is.polled)
       (next p end rests (op.Move move.EndPending f) w os refl way).way
@@ -156,7 +166,7 @@ module _ (p : ℕ) (below : List Op) (under : is_resting below ≡ true) (end : 
           (moves.end_pending_by x y z s).state)
           (owed_ops (among f (told_of (not x && (not y && z)) false move.EndPending p w f).table) f (moves.end_pending_by x y z s).owed
           ++ os)
-          → StopsForgetting taker final below f q end (does wakes c Pends (record q { inside = Poll f taker ∷ q.inside }))
+          → Forgets taker final below f q end (does wakes c Pends (record q { inside = Poll f taker ∷ q.inside }))
       by true y z closed woken last_one last ending way = absurd cc
       by false true z closed woken last_one last ending way = absurd cc
       by false false false closed woken last_one last ending way = absurd cc
@@ -173,19 +183,21 @@ module _ (p : ℕ) (below : List Op) (under : is_resting below ≡ true) (end : 
           let x = get_below q.futures f (subst (λ n. f < n) follows.many is.known) in
           let z_is : plain_takes.dropping wakes c f Closed taker (put f (left_task t) q) ≡ dropping x.0 =
           ap (λ q2. plain_takes.dropping wakes c f Closed taker q2) (put_is f (left_task t) q x.0 x.1) in
-          subst (λ e. StopsForgetting taker final below f q end (plain_calls.pending_by wakes c e f taker q))
+          subst (λ e. Forgets taker final below f q end (plain_calls.pending_by wakes c e f taker q))
           (sym (ap abstract.pending_end (follows.tasks f is.known) ∙ ending))
-          (subst (StopsForgetting taker final below f q end) (sym z_is)
-          (subst (λ (e : Done). StopsForgetting taker final below f q e (dropping x.0)) last_is
+          (subst (Forgets taker final below f q end) (sym z_is)
+          (subst (λ (e : Done). Forgets taker final below f q e (dropping x.0)) last_is
           (record {
-            left = refl;
-            inside = refl;
-            forgotten = forgotten_so open_still unwoken last_one x.0 x.1;
+            stops = record { left = refl; inside = refl; forgotten = forgotten_so open_still unwoken last_one x.0 x.1 };
+            stay = record { runs = refl; kept = λ k. refl };
           })))
 
-pub forgets_so : (p : ℕ) (here : Option Waker) (below : List Op) (w : World) (q : Plain Output Waker) → is_resting below ≡ true
-    → Follows w q → ForgetsAlikeInTake p here below w q
-forgets_so p here below w q under follows taker final f is c hints has rests =
+pub forgets_by : (p : ℕ) (below : List Op) (w : World) (q : Plain Output Waker) → is_resting below ≡ true → Follows w q
+    → (taker : Taker Waker) (final : Op) (f : ℕ) → IsLastPoll w f → (c : Choice) (hints : List Hint)
+    → HasAll p hints (pended p f final below w) → is_resting (alone p hints (pended p f final below w)).next ≡ true
+    → Forgets taker final below f q (alone p hints (pended p f final below w))
+    (does wakes c Pends (record q { inside = Poll f taker ∷ q.inside }))
+forgets_by p below w q under follows taker final f is c hints has rests =
     let w0 = log w (event.Answered p f answer.Pending) in
     let os = final ∷ below in
     let end = alone p hints (done w0 (op.Table (table_op.PutBack f) ∷ os)) in
@@ -196,6 +208,11 @@ forgets_so p here below w q under follows taker final f is c hints has rests =
     places_so (slice_set w.inside f true) w0 q (logs w q follows (event.Answered p f answer.Pending) refl) in
     forgets_end p below under end rests taker final c f w1 q follows1
     (record { known = is.known; polled = is.polled; entered = is.entered; last = is.last }) step.way
+
+pub forgets_so : (p : ℕ) (here : Option Waker) (below : List Op) (w : World) (q : Plain Output Waker) → is_resting below ≡ true
+    → Follows w q → ForgetsAlikeInTake p here below w q
+forgets_so p here below w q under follows taker final f is c hints has rests =
+    (forgets_by p below w q under follows taker final f is c hints has rests).stops
 
 -- that its future is dropped is nothing to who awaits a task
 module _ (f : ℕ) (q : Plain Output Waker) (x : Future Output Waker) (there : slice_get q.futures f ≡ Some x) where
@@ -217,8 +234,16 @@ module _ (f : ℕ) (q : Plain Output Waker) (x : Future Output Waker) (there : s
       ∙ (put_is f n (gone_at f x q) (gone x) (set_same q.futures f (gone x) x there)
       ∙ ap (λ fs. record q { futures = fs }) (set_twice q.futures f (gone x) (with_task n (gone x))))))))
 
+-- nor to the code in which calls stand
+marked_inside : (f : ℕ) (q : Plain Output Waker) → (marked f q).inside ≡ q.inside
+marked_inside f q = by (slice_get q.futures f)
+  where
+    by : (o : Option (Future Output Waker)) → (on o (λ x p. gone_at f x p) q).inside ≡ q.inside
+    by None = refl
+    by (Some x) = refl
+
 module _ (taker : Taker Waker) (final : Op) (p f : ℕ) (below : List Op) (w : World) (q : Plain Output Waker) (c : Choice)
-    (it : Finally taker final) (under : is_resting below ≡ true) (is : IsForgotten w f q) (many : length q.lying ≤ c.tells)
+    (is : IsForgotten w f q) (many : length q.lying ≤ c.tells)
     (end : Done) (rests : is_resting end.next ≡ true) where
   abbrev more : Plain Output Waker → Plain Output Waker
   more = tell wakes c
@@ -247,32 +272,37 @@ module _ (taker : Taker Waker) (final : Op) (p f : ℕ) (below : List Op) (w : W
   abbrev let_alone : Plain Output Waker
   let_alone = on (waker_in (awaiter_of w f)) (let_go wakes more) (unawaited f m)
 
-  abbrev ended_as : Plain Output Waker → Plain Output Waker
-  ended_as q = plain_takes.ended wakes c f (plain_takes.left_by wakes c Closed (task f q)) (Some taker) q
-
   abbrev its : AbstractTask Output Waker
   its = task f q
 
-  abbrev nexts : Option Waker → AbstractTask Output Waker → Plain Output Waker
-  nexts a n = plain_takes.next wakes c taker (on a (let_go wakes more) (put f n m))
+  -- whatever it chooses then
+  abbrev ended_as : Choice → Plain Output Waker → Plain Output Waker
+  ended_as d q = plain_takes.ended wakes d f (plain_takes.left_by wakes d Closed (task f q)) (Some taker) q
 
-  ends_as : w.is_static ≡ true → does wakes c Ends (record q { inside = Drop f Closed taker ∷ q.inside })
-      ≡ plain_takes.next wakes c taker let_alone
-  ends_as static =
+  abbrev nexts : Choice → Option Waker → AbstractTask Output Waker → Plain Output Waker
+  nexts d a n = plain_takes.next wakes d taker (on a (let_go wakes more) (put f n m))
+
+  abbrev ends_with : Choice → Plain Output Waker
+  ends_with d = does wakes d Ends (record q { inside = Drop f Closed taker ∷ q.inside })
+
+  ends_as : w.is_static ≡ true → (d : Choice) → ends_with (telling c.tells d)
+      ≡ plain_takes.next wakes (telling c.tells d) taker let_alone
+  ends_as static d =
       let x = its_place in
       let kind : m.is_static ≡ true =
       ap (λ (q : Plain Output Waker). q.is_static) (marked_is f q x.0 x.1)
       ∙ (sym (put_by (λ p. p.is_static) f (record its { awaiter = None }) q (λ fs. refl)) ∙ (sym is.follows.kind ∙ static)) in
-      ap (λ b. ended_as (if b then m else release wakes more f m)) kind
-      ∙ (ap (λ t. plain_takes.ended wakes c f (plain_takes.left_by wakes c Closed t) (Some taker) m) (marked_task f q x.0 x.1)
-      ∙ (ap (λ phase. plain_takes.ended wakes c f (finish_by phase its) (Some taker) m) is.finished
-      ∙ (ap (λ phase. nexts its.awaiter (record its { phase = phase; closed = true; awaiter = None })) (sym is.finished)
-      ∙ (ap (λ b. nexts its.awaiter (record its { closed = b; awaiter = None })) (sym is.closed)
-      ∙ (ap (λ a. nexts a (record its { awaiter = None })) is.awaited
-      ∙ ap (λ t. nexts (waker_in (awaiter_of w f)) (record t { awaiter = None })) (sym (marked_task f q x.0 x.1)))))))
+      let e : Choice = telling c.tells d in
+      ap (λ b. ended_as e (if b then m else release wakes more f m)) kind
+      ∙ (ap (λ t. plain_takes.ended wakes e f (plain_takes.left_by wakes e Closed t) (Some taker) m) (marked_task f q x.0 x.1)
+      ∙ (ap (λ phase. plain_takes.ended wakes e f (finish_by phase its) (Some taker) m) is.finished
+      ∙ (ap (λ phase. nexts e its.awaiter (record its { phase = phase; closed = true; awaiter = None })) (sym is.finished)
+      ∙ (ap (λ b. nexts e its.awaiter (record its { closed = b; awaiter = None })) (sym is.closed)
+      ∙ (ap (λ a. nexts e a (record its { awaiter = None })) is.awaited
+      ∙ ap (λ t. nexts e (waker_in (awaiter_of w f)) (record t { awaiter = None })) (sym (marked_task f q x.0 x.1)))))))
 
-  goes : Way p end w (op.Table (table_op.LeaveTable f) ∷ op.Handle (handle_op.LetGo f) ∷ final ∷ below)
-      → (end.next ≡ below) × Follows end.world (does wakes c Ends (record q { inside = Drop f Closed taker ∷ q.inside }))
+  pub goes : Way p end w (op.Table (table_op.LeaveTable f) ∷ op.Handle (handle_op.LetGo f) ∷ final ∷ below)
+      → Passes p taker final below q c.tells end ends_with
   goes way =
       by w.is_static refl
       (subst (λ b. Way p end (leave_by b w f).world ((leave_by b w f).next ++ os)) is.entered
@@ -281,8 +311,7 @@ module _ (taker : Taker Waker) (final : Op) (p f : ℕ) (below : List Op) (w : W
       os : List Op
       os = op.Handle (handle_op.LetGo f) ∷ final ∷ below
 
-      by : (b : Bool) → w.is_static ≡ b → Way p end w1 (entry_goes b f ++ os)
-          → (end.next ≡ below) × Follows end.world (does wakes c Ends (record q { inside = Drop f Closed taker ∷ q.inside }))
+      by : (b : Bool) → w.is_static ≡ b → Way p end w1 (entry_goes b f ++ os) → Passes p taker final below q c.tells end ends_with
       by false owned way =
           let held : token (world.task w f) < (world.task w f).references =
           (next p end rests (op.Move move.Release f) w1 os refl way).has.1 in
@@ -301,52 +330,38 @@ module _ (taker : Taker Waker) (final : Op) (p f : ℕ) (below : List Op) (w : W
           subst (λ ls. length ls ≤ c.tells)
           (sym (put_lying f (record (task f m) { awaiter = None }) m
           ∙ ap (λ (q : Plain Output Waker). q.lying) (marked_is f q x.0 x.1))) many in
-          let g =
-          lets_go_so p end rests more (λ q. length q.lying ≤ c.tells) (loudly p end rests c) (awaiter_of w f) w2 (final ∷ below)
-          (unawaited f m) follows2 fit now in
-          subst (λ z. (end.next ≡ below) × Follows end.world z) (sym (ends_as static))
-          (finally_so p below under end rests taker final it c g.world let_alone g.follows g.way)
+          let fits : Plain Output Waker → Type 0 = λ q. length q.lying ≤ c.tells in
+          record {
+            before = let_alone;
+            so =
+                lets_go_so p end rests more fits (loudly p end rests c) (awaiter_of w f) w2 (final ∷ below) (unawaited f m) follows2 fit
+                now;
+            fit = let_go_fits p end rests more fits (loudly p end rests c) (waker_in (awaiter_of w f)) (unawaited f m) fit;
+            inside =
+                goes_inside c (waker_in (awaiter_of w f)) (unawaited f m)
+                ∙ (put_by (λ p. p.inside) f (record (task f m) { awaiter = None }) m (λ fs. refl) ∙ marked_inside f q);
+            stay =
+                stay_on q m let_alone (marked_stays f q)
+                (stay_on m (unawaited f m) let_alone (put_stays f (record (task f m) { awaiter = None }) m)
+                (goes_stays c (waker_in (awaiter_of w f)) (unawaited f m)));
+            is = ends_as static;
+          }
 
-pub forgotten_goes : ForgottenGoesAlike
-forgotten_goes taker final p f below w q c it under is many hints unit has rests =
-    goes taker final p f below w q c it under is many
+abbrev pub forgets_with : (taker : Taker Waker) (f : ℕ) → Plain Output Waker → Choice → Plain Output Waker
+forgets_with taker f q d = does wakes d Ends (record q { inside = Drop f Closed taker ∷ q.inside })
+
+pub forgotten_by : (taker : Taker Waker) (final : Op) (p f : ℕ) (below : List Op) (w : World) (q : Plain Output Waker) (c : Choice)
+    → IsForgotten w f q → length q.lying ≤ c.tells → (hints : List Hint) → HasAll p hints (upon below (forgotten final p f w))
+    → is_resting (alone p hints (upon below (forgotten final p f w))).next ≡ true
+    → Passes p taker final below q c.tells (alone p hints (upon below (forgotten final p f w))) (forgets_with taker f q)
+forgotten_by taker final p f below w q c is many hints has rests =
+    goes taker final p f below w q c is many
     (alone p hints (done w (op.Table (table_op.LeaveTable f) ∷ op.Handle (handle_op.LetGo f) ∷ final ∷ below))) rests
     (record { hints = hints; has = has; is = refl })
 
--- and leaves the code in which calls stand
-marked_inside : (f : ℕ) (q : Plain Output Waker) → (marked f q).inside ≡ q.inside
-marked_inside f q = by (slice_get q.futures f)
-  where
-    by : (o : Option (Future Output Waker)) → (on o (λ x p. gone_at f x p) q).inside ≡ q.inside
-    by None = refl
-    by (Some x) = refl
-
-keeps_output : (phase : Phase) (t : AbstractTask Output Waker) → (finish_by phase t).dropped ≡ None
-keeps_output Idle t = refl
-keeps_output Queued t = refl
-keeps_output Polling t = refl
-keeps_output PollingWoken t = refl
-keeps_output Finished t = refl
-
-module _ (taker : Taker Waker) (final : Op) (it : Finally taker final) (c : Choice) (f : ℕ) where
-  ended_inside : (l : abstract.Left Output Waker) (q : Plain Output Waker) → l.dropped ≡ None
-      → (plain_takes.ended wakes c f l (Some taker) q).inside ≡ q.inside
-  ended_inside l q none =
-      let q1 : Plain Output Waker = put f l.task q in
-      let q2 : Plain Output Waker = on l.let_go (let_go wakes (tell wakes c)) q1 in
-      ap (λ (o : Option Output). (or o (λ v. enters (Lose l.called (Some taker)) (see (Loses v) q1))
-      (plain_takes.lost wakes c l.called (Some taker) q2)).inside) none
-      ∙ (final_inside taker final it c (on l.called (called wakes (tell wakes c)) q2)
-      ∙ (called_inside c l.called q2 ∙ (goes_inside c l.let_go q1 ∙ put_by (λ p. p.inside) f l.task q (λ fs. refl))))
-
-  pub forgotten_inside : (q : Plain Output Waker)
-      → (does wakes c Ends (record q { inside = Drop f Closed taker ∷ q.inside })).inside ≡ q.inside
-  forgotten_inside q =
-      let m = marked f q in
-      let q1 : Plain Output Waker = plain_takes.given_up wakes c f m in
-      ended_inside (plain_takes.left_by wakes c Closed (task f q1)) q1 (keeps_output (task f q1).phase (task f q1))
-      ∙ (by m.is_static ∙ marked_inside f q)
-    where
-      by : (b : Bool) → (if b then marked f q else release wakes (tell wakes c) f (marked f q)).inside ≡ (marked f q).inside
-      by true = refl
-      by false = becomes_inside c f (abstract.release (task f (marked f q))) (marked f q)
+pub forgotten_goes : ForgottenGoesAlike
+forgotten_goes taker final p f below w q c it under is many hints unit has rests =
+    let e =
+    passes_end p below under (alone p hints (upon below (forgotten final p f w))) rests taker final q it c (forgets_with taker f q)
+    (forgotten_by taker final p f below w q c is many hints has rests) in
+    (e.0, e.1)

@@ -1,5 +1,5 @@
 -- In each machine of which the executor's drop hasn't begun, what the next thing to do speaks of is there.
-use Rattle.std.proofs.Common.{◌≡◌, ℕ, ◌<◌, ◌≤◌, ◌&&◌, ◌||◌, not, nat_lt, Bool, true, false, List, [], ◌∷◌, length}
+use Rattle.std.proofs.Common.{◌≡◌, ℕ, suc, ◌+◌, ◌<◌, ◌≤◌, ◌==◌, ◌&&◌, ◌||◌, not, cond, nat_lt, Bool, true, false, List, [], ◌∷◌, length}
 use Rattle.std.proofs.Common.{Some, if◌then◌else◌, refl, sym, ap, subst, ◌∙◌, arith}
 use Rattle.std.proofs.Common.{inl, ⊎_elim}
 use Rattle.std.proofs.lemmas.Bool.Decides.{nat_tests}
@@ -10,24 +10,32 @@ use Rattle.task_moves.specs.Moves.{is_going}
 use Rattle.executor_model.specs.declared.op.ClosingOp.{ClosingOp}
 use Rattle.executor_model.specs.declared.op.ClosingOp.TheVariants as closing_op
 use Rattle.executor_model.specs.declared.op.HandleOp.TheVariants as handle_op
+use Rattle.executor_model.specs.declared.op.ListOp.TheVariants as list_op
 use Rattle.executor_model.specs.declared.op.Op.{Op}
 use Rattle.executor_model.specs.declared.op.Op.TheVariants as op
 use Rattle.executor_model.specs.declared.op.QueueOp.TheVariants as queue_op
+use Rattle.executor_model.specs.declared.op.RunOp.TheVariants as run_op
+use Rattle.executor_model.specs.declared.op.RunPoll.{RunPoll}
 use Rattle.executor_model.specs.declared.op.SleeperOp.TheVariants as sleeper_op
+use Rattle.executor_model.specs.declared.op.Steal.{Steal}
+use Rattle.executor_model.specs.declared.op.StealOp.TheVariants as steal_op
 use Rattle.executor_model.specs.declared.op.TickOp.TheVariants as tick_op
 use Rattle.executor_model.specs.declared.op.TickOrRun.{TickOrRun}
+use Rattle.executor_model.specs.declared.op.TickOrRun.TheVariants as tick_or_run
 use Rattle.executor_model.specs.declared.op.Waker.{Waker}
 use Rattle.executor_model.specs.declared.op.Waker.TheVariants.{Task, Outside}
 use Rattle.executor_model.specs.declared.op.WakerOp.TheVariants as waker_op
 use Rattle.executor_model.specs.Acts.{takes_more}
 use Rattle.executor_model.specs.Good.{CanWake, Good, IsKnown, IsKnownWaker}
+use Rattle.executor_model.specs.OwnQueues.{filling_of}
 use Rattle.executor_model.specs.Rows.{past_of, releases_of, waiting_of}
 use Rattle.executor_model.specs.SleepersAgree.{SleepersAgree}
 use Rattle.executor_model.specs.Sound.{Sound, pend, times, tokens}
 use Rattle.executor_model.specs.Steps.{Machine, below_top, stack, top}
-use Rattle.executor_model.specs.Weights.{past, same}
-use Rattle.executor_model.specs.World.{World, among, mark_of, queue_of, task}
+use Rattle.executor_model.specs.Weights.{past, same, weigh_all}
+use Rattle.executor_model.specs.World.{Ended, Listed, New, Stage, World, among, mark_of, queue_of, run_of, task}
 use Rattle.executor_model.proofs.OneFuture.Stories.{among_is}
+use Rattle.executor_model.proofs.OwnQueues.UsingWorlds.{is_over_stage}
 use Rattle.executor_model.proofs.Polls.AskingExecutions.{Heard, heard}
 use Rattle.executor_model.proofs.Sleepers.SleepersFollowingExecutions.{agree}
 use Rattle.executor_model.proofs.Steps.Lift.{split, topped}
@@ -36,9 +44,15 @@ use Rattle.executor_model.proofs.Steps.Needing.{needs}
 use Rattle.executor_model.proofs.Steps.QueuesByMark.{any-shut}
 use Rattle.executor_model.proofs.Steps.Reached.{Reached, good-here}
 use Rattle.executor_model.proofs.Table.LeavingExecutions.{has-place}
-use Rattle.machine_roads.specs.Alone.{CanCopy, Has, SleepsAlone}
+use Rattle.executor_laws.proofs.Wakeups.Stands.{used_of}
+use Rattle.executor_laws.proofs.Wakeups.StandsMachine.{standing}
+use Rattle.executor_laws.proofs.Wakeups.StandsSteps.{Standing}
+use Rattle.executor_laws.proofs.Walks.Enrolled.{Enrolled, kept-listed}
+use Rattle.executor_laws.proofs.Walks.Finding.{enrolled-here, listed-here, room-here}
+use Rattle.machine_roads.specs.Alone.{CanCopy, Has, ListHas, SleepsAlone, StealHas}
 use Rattle.machine_roads.specs.Moving.{IsQueued}
-use Rattle.machine_roads.proofs.Lists.{clash}
+use Rattle.machine_roads.specs.Road.{is_ended}
+use Rattle.machine_roads.proofs.Lists.{clash, equal}
 
 -- what is there at each moment, also once the executor's drop has begun: a place in the queue, whether that is closed or not
 abbrev pub MoveHasIn : Move → World → ℕ → Type 0
@@ -190,6 +204,61 @@ module _ (s : Machine) (p : ℕ) (reached : Reached s) (there : p < length s.par
       subst SleepersAgree (sym reached.is) (agree reached.limit reached.kind reached.parties reached.steps) in
       agrees.apart y x n there here
 
+  -- a run in use has an own queue, and what stands in one of a run that isn't over is in the list
+  enrolled : Enrolled s
+  enrolled = enrolled-here s reached
+
+  walks : (x : RunPoll) → top (stack s p) ≡ Some (op.List (list_op.LockRead x)) → ListHas s.world (list_op.LockRead x)
+  walks x is = (
+    subst (λ n. x.run < n) (sym enrolled.even) (made (nat_lt x.run (length s.world.runs)) refl),
+    λ k some going.
+        omega (
+          arith,
+          kept-listed s k enrolled (listed-here s k reached) some (unended (run_of s.world k).dropped (run_of s.world k).stage going),
+        ),
+  )
+    where
+      below : (n m : ℕ) → nat_lt n m ≡ true → n < m
+      below n m is = grind (arith, nat_tests)
+
+      used : 1 ≤ weigh_all (used_of (tick_or_run.Run x.run)) s.parties
+      used =
+          let o = op.List (list_op.LockRead x) in
+          omega (
+            arith,
+            split (used_of (tick_or_run.Run x.run)) s.parties p (o ∷ []) (below_top (stack s p)) there (topped (stack s p) o is),
+            same_self x.run,
+          )
+
+      made : (b : Bool) → nat_lt x.run (length s.world.runs) ≡ b → x.run < length s.world.runs
+      made true is = below x.run (length s.world.runs) is
+      made false off =
+          let all : Standing s = subst Standing (sym reached.is) (standing reached.limit reached.kind reached.parties reached.steps) in
+          absurd (omega (arith, used, (all.stands (tick_or_run.Run x.run)).unborn off))
+
+      unended : (b : Bool) (st : Stage) → (b || is_ended st) ≡ false → is_over_stage st ≡ false
+      unended false New is = refl
+      unended false Listed is = refl
+      unended false Ended is = absurd cc
+      unended true st is = absurd cc
+
+  steals : (x : Steal) (more : ℕ) → top (stack s p) ≡ Some (op.Steal (steal_op.Take x more))
+      → StealHas s.world (steal_op.Take x more)
+  steals x more is =
+      let o = op.Steal (steal_op.Take x more) in
+      omega (
+        arith,
+        room-here s x.poll.run reached,
+        split (filling_of x.poll.run) s.parties p (o ∷ []) (below_top (stack s p)) there (topped (stack s p) o is),
+        own x.poll.run more,
+      )
+    where
+      own : (r more : ℕ) → cond (r == r) (more + 1) 0 ≡ suc more
+      own r more = ap (λ b. cond b (more + 1) 0) (equal r r refl) ∙ next_one more
+        where
+          next_one : (n : ℕ) → n + 1 ≡ suc n
+          next_one n = omega arith
+
   pub has_here : (o : Op) → s.world.gone ≡ false → top (stack s p) ≡ Some o → Has s.world o
   has_here (op.Move move.Release f) open_still is =
       ((needs s p (op.Move move.Release f) there is good).0.0, released f is)
@@ -218,6 +287,10 @@ module _ (s : Machine) (p : ℕ) (reached : Reached s) (there : p < length s.par
   has_here (op.Closing closing_op.LeakNext) open_still is =
       (open_still, λ f rest here. (needs s p (op.Closing closing_op.LeakNext) there is good f rest here).0)
   has_here (op.Handle o) open_still is = needs s p (op.Handle o) there is good
+  has_here (op.List (list_op.LockRead x)) open_still is = walks x is
+  has_here (op.Run (run_op.WakeOwn x)) open_still is =
+      known_by s.world x.waker (needs s p (op.Run (run_op.WakeOwn x)) there is good)
+  has_here (op.Steal (steal_op.Take x more)) open_still is = steals x more is
   has_here o open_still is = tt
 
   -- a Runnable that comes to its queue finds a place there, and one that is dropped is that of a queued task

@@ -1,6 +1,6 @@
 -- Who lies, and what is left of the sleepers where it gets up or goes.
 use Rattle.std.proofs.Common.{◌≡◌, ℕ, suc, ◌+◌, ◌-◌, ◌≤◌, ◌<◌, ◌==◌, ◌++◌, ◌||◌, not, cond, nat_lt, Bool, true, false}
-use Rattle.std.proofs.Common.{List, [], ◌∷◌, length, map, Option, Some, None, is_some, slice_get, slice_set, subst}
+use Rattle.std.proofs.Common.{List, [], ◌∷◌, length, map, Option, Some, None, is_some, slice_get, subst}
 use Rattle.std.proofs.Common.{refl, sym, ap, ◌∙◌, arith}
 use Rattle.std.specs.Prelude.{filter, find, remove}
 use Rattle.std.proofs.lemmas.Bool.Decides.{nat_tests}
@@ -8,18 +8,18 @@ use Rattle.executor_parts.specs.Sleepers.{Sleepers, flag_of, freed, later, posit
 use Rattle.executor_parts.specs.Sleepers.{woken_up}
 use Rattle.executor_model.specs.declared.op.Sleeping.{Sleeping}
 use Rattle.executor_model.specs.declared.op.TickOrRun.{TickOrRun}
-use Rattle.executor_model.specs.declared.op.TickOrRun.TheVariants as tick_or_run
 use Rattle.executor_model.specs.declared.op.Waker.{Waker}
 use Rattle.executor_model.specs.SleepersAgree.{sleeps}
-use Rattle.executor_model.specs.World.{Asleep, Run, Ticker, World, tick_of}
-use Rattle.plain_scheduler.specs.State.{ATick, Lying, Plain, Who}
+use Rattle.executor_model.specs.World.{Asleep, Run, Ticker, World, place_of, runs_with, ticks_with}
+use Rattle.plain_scheduler.specs.State.{Lying, Plain, Who}
 use Rattle.plain_scheduler.specs.Lists.{any, or, without}
 use Rattle.plain_scheduler.specs.Moves.{is_called, is_who, lies}
 use Rattle.machine_roads.specs.View.{Output}
-use Rattle.machine_roads.specs.Road.{AreNumbered, Follows, is_told, place_in, sleeper, uncalled, who_of}
+use Rattle.machine_roads.specs.Road.{AreNumbered, Follows, is_told, place_in, run_view, sleeper, uncalled, who_of}
 use Rattle.machine_roads.proofs.Lists.{cons_is, length_map, map_append}
-use Rattle.machine_roads.proofs.Numbers.{Another, It, IsNamed, Which, awake_here, count, count_append, count_more, nobody, numbered_append}
-use Rattle.machine_roads.proofs.Numbers.{numbered_apart, numbered_first, numbered_rest, one_if, place_apart, ticks_who, which}
+use Rattle.machine_roads.proofs.Numbers.{Another, It, IsNamed, Which, awake_here, count, count_append, count_more, lies_so, nobody}
+use Rattle.machine_roads.proofs.Numbers.{numbered_append, numbered_apart, numbered_first, numbered_rest, one_if, place_apart, same_who}
+use Rattle.machine_roads.proofs.Numbers.{which}
 
 -- how many were called: as many as lie without a waker
 few_called : (ls : List (Lying Waker)) → length (uncalled ls) ≤ length ls
@@ -56,11 +56,12 @@ told_test (l ∷ ls) =
     called_test (l ∷ ls) ∙ sym (ap (λ b. b || nat_lt (length (uncalled (l ∷ ls))) (suc (length ls))) (none_test (length ls)))
 
 -- other sleepers and others who lie, who are alike
-pub lies_anew : (w : World) (q : Plain Output Waker) (s : Sleepers Sleeping) (ls : List (Lying Waker)) (ticks : List Ticker) → Follows w q
-    → map sleeper s.wakers ≡ uncalled ls → s.count ≡ length ls
-    → ((x : TickOrRun) → count (who_of x) ls ≡ sleeps (place_in ticks w.runs x)) → AreNumbered ticks w.runs s.wakers
-    → Follows (record w { sleepers = s; notified = flag_of s; ticks = ticks }) (record q { lying = ls })
-lies_anew w q s ls ticks r same many asleep numbered = record {
+pub lies_anew : (w : World) (q : Plain Output Waker) (s : Sleepers Sleeping) (ls : List (Lying Waker)) (ticks : List Ticker)
+    (runs : List Run) → Follows w q → map sleeper s.wakers ≡ uncalled ls → s.count ≡ length ls
+    → ((x : TickOrRun) → count (who_of x) ls ≡ sleeps (place_in ticks runs x)) → AreNumbered ticks runs s.wakers
+    → map run_view runs ≡ map run_view w.runs
+    → Follows (record w { sleepers = s; notified = flag_of s; ticks = ticks; runs = runs }) (record q { lying = ls })
+lies_anew w q s ls ticks runs r same many asleep numbered viewed = record {
   limit = r.limit;
   kind = r.kind;
   many = r.many;
@@ -80,7 +81,7 @@ lies_anew w q s ls ticks r same many asleep numbered = record {
       ∙ (ap (λ n. (n == 0) || nat_lt (length (uncalled ls)) n) many ∙ sym (told_test ls));
   asleep = asleep;
   numbered = numbered;
-  runs = r.runs;
+  runs = viewed ∙ r.runs;
   waking = r.waking;
   seen = r.seen;
 }
@@ -414,42 +415,46 @@ pub count_at : (who : Who) (xs ys : List (Lying Waker)) (l : Lying Waker)
     → count who (xs ++ l ∷ ys) ≡ count who xs + (one_if (lies who l) + count who ys)
 count_at who xs ys l = count_append who xs (l ∷ ys) ∙ ap (λ n. count who xs + n) (count_more who l ys)
 
-module _ (n t : ℕ) (w : World) (q : Plain Output Waker) (r : Follows w q) (k : Lies (ATick t) q.lying) where
+module _ (n : ℕ) (it : TickOrRun) (w : World) (q : Plain Output Waker) (r : Follows w q) (k : Lies (who_of it) q.lying) where
   abbrev others : List (Lying Waker)
-  others = without (lies (ATick t)) q.lying
+  others = without (lies (who_of it)) q.lying
 
-  its_who : ATick t ≡ k.one.who
-  its_who = ticks_who t k.one.who k.it
+  its_who : who_of it ≡ k.one.who
+  its_who = same_who (who_of it) k.one.who k.it
 
   pub count_before : (who : Who) → count who q.lying ≡ count who k.before + (one_if (is_who who k.one.who) + count who k.after)
   count_before who = ap (count who) k.is ∙ count_at who k.before k.after k.one
 
   pub count_others : (who : Who) → count who others ≡ count who k.before + count who k.after
   count_others who =
-      ap (count who) (ap (without (lies (ATick t))) k.is ∙ without_at (lies (ATick t)) k.before k.after k.one k.none_before k.it)
+      ap (count who)
+      (ap (without (lies (who_of it))) k.is ∙ without_at (lies (who_of it)) k.before k.after k.one k.none_before k.it)
       ∙ count_append who k.before k.after
 
-  module _ (is : tick_of w t ≡ Asleep n) (y : Ticker) (up : sleeps y ≡ 0) where
-    its_count : count (ATick t) others ≡ 0
+  module _ (is : place_of w it ≡ Asleep n) (y : Ticker) (up : sleeps y ≡ 0) where
+    its_count : count (who_of it) others ≡ 0
     its_count =
-        let it : one_if (is_who (ATick t) k.one.who) ≡ 1 = ap one_if k.it in
-        let one : count (ATick t) q.lying ≡ 1 = r.asleep (tick_or_run.Tick t) ∙ ap sleeps is in
-        omega (arith, count_others (ATick t), count_before (ATick t), it, one)
+        let here : one_if (is_who (who_of it) k.one.who) ≡ 1 = ap one_if k.it in
+        let one : count (who_of it) q.lying ≡ 1 = lies_so w q r it ∙ ap sleeps is in
+        omega (arith, count_others (who_of it), count_before (who_of it), here, one)
 
     -- it sleeps no more, and the others do
-    pub asleep_up : (x : TickOrRun) → count (who_of x) others ≡ sleeps (place_in (slice_set w.ticks t y) w.runs x)
-    asleep_up x = by x (which t x)
+    pub asleep_up : (x : TickOrRun)
+        → count (who_of x) others ≡ sleeps (place_in (ticks_with w.ticks it y) (runs_with w.runs it y) x)
+    asleep_up x = by x (which it x)
       where
-        by : (x : TickOrRun) → Which t x → count (who_of x) others ≡ sleeps (place_in (slice_set w.ticks t y) w.runs x)
-        by x It = its_count ∙ sym (awake_here w.ticks t y up)
+        by : (x : TickOrRun) → Which it x
+            → count (who_of x) others ≡ sleeps (place_in (ticks_with w.ticks it y) (runs_with w.runs it y) x)
+        by x It = its_count ∙ sym (awake_here w.ticks w.runs it y up)
         by x (Another z apart turned_apart) =
             let none : one_if (is_who (who_of z) k.one.who) ≡ 0 =
             ap (λ who. one_if (is_who (who_of z) who)) (sym its_who) ∙ ap one_if apart in
             let same : count (who_of z) others ≡ count (who_of z) q.lying =
             omega (arith, count_others (who_of z), count_before (who_of z), none) in
-            same ∙ (r.asleep z ∙ ap sleeps (sym (place_apart w.ticks w.runs t y z turned_apart)))
+            same ∙ (r.asleep z ∙ ap sleeps (sym (place_apart w.ticks w.runs it y z turned_apart)))
 
-    pub numbered_up : Up n (ATick t) w q → AreNumbered (slice_set w.ticks t y) w.runs (woken_up n w.sleepers).wakers
+    pub numbered_up : Up n (who_of it) w q
+        → AreNumbered (ticks_with w.ticks it y) (runs_with w.runs it y) (woken_up n w.sleepers).wakers
     numbered_up u =
-        numbered_apart w.ticks w.runs t y (woken_up n w.sleepers).wakers others u.wakers (nobody (ATick t) others its_count)
+        numbered_apart w.ticks w.runs it y (woken_up n w.sleepers).wakers others u.wakers (nobody (who_of it) others its_count)
         (u.numbered w.ticks w.runs r.numbered)

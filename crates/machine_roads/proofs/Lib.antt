@@ -24,7 +24,10 @@ pub mod Calling
 pub mod PollCalls
 pub mod Standing
 pub mod Aside
+pub mod GivingWay
 pub mod Trying
+pub mod RunsStay
+pub mod Passing
 pub mod Unseen
 pub mod Pending
 pub mod Losing
@@ -33,6 +36,7 @@ pub mod Dropped
 pub mod RunEnding
 pub mod Forgetting
 pub mod Lain
+pub mod Leaving
 pub mod Ticking
 pub mod TickPolls
 pub mod Copying
@@ -45,6 +49,9 @@ pub mod LoneLosing
 pub mod LoneTicks
 pub mod LoneTakes
 pub mod LoneTries
+pub mod LoneGoes
+pub mod LonePolls
+pub mod LoneTaking
 pub mod Leaking
 pub mod Nobody
 pub mod Rousing
@@ -53,6 +60,17 @@ pub mod Unborrowed
 pub mod LoneCloses
 pub mod LoneBehind
 pub mod RunsMade
+pub mod Runs
+pub mod RunsGone
+pub mod Adding
+pub mod Keeping
+pub mod Stealing
+pub mod RunTaking
+pub mod RunSearching
+pub mod TakenBeside
+pub mod RunsOn
+pub mod LoneRunsOn
+pub mod LoneGoesOn
 pub mod Inside
 pub mod Open
 pub mod Course

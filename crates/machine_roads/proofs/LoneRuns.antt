@@ -392,13 +392,13 @@ told_from now new reached p there h o steps P later todo free leads on made empt
     m.made empty
 
 -- a call has begun, where there is one thing to do
-record Begun (s : Machine) (p : ℕ) (c : Call) (o : Op) : Type 0 where
-  reached : Reached (after s (Begin p c))
-  there : p < length (after s (Begin p c)).parties
-  world : (after s (Begin p c)).world ≡ (begins p None c s.world).world
-  todo : reverse (stack (after s (Begin p c)) p) ≡ o ∷ []
+pub record Begun (s : Machine) (p : ℕ) (c : Call) (o : Op) : Type 0 where
+  pub reached : Reached (after s (Begin p c))
+  pub there : p < length (after s (Begin p c)).parties
+  pub world : (after s (Begin p c)).world ≡ (begins p None c s.world).world
+  pub todo : reverse (stack (after s (Begin p c)) p) ≡ o ∷ []
 
-begun_so : (s : Machine) → Reached s → (p : ℕ) (c : Call) (o : Op) → IsQuiet s.world.trace → refusal s (Begin p c) ≡ None
+pub begun_so : (s : Machine) → Reached s → (p : ℕ) (c : Call) (o : Op) → IsQuiet s.world.trace → refusal s (Begin p c) ≡ None
     → (begins p None c s.world).next ≡ o ∷ [] → end_of (Some o) ≡ None → Begun s p c o
 begun_so s reached p c o quiet may first unended =
     let there : p < length s.parties =

@@ -30,7 +30,7 @@ use Rattle.machine_roads.proofs.RunsMade.{makes_run}
 use Rattle.machine_roads.proofs.Trying.{tries}
 
 -- where it rests first is on its way
-first_rest : (s new : Machine) → Reached s → (p : ℕ) (c : Call) (steps : List Step) (R : Done → Type 0) → IsLoneCall p c steps s new
+pub first_rest : (s new : Machine) → Reached s → (p : ℕ) (c : Call) (steps : List Step) (R : Done → Type 0) → IsLoneCall p c steps s new
     → Rests p R new → RestsFirst p R new
 first_rest s new reached p c steps R lone (Whole so) =
     let none : stack new p ≡ [] = rests new (deep-here new (reached-more (Begin p c ∷ steps) s new reached lone.made)) lone.ended p in

@@ -30,28 +30,29 @@ use Rattle.plain_scheduler.specs.Calls as plain_calls
 use Rattle.plain_scheduler.specs.Calls.{does, Ends, EndsWith, Pends, PollTick, TryTick}
 use Rattle.machine_roads.specs.View.{Output, wakes}
 use Rattle.machine_roads.specs.Road.{Follows, waking_in}
-use Rattle.machine_roads.specs.Alone.{Has}
+use Rattle.machine_roads.specs.Alone.{alone, Has}
 use Rattle.machine_roads.specs.Dropped.{Drops, IsEnding, answered, loses, rest_of, without_run}
 use Rattle.machine_roads.specs.Forgotten.{IsForgotten, IsLastPoll, StopsForgetting, unawaited, without_awaiter}
 use Rattle.machine_roads.specs.Lone.{EachLoneAlike, Ended, LoneTicksEnd, LoneTriesEnd, ends as ends_with, is_end, over}
 use Rattle.machine_roads.specs.Stopped.{Finally, IsInPoll, of_tick, of_try}
-use Rattle.machine_roads.proofs.Aside.{called_inside}
-use Rattle.machine_roads.proofs.Forgetting.{forgets_so, forgotten_goes, forgotten_inside}
+use Rattle.machine_roads.proofs.Forgetting.{forgets_so, forgets_with, forgotten_by}
 use Rattle.machine_roads.proofs.Lists.{cons_is}
 use Rattle.machine_roads.proofs.LoneCalls.{each}
 use Rattle.machine_roads.proofs.LoneRuns.{InCode, Inside, IsBefore, Rests, Whole, before, ends_so, goes_on_of, lone_calls_rest}
 use Rattle.machine_roads.proofs.LoneTicks.{can_poll, may_begin}
 use Rattle.machine_roads.proofs.LyingDown.{polls_tick_so}
+use Rattle.machine_roads.proofs.Passing.{passes_end}
 use Rattle.machine_roads.proofs.Pending.{gives_so, pends_so}
 use Rattle.machine_roads.proofs.Puts.{put_at, put_by}
-use Rattle.machine_roads.proofs.RunEnding.{drops, loses_in_take}
+use Rattle.machine_roads.proofs.RunEnding.{drops, loses_with, lost_by}
 use Rattle.machine_roads.proofs.Standing.{Answered, Behind, InDrop, InPoll, IsGoing, IsTaken, Stands, StandsSo, Stays, StaysSo}
-use Rattle.machine_roads.proofs.Trying.{final_inside, tries_so, yes}
+use Rattle.machine_roads.proofs.Trying.{tries_so, yes}
 use Rattle.machine_roads.proofs.Tying.{AtEnd, Leads, LeadsSo}
 use Rattle.machine_roads.proofs.Unseen.{stands_in}
 
 module _ (p : ℕ) (new : Machine) (later : new.world.gone ≡ false) (last : Reached new) (quiet : IsQuiet new.world.trace)
-    (c : Choice) (codes : List (Code Output Waker)) (taker : Taker Waker) (final : Op) (it : Finally taker final) where
+    (c : Choice) (codes : List (Code Output Waker)) (taker : Taker Waker) (final : Op)
+    (it : (q : Plain Output Waker) → Finally q taker final) where
   -- the user code that is left ends so
   abbrev Result : Plain Output Waker → Type 0
   Result r = (z : Plain Output Waker) × Ended r z × (z.inside ≡ codes) × Follows new.world z
@@ -72,6 +73,11 @@ module _ (p : ℕ) (new : Machine) (later : new.world.gone ≡ false) (last : Re
   once_more : (e : plain_calls.Call Output Waker) (r : Plain Output Waker) → is_end e ≡ true → Result (does wakes (telling r) e r)
       → Result r
   once_more e r it so = (so.0, ends_with (telling r) e r so.0 it (least (length r.lying)) so.1, so.2, so.3)
+
+  -- so the call leaves both
+  record Leaves (z : Plain Output Waker) (w : World) : Type 0 where
+    follows : Follows w z
+    inside : z.inside ≡ codes
 
   -- the drop of an output ends, and so does the call
   from_loss : (f : ℕ) (b r : Plain Output Waker) → b.inside ≡ codes → Rests p (λ e. Drops taker final [] f b e r) new → Result r
@@ -103,21 +109,20 @@ module _ (p : ℕ) (new : Machine) (later : new.world.gone ≡ false) (last : Re
                 stands_in codes (without_run f m.world) r ending.follows
                 (sym (ap (λ codes. waking_in codes) inside ∙ ap (λ codes. waking_in codes) same));
           } in
-          let P : World → Type 0 = λ w. Follows w (does wakes c1 Ends r1) in
-          let leads : Leads p (done m.world (rest_of (task m.world f).awaiter f final ++ [])) P =
+          let P : World → Type 0 = Leaves (does wakes c1 Ends r1) in
+          let os = rest_of (task m.world f).awaiter f final ++ [] in
+          let leads : Leads p (done m.world os) P =
           λ hints all rests.
-          loses_in_take taker final p f [] m.world r0 awaiter c1 it refl ending0 (least (length r.lying)) hints tt all rests in
+          let e =
+          passes_end p [] refl (alone p hints (done m.world os)) rests taker final r0 (it r0) c1 (loses_with taker awaiter r0)
+          (lost_by taker final p f [] m.world r0 awaiter c1 ending0 (least (length r.lying)) hints all rests) in
+          (e.0, record { follows = e.1; inside = e.2 }) in
           let now : Leads p (done (react p x.first x.end m.world).world ((react p x.first x.end m.world).next ++ x.rest)) P =
           subst (λ o. Leads p (done (react p o x.end m.world).world ((react p o x.end m.world).next ++ x.rest)) P) (sym both.0)
           (subst (λ os. Leads p (done m.world os) P) (sym both.1) leads) in
           let ended = ends_so p P new (goes_on (λ e. Drops taker final [] f b e r) (AtEnd P) x now) in
           subst Result is
-          (once_more Ends r1 refl (
-            does wakes c1 Ends r1,
-            over (does wakes c1 Ends r1),
-            final_inside taker final it c1 (on awaiter (called wakes (tell wakes c1)) r0) ∙ called_inside c1 awaiter r0,
-            ended,
-          ))
+          (once_more Ends r1 refl (does wakes c1 Ends r1, over (does wakes c1 Ends r1), ended.inside, ended.follows))
 
   -- so does the drop of a future
   from_drop : (R : Done → Type 0) (x : InCode p R new) (f : ℕ) (mv : Move) (why : End Output) → IsGoing x.machine.world f mv why
@@ -134,7 +139,7 @@ module _ (p : ℕ) (new : Machine) (later : new.world.gone ≡ false) (last : Re
       let S : Done → Type 0 = λ e. Drops taker final [] f r0 e (does wakes c1 Ends r1) in
       let leads : LeadsSo p (done m.world os) S =
       λ hints all rests.
-      drops p None [] m.world r0 refl (stands_in codes m.world r follows (sym (ap (λ codes. waking_in codes) inside))) taker final it
+      drops p None [] m.world r0 refl (stands_in codes m.world r follows (sym (ap (λ codes. waking_in codes) inside))) taker final (it r0)
       f mv why going.known going.entered going.ends c1 (least (length r.lying)) hints all rests in
       let now : LeadsSo p (done (react p x.first x.end m.world).world ((react p x.first x.end m.world).next ++ x.rest)) S =
       subst (λ o. LeadsSo p (done (react p o x.end m.world).world ((react p o x.end m.world).next ++ x.rest)) S) (sym both.0)
@@ -174,16 +179,20 @@ module _ (p : ℕ) (new : Machine) (later : new.world.gone ≡ false) (last : Re
             (sym (ap (λ codes. waking_in codes) (put_by (λ p. p.inside) f (record (plain_task f r) { awaiter = None }) r (λ fs. refl))
             ∙ (ap (λ codes. waking_in codes) x.so.inside ∙ ap (λ codes. waking_in codes) same))));
       } in
-      let P : World → Type 0 = λ w. Follows w (does wakes c1 Ends r1) in
+      let P : World → Type 0 = Leaves (does wakes c1 Ends r1) in
       let leads : Leads p (done m.world os) P =
-      λ hints all rests. forgotten_goes taker final p f [] m.world r0 c1 it refl forgotten0 (least (length r.lying)) hints tt all rests in
+      λ hints all rests.
+      let e =
+      passes_end p [] refl (alone p hints (done m.world os)) rests taker final r0 (it r0) c1 (forgets_with taker f r0)
+      (forgotten_by taker final p f [] m.world r0 c1 forgotten0 (least (length r.lying)) hints all rests) in
+      (e.0, record { follows = e.1; inside = e.2 }) in
       let now : Leads p (done (react p x.first x.end m.world).world ((react p x.first x.end m.world).next ++ x.rest)) P =
       subst (λ o. Leads p (done (react p o x.end m.world).world ((react p o x.end m.world).next ++ x.rest)) P) (sym both.0)
       (subst (λ os. Leads p (done m.world os) P) (sym both.1) leads) in
       let ended = ends_so p P new (goes_on (λ e. StopsForgetting taker final [] f b e r) (AtEnd P) x now) in
       subst Result is
       (once_more Ends r1 refl
-      (does wakes c1 Ends r1, over (does wakes c1 Ends r1), forgotten_inside taker final it c1 f r0, ended))
+      (does wakes c1 Ends r1, over (does wakes c1 Ends r1), ended.inside, ended.follows))
     where
       unawaited_in : (f : ℕ) (r : Plain Output Waker)
           → record (unawaited f r) { inside = codes } ≡ unawaited f (record r { inside = codes })
@@ -265,7 +274,7 @@ module _ (p : ℕ) (new : Machine) (later : new.world.gone ≡ false) (last : Re
               (from_stays r0 (does wakes c1 Pends r1) refl
               (goes_on R S x (now (end.Polled answer.Pending) S at
               (λ hints all rests.
-              pends_so p [] x.machine.world r0 refl follows0 taker final it f in_poll c1 (least (length r.lying)) hints all rests))))
+              pends_so p [] x.machine.world r0 refl follows0 taker final (it r0) f in_poll c1 (least (length r.lying)) hints all rests))))
           pends true last =
               let S : Done → Type 0 = λ e. StopsForgetting taker final [] f r0 e (does wakes c1 Pends r1) in
               let last_poll : IsLastPoll x.machine.world f =
@@ -305,8 +314,8 @@ module _ (p : ℕ) (new : Machine) (later : new.world.gone ≡ false) (last : Re
 
 pub tries_end_so : (s : Machine) → Reached s → (q : Plain Output Waker) → IsQuiet s.world.trace → Follows s.world q → LoneTriesEnd s q
 tries_end_so s reached q quiet follows p c steps first many new later lone =
-    from_take p new later (reached-more (Begin p call.TryTick ∷ steps) s new reached lone.made) lone.ended c q.inside Try yes of_try q
-    (does wakes c TryTick q) refl
+    from_take p new later (reached-more (Begin p call.TryTick ∷ steps) s new reached lone.made) lone.ended c q.inside Try yes
+    (λ q. of_try) q (does wakes c TryTick q) refl
     (lone_calls_rest s reached p call.TryTick steps new (λ e. StandsSo Try yes [] q e (does wakes c TryTick q)) quiet later
     (λ hints all rests. tries_so p [] s.world q refl follows c first many hints all rests) lone)
 
@@ -351,7 +360,7 @@ ticks_end_so s reached q quiet follows p t c b steps first room new later lone =
     let r = rested.0 in
     let end =
     from_take p new later (reached-more (Begin p (call.PollTick t b) ∷ steps) s new reached lone.made) lone.ended c q.inside (Tick t a)
-    final (of_tick t a) q (z r) refl rested.1 in
+    final (λ q. of_tick t a) q (z r) refl rested.1 in
     (r, end.0, end.1, end.2, end.3)
 
 pub lone_ticks_end : EachLoneAlike LoneTicksEnd

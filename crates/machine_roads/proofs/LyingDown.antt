@@ -45,16 +45,16 @@ use Rattle.machine_roads.proofs.Lain.{Lies, all_called, all_uncalled, below_test
 use Rattle.machine_roads.proofs.Lain.{left, lies_anew, long, neither}
 use Rattle.machine_roads.proofs.Lain.{none_found, found, one_lies, place_called, place_uncalled, room_called, split_uncalled, told_test}
 use Rattle.machine_roads.proofs.Lain.{uncalled_append}
+use Rattle.machine_roads.proofs.Leaving.{sleeper_goes_so}
 use Rattle.machine_roads.proofs.Lists.{equal, get_last, length_last, map_append}
 use Rattle.machine_roads.proofs.Numbers.{Another, It, IsNamed, Rests, Which, asleep_set, count, count_append, count_one, down, itself}
 use Rattle.machine_roads.proofs.Numbers.{numbered_append, numbered_first, numbered_rest, numbered_still, one_if, place_apart, rests_if}
-use Rattle.machine_roads.proofs.Numbers.{ticks_who, up as is_up, which}
+use Rattle.machine_roads.proofs.Numbers.{same_who, up as is_up, which}
 use Rattle.machine_roads.proofs.PollCalls.{copied_lying}
 use Rattle.machine_roads.proofs.Polling.{copies_so}
 use Rattle.machine_roads.proofs.Standing.{StandsSo, stops_so}
 use Rattle.machine_roads.proofs.Stepping.{Way, next}
 use Rattle.machine_roads.proofs.TickPolls.{Comes, answers_so, searches, searches_none, sleepy}
-use Rattle.machine_roads.proofs.Ticking.{sleeper_goes_so}
 use Rattle.machine_roads.proofs.Unseen.{turns}
 
 -- lists: one that comes last is put again, and is where it is looked for
@@ -271,17 +271,17 @@ module _ (p : ℕ) (below : List Op) (under : is_resting below ≡ true) (end : 
         subst (λ b. Way p end (sleep_anew_by b w1 s).world ((sleep_anew_by b w1 s).next ++ below))
         (below_test w1.sleepers.count w1.sleepers.rooms (can.roomed awake)) way in
         let follows2 : Follows w2 lain =
-        lies_anew w1 q1 (put_to_sleep s w1.sleepers) lain.lying (slice_set w1.ticks t (Asleep n)) follows1
+        lies_anew w1 q1 (put_to_sleep s w1.sleepers) lain.lying (slice_set w1.ticks t (Asleep n)) w1.runs follows1
         (lain_so w1.sleepers.wakers n (follows1.wakers ∙ ap uncalled (sym as_it_was)))
         (ap (λ n. n + 1) follows1.count
         ∙ (one_more (length q1.lying)
         ∙ (ap (λ (ls : List (Lying Waker)). suc (length ls)) (sym as_it_was)
         ∙ sym (length_last (without (lies who) q1.lying) new_one))))
-        (λ x. abed x (which t x))
+        (λ x. abed x (which (tick_or_run.Tick t) x))
         (numbered_append (slice_set w1.ticks t (Asleep n)) w1.runs w1.sleepers.wakers ((n, s) ∷ [])
         (numbered_still w1.ticks w1.runs (slice_set w1.ticks t (Asleep n)) w1.runs
-        (asleep_set w1.ticks w1.runs t (Asleep n) (ap sleeps awake)) w1.sleepers.wakers follows1.numbered)
-        (get_or-set_same w1.ticks t (Asleep n) Left (in_ticks w1.ticks t awake), tt)) in
+        (asleep_set w1.ticks w1.runs (tick_or_run.Tick t) (Asleep n) (ap sleeps awake)) w1.sleepers.wakers follows1.numbered)
+        (get_or-set_same w1.ticks t (Asleep n) Left (in_ticks w1.ticks t awake), tt)) refl in
         let bed : IsBedded w2 =
         record {
           number = n;
@@ -298,14 +298,14 @@ module _ (p : ℕ) (below : List Op) (under : is_resting below ≡ true) (end : 
         one_more n = omega arith
 
         -- it sleeps too
-        abed : (x : TickOrRun) → Which t x
+        abed : (x : TickOrRun) → Which (tick_or_run.Tick t) x
             → count (who_of x) lain.lying ≡ sleeps (place_in (slice_set w1.ticks t (Asleep (next_number w1.sleepers))) w1.runs x)
         abed x It =
             let here = get_or-set_same w1.ticks t (Asleep (next_number w1.sleepers)) Left (in_ticks w1.ticks t awake) in
             let before : count who q1.lying ≡ 0 = follows1.asleep (tick_or_run.Tick t) ∙ ap sleeps awake in
             let same : count who (without (lies who) q1.lying) ≡ 0 =
             ap (count who) (none_without (lies who) q1.lying none) ∙ before in
-            let last : count who (new_one ∷ []) ≡ 1 = count_one who new_one ∙ ap one_if (itself t) in
+            let last : count who (new_one ∷ []) ≡ 1 = count_one who new_one ∙ ap one_if (itself (tick_or_run.Tick t)) in
             let total : count who lain.lying ≡ count who (without (lies who) q1.lying) + count who (new_one ∷ []) =
             count_append who (without (lies who) q1.lying) (new_one ∷ []) in
             let one : count who lain.lying ≡ 1 = omega (arith, total, last, same) in
@@ -320,7 +320,7 @@ module _ (p : ℕ) (below : List Op) (under : is_resting below ≡ true) (end : 
             same
             ∙ (ap (count (who_of z)) (none_without (lies who) q1.lying none)
             ∙ (follows1.asleep z
-            ∙ ap sleeps (sym (place_apart w1.ticks w1.runs t (Asleep (next_number w1.sleepers)) z turned_apart))))
+            ∙ ap sleeps (sym (place_apart w1.ticks w1.runs (tick_or_run.Tick t) (Asleep (next_number w1.sleepers)) z turned_apart))))
 
     module _ (n : ℕ) (is : tick_of w1 t ≡ Asleep n) (l : Lies who q1.lying) where
       -- it was called
@@ -337,13 +337,13 @@ module _ (p : ℕ) (below : List Op) (under : is_resting below ≡ true) (end : 
           let many : suc (length (without (lies who) q1.lying)) ≡ length q1.lying =
           ap (λ (ls : List (Lying Waker)). suc (length ls)) less ∙ sym (long n who w1 q1 follows1 named l) in
           let follows2 : Follows w2 lain =
-          lies_anew w1 q1 (listed n s w1.sleepers) lain.lying w1.ticks follows1
+          lies_anew w1 q1 (listed n s w1.sleepers) lain.lying w1.ticks w1.runs follows1
           (lain_so w1.sleepers.wakers n
           (follows1.wakers
           ∙ (all_called n who w1 q1 follows1 named l called ∙ (sym (uncalled_append l.before l.after) ∙ ap uncalled (sym less)))))
           (follows1.count ∙ (sym many ∙ sym (length_last (without (lies who) q1.lying) new_one)))
           (λ x. listed_count (who_of x) ∙ follows1.asleep x)
-          (numbered_append w1.ticks w1.runs w1.sleepers.wakers ((n, s) ∷ []) follows1.numbered (is, tt)) in
+          (numbered_append w1.ticks w1.runs w1.sleepers.wakers ((n, s) ∷ []) follows1.numbered (is, tt)) refl in
           let bed : IsBedded w2 = record { number = n; before = w1.sleepers.wakers; place = is; last = refl } in
           again w2 q lain follows2
           (omega (arith, fit1, many, length_last (without (lies who) q1.lying) new_one))
@@ -354,10 +354,11 @@ module _ (p : ℕ) (below : List Op) (under : is_resting below ≡ true) (end : 
           listed_count : (x : Who) → count x lain.lying ≡ count x q1.lying
           listed_count x =
               let last : count x (new_one ∷ []) ≡ one_if (is_who x l.one.who) =
-              count_one x new_one ∙ ap (λ who. one_if (is_who x who)) (ticks_who t l.one.who l.it) in
+              count_one x new_one ∙ ap (λ who. one_if (is_who x who)) (same_who who l.one.who l.it) in
               let total : count x lain.lying ≡ count x (without (lies who) q1.lying) + count x (new_one ∷ []) =
               count_append x (without (lies who) q1.lying) (new_one ∷ []) in
-              omega (arith, total, last, count_others n t w1 q1 follows1 l x, count_before n t w1 q1 follows1 l x)
+              let it = tick_or_run.Tick t in
+              omega (arith, total, last, count_others n it w1 q1 follows1 l x, count_before n it w1 q1 follows1 l x)
 
       -- it lay still: its waker is replaced
       lies_again : (named : IsNamed n who w1.sleepers.wakers) (x : Waker) → l.one.waker ≡ Some x
@@ -379,7 +380,7 @@ module _ (p : ℕ) (below : List Op) (under : is_resting below ≡ true) (end : 
           map_append sleeper sp.first ((n, s) ∷ sp.rest)
           ∙ (ap (λ xs. xs ++ (who, a) ∷ map sleeper sp.rest) sp.firsts
           ∙ (ap (λ ys. uncalled l.before ++ (who, a) ∷ ys) sp.rests
-          ∙ (ap (λ v. uncalled l.before ++ (v, a) ∷ uncalled l.after) (ticks_who t l.one.who l.it)
+          ∙ (ap (λ v. uncalled l.before ++ (v, a) ∷ uncalled l.after) (same_who who l.one.who l.it)
           ∙ sym (uncalled_append l.before (one ∷ l.after))))) in
           let follows2 : Follows w2 q2 =
           replaced w1 q1 ws ls follows1 same (lengths l.before l.after one l.one ∙ ap length (sym l.is))
@@ -419,7 +420,7 @@ module _ (p : ℕ) (below : List Op) (under : is_resting below ≡ true) (end : 
                 Pending refl (goes_inside c (Some sp.one.1.waker) q2 ∙ copied_inside a q) g.follows g.way),
           )
 
-    falls_asleep : length q.lying < c.tells → Rests w1 q1 t → CanPoll w1 t
+    falls_asleep : length q.lying < c.tells → Rests w1 q1 (tick_or_run.Tick t) → CanPoll w1 t
         → Way p end (fall_asleep_by (tick_of w1 t) w1 s).world ((fall_asleep_by (tick_of w1 t) w1 s).next ++ below) → Result q
     falls_asleep room (is_up awake none) can way = by (tick_of w1 t) refl awake can.living way
       where
@@ -454,8 +455,8 @@ module _ (p : ℕ) (below : List Op) (under : is_resting below ≡ true) (end : 
       by false can_copy way =
           let two = next p end rests (op.Tick (tick_op.FallAsleep s)) (copied w a) below refl way in
           falls_asleep w q follows (omega (arith, room)) can_copy quiet room
-          (rests_if t (copied w a) (plain.copied wakes a q) (copies_so a w q follows can_copy) (λ n is. two.has)) (copied_can a w t can)
-          two.way
+          (rests_if (tick_or_run.Tick t) (copied w a) (plain.copied wakes a q) (copies_so a w q follows can_copy) (λ n is. two.has))
+          (copied_can a w t can) two.way
 
 pub polls_tick_so : (p : ℕ) (here : Option Waker) (below : List Op) (w : World) (q : Plain Output Waker) → is_resting below ≡ true
     → Follows w q → (c : Choice) (t : ℕ) (b : By) → c.first ≡ first_of w.urgent_turns → length q.lying < c.tells → CanPoll w t

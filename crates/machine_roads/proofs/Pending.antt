@@ -35,11 +35,13 @@ use Rattle.machine_roads.specs.Stopped.{Finally, GivesAlikeInTake, IsInPoll, Pen
 use Rattle.machine_roads.proofs.Aside.{becomes_inside}
 use Rattle.machine_roads.proofs.Changing.{logs, puts, sees}
 use Rattle.machine_roads.proofs.Exchanging.{loudly}
-use Rattle.machine_roads.proofs.Moved.{becoming}
+use Rattle.machine_roads.proofs.Moved.{Then, becoming, fits}
+use Rattle.machine_roads.proofs.Passing.{GoesBy, passed, stays_by, stood, telling}
+use Rattle.machine_roads.proofs.RunsStay.{RunsStay, becomes_stays}
 use Rattle.machine_roads.proofs.Running.{end_of, pending_is, run_alike}
-use Rattle.machine_roads.proofs.Standing.{Answered, InDrop, IsTaken, Stays, StaysSo, stopped_so}
+use Rattle.machine_roads.proofs.Standing.{InDrop, IsTaken, StaysSo, stopped_so}
 use Rattle.machine_roads.proofs.Stepping.{Way, next}
-use Rattle.machine_roads.proofs.Trying.{final_inside, finally_so, stops_at}
+use Rattle.machine_roads.proofs.Trying.{stops_at}
 use Rattle.machine_roads.proofs.Unseen.{places_so, stands_in}
 
 -- what the end of such a poll makes of a task, mark by mark
@@ -53,25 +55,33 @@ pends_as s aw is x y z closed woken last =
     (subst (λ e. IsMove (moves.end_pending s) s aw (pended_by e (view s aw))) (pending_is s aw is) ((run_alike s aw).pends is).is)))
 
 module _ (p : ℕ) (below : List Op) (under : is_resting below ≡ true) (end : Done) (rests : is_resting end.next ≡ true)
-    (taker : Taker Waker) (final : Op) (it : Finally taker final) where
-  -- a task that stays becomes another, and the try is answered
-  stays : (c : Choice) (f : ℕ) (w : World) (q : Plain Output Waker) (new : AbstractTask Output Waker) → length q.lying ≤ c.tells
-      → Follows w (becomes wakes (tell wakes c) f new q) → Way p end w (final ∷ below)
-      → StaysSo taker final below q end (plain_takes.next wakes c taker (becomes wakes (tell wakes c) f new q))
-  stays c f w q new many follows way =
-      let e = finally_so p below under end rests taker final it c w (becomes wakes (tell wakes c) f new q) follows way in
-      record {
-        stays =
-            subst (λ codes. Stays taker final below q.inside end.world end.next codes)
-            (sym (final_inside taker final it c (becomes wakes (tell wakes c) f new q) ∙ becomes_inside c f new q))
-            (subst (λ os. Stays taker final below q.inside end.world os q.inside) (sym e.0) Answered);
-        follows = e.1;
-      }
+    (taker : Taker Waker) (final : Op) (c : Choice) where
+  abbrev pends_with : ℕ → Plain Output Waker → Choice → Plain Output Waker
+  pends_with f q d = does wakes d Pends (record q { inside = Poll f taker ∷ q.inside })
 
-  pended_ends : (c : Choice) (f : ℕ) (w : World) (q : Plain Output Waker) → length q.lying ≤ c.tells → Follows w q → IsInPoll w f
-      → Way p end w (op.Move move.EndPending f ∷ final ∷ below)
-      → StaysSo taker final below q end (does wakes c Pends (record q { inside = Poll f taker ∷ q.inside }))
-  pended_ends c f w q many follows is way =
+  abbrev pub PendsBy : ℕ → Plain Output Waker → Type 0
+  PendsBy f q = GoesBy p taker final below q c.tells end (pends_with f q) (StaysSo taker final below q end)
+
+  -- a task that stays becomes another
+  stays : (f : ℕ) (q : Plain Output Waker) (new : AbstractTask Output Waker) → length q.lying ≤ c.tells
+      → Then p end (final ∷ below) (becomes wakes (tell wakes c) f new q)
+      → ((d : Choice) → pends_with f q (telling c.tells d)
+      ≡ plain_takes.next wakes (telling c.tells d) taker (becomes wakes (tell wakes c) f new q))
+      → PendsBy f q
+  stays f q new many so is =
+      passed
+      (record {
+        before = becomes wakes (tell wakes c) f new q;
+        so = so;
+        fit = fits p end rests (tell wakes c) (λ q. length q.lying ≤ c.tells) (loudly p end rests c) f new q many;
+        inside = becomes_inside c f new q;
+        stay = becomes_stays c f new q;
+        is = is;
+      })
+
+  pended_ends : (f : ℕ) (w : World) (q : Plain Output Waker) → length q.lying ≤ c.tells → Follows w q → IsInPoll w f
+      → Way p end w (op.Move move.EndPending f ∷ final ∷ below) → PendsBy f q
+  pended_ends f w q many follows is way =
       let s1 = next p end rests (op.Move move.EndPending f) w (final ∷ below) refl way in
       by (world.task w f).closed (world.task w f).scheduled (moves.is_last (world.task w f)) refl refl refl is.reached
       (pending_is (world.task w f) (waker_in (awaiter_of w f)) is.polled) s1.way
@@ -83,7 +93,7 @@ module _ (p : ℕ) (below : List Op) (under : is_resting below ≡ true) (end : 
           (moves.end_pending_by x y z (world.task w f)).state)
           (owed_ops (among f (told_of (not x && (not y && z)) false move.EndPending p w f).table) f
           (moves.end_pending_by x y z (world.task w f)).owed ++ (final ∷ below))
-          → StaysSo taker final below q end (does wakes c Pends (record q { inside = Poll f taker ∷ q.inside }))
+          → PendsBy f q
       by true y z closed woken last_one reached ending way =
           let os = final ∷ below in
           let s = world.task w f in
@@ -98,7 +108,7 @@ module _ (p : ℕ) (below : List Op) (under : is_resting below ≡ true) (end : 
           let last =
           stops_at p below under end rests
           (op.User (user_op.Drop f) ∷ op.Table (table_op.LeaveTable f) ∷ op.Move move.EndClosed f ∷ os) w3 refl s3.way in
-          subst (λ e. StaysSo taker final below q end (plain_calls.pending_by wakes c e f taker q))
+          stood (λ d. subst (λ e. StaysSo taker final below q end (plain_calls.pending_by wakes (telling c.tells d) e f taker q))
           (sym (ap abstract.pending_end (follows.tasks f is.known) ∙ ending))
           (subst (λ (e : Done). StaysSo taker final below q e (plain_takes.dropping wakes c f Closed taker q)) last
           (record {
@@ -108,7 +118,10 @@ module _ (p : ℕ) (below : List Op) (under : is_resting below ≡ true) (end : 
             follows =
                 stands_in (Drop f Closed taker ∷ q.inside) w3 (see (DropsFuture f) q)
                 (sees w2 q (places_so (slice_set w.inside f false) w q follows) (event.Dropped p f) (DropsFuture f) refl) refl;
-          }))
+          })))
+          (λ d. subst (λ e. RunsStay q (plain_calls.pending_by wakes (telling c.tells d) e f taker q))
+          (sym (ap abstract.pending_end (follows.tasks f is.known) ∙ ending))
+          (record { runs = refl; kept = λ k. refl }))
       by false true z open_still woken last_one reached ending way =
           let os = final ∷ below in
           let s = world.task w f in
@@ -128,10 +141,11 @@ module _ (p : ℕ) (below : List Op) (under : is_resting below ≡ true) (end : 
           becoming p end rests (tell wakes c) (λ q. length q.lying ≤ c.tells) (loudly p end rests c) f (world.put w f after) os q new
           true follows2 many (ap (λ t. is_some (info_of t (abstract.queue true t))) tk ∙ sym al.queues) way in
           let ending_is : abstract.pending_end t ≡ Queues = ap abstract.pending_end tk ∙ ending in
-          subst (StaysSo taker final below q end)
-          (sym (ap (λ e. plain_calls.pending_by wakes c e f taker q) ending_is
-          ∙ ap (λ e. plain_takes.next wakes c taker (becomes wakes (tell wakes c) f (abstract.end_pending_by e t).task q)) ending_is))
-          (stays c f put_in.world q new many put_in.follows put_in.way)
+          stays f q new many put_in
+          (λ d. ap (λ e. plain_calls.pending_by wakes (telling c.tells d) e f taker q) ending_is
+          ∙ ap
+          (λ e. plain_takes.next wakes (telling c.tells d) taker (becomes wakes (tell wakes c) f (abstract.end_pending_by e t).task q))
+          ending_is)
       by false false true open_still woken last_one reached ending way = absurd cc
       by false false false open_still woken last_one reached ending way =
           let os = final ∷ below in
@@ -155,17 +169,18 @@ module _ (p : ℕ) (below : List Op) (under : is_resting below ≡ true) (end : 
           (ap (λ (t : AbstractTask Output Waker). is_some (info_of t (record t { phase = abstract.Phase.Idle }))) tk ∙ sym al.queues)
           way in
           let ending_is : abstract.pending_end t ≡ Rests = ap abstract.pending_end tk ∙ ending in
-          subst (StaysSo taker final below q end)
-          (sym (ap (λ e. plain_calls.pending_by wakes c e f taker q) ending_is
-          ∙ ap (λ e. plain_takes.next wakes c taker (becomes wakes (tell wakes c) f (abstract.end_pending_by e t).task q)) ending_is))
-          (stays c f put_in.world q new many put_in.follows put_in.way)
+          stays f q new many put_in
+          (λ d. ap (λ e. plain_calls.pending_by wakes (telling c.tells d) e f taker q) ending_is
+          ∙ ap
+          (λ e. plain_takes.next wakes (telling c.tells d) taker (becomes wakes (tell wakes c) f (abstract.end_pending_by e t).task q))
+          ending_is)
 
-pub pends_so : (p : ℕ) (below : List Op) (w : World) (q : Plain Output Waker) → is_resting below ≡ true → Follows w q
-    → (taker : Taker Waker) (final : Op) → Finally taker final → (f : ℕ) → IsInPoll w f → (c : Choice) → length q.lying ≤ c.tells
-    → (hints : List Hint) → HasAll p hints (pended p f final below w) → is_resting (alone p hints (pended p f final below w)).next ≡ true
-    → StaysSo taker final below q (alone p hints (pended p f final below w))
-    (does wakes c Pends (record q { inside = Poll f taker ∷ q.inside }))
-pends_so p below w q under follows taker final it f is c many hints has rests =
+pub pends_by : (p : ℕ) (below : List Op) (w : World) (q : Plain Output Waker) (under : is_resting below ≡ true) → Follows w q
+    → (taker : Taker Waker) (final : Op) (f : ℕ) → IsInPoll w f → (c : Choice) → length q.lying ≤ c.tells
+    → (hints : List Hint) → HasAll p hints (pended p f final below w)
+    → (rests : is_resting (alone p hints (pended p f final below w)).next ≡ true)
+    → PendsBy p below under (alone p hints (pended p f final below w)) rests taker final c f q
+pends_by p below w q under follows taker final f is c many hints has rests =
     let w0 = log w (event.Answered p f answer.Pending) in
     let os = final ∷ below in
     let end = alone p hints (done w0 (op.Table (table_op.PutBack f) ∷ os)) in
@@ -174,8 +189,18 @@ pends_so p below w q under follows taker final it f is c many hints has rests =
     let w1 = record w0 { inside = slice_set w.inside f true } in
     let follows1 : Follows w1 q =
     places_so (slice_set w.inside f true) w0 q (logs w q follows (event.Answered p f answer.Pending) refl) in
-    pended_ends p below under end rests taker final it c f w1 q many follows1
+    pended_ends p below under end rests taker final c f w1 q many follows1
     (record { known = is.known; polled = is.polled; entered = is.entered; reached = is.reached }) s.way
+
+pub pends_so : (p : ℕ) (below : List Op) (w : World) (q : Plain Output Waker) → is_resting below ≡ true → Follows w q
+    → (taker : Taker Waker) (final : Op) → Finally q taker final → (f : ℕ) → IsInPoll w f → (c : Choice) → length q.lying ≤ c.tells
+    → (hints : List Hint) → HasAll p hints (pended p f final below w) → is_resting (alone p hints (pended p f final below w)).next ≡ true
+    → StaysSo taker final below q (alone p hints (pended p f final below w))
+    (does wakes c Pends (record q { inside = Poll f taker ∷ q.inside }))
+pends_so p below w q under follows taker final it f is c many hints has rests =
+    stays_by p below under (alone p hints (pended p f final below w)) rests taker final q it c
+    (λ d. does wakes d Pends (record q { inside = Poll f taker ∷ q.inside }))
+    (pends_by p below w q under follows taker final f is c many hints has rests)
 
 pub pends : (p : ℕ) (here : Option Waker) (below : List Op) (w : World) (q : Plain Output Waker) → is_resting below ≡ true
     → Follows w q → PendsAlikeInTake p here below w q

@@ -31,7 +31,7 @@ use Rattle.machine_roads.specs.Alone.{is_resting, CanCopy}
 use Rattle.machine_roads.proofs.Changing.{puts, settles}
 use Rattle.machine_roads.proofs.Lists.{clash, set_twice}
 use Rattle.machine_roads.proofs.Moving.{copies_alike, state}
-use Rattle.machine_roads.proofs.Moved.{Then, Tells, releases_so}
+use Rattle.machine_roads.proofs.Moved.{Then, Tells, fits, releases_so}
 use Rattle.machine_roads.proofs.Puts.{put_asks}
 use Rattle.machine_roads.proofs.Stepping.{Way, next}
 use Rattle.machine_roads.proofs.Used.{released_polled}
@@ -188,6 +188,11 @@ module _ (p : ℕ) (end : Done) (rests : is_resting end.next ≡ true) where
         by : (x : Waker) → Way p end w (waker_goes x ++ os) → Then p end os (plain.let_go wakes more x q)
         by (Task g) way = releases_so p end rests more P teller g w os q follows fit way
         by (Outside x) way = record { world = w; follows = follows; way = way }
+
+    pub let_go_fits : (o : Option Waker) (q : Plain Output Waker) → P q → P (on o (plain.let_go wakes more) q)
+    let_go_fits None q fit = fit
+    let_go_fits (Some (Outside x)) q fit = fit
+    let_go_fits (Some (Task g)) q fit = fits p end rests more P teller g (abstract.release (task g q)) q fit
 
     -- what a poll finds it finds still
     pub let_go_polled : (o : Option Waker) (f : ℕ) (q : Plain Output Waker)

@@ -15,30 +15,34 @@ use Rattle.executor_model.specs.declared.op.Op.TheVariants as op
 use Rattle.executor_model.specs.declared.op.TableOp.TheVariants as table_op
 use Rattle.executor_model.specs.declared.op.UserOp.TheVariants as user_op
 use Rattle.executor_model.specs.declared.op.Waker.{Waker}
+use Rattle.executor_model.specs.declared.step.Hint.{Hint}
 use Rattle.executor_model.specs.Acts.{is_last_waker, is_told, move_by, stands_alone, told_of}
 use Rattle.executor_model.specs.Carried.{awaiter_ops, output_ops, owed_ops}
 use Rattle.executor_model.specs.World.{World, Done, done, among, awaiter_of, blank, log, put_awaiter}
 use Rattle.executor_model.specs.World as world
-use Rattle.plain_scheduler.specs.State.{Choice, Closed, End, Gave, Lose, Loses, Plain, Taker}
+use Rattle.plain_scheduler.specs.State.{Choice, Closed, Drop, End, Gave, Lose, Loses, Plain, Taker}
 use Rattle.plain_scheduler.specs.Lists.{on, or}
 use Rattle.plain_scheduler.specs.Moves.{called, enters, let_go, put, see, task, tell}
 use Rattle.plain_scheduler.specs.Takes as plain_takes
+use Rattle.plain_scheduler.specs.Calls.{does, Ends}
 use Rattle.machine_roads.specs.View.{Output, view, wakes, waker_in}
 use Rattle.machine_roads.specs.Moving.{IsPolled, IsQueued}
 use Rattle.machine_roads.specs.Road.{Follows}
-use Rattle.machine_roads.specs.Alone.{alone, is_resting}
+use Rattle.machine_roads.specs.Alone.{alone, is_resting, HasAll}
+use Rattle.machine_roads.specs.Alike.{upon}
 use Rattle.machine_roads.specs.Dropped.{Drops, DropsAlikeInTake, EndsBy, IsEnding, LosesAlikeInTake, answered, given, loses, polled, queued}
-use Rattle.machine_roads.specs.Dropped.{rest_of, without_run}
-use Rattle.machine_roads.specs.Stopped.{Finally}
+use Rattle.machine_roads.specs.Dropped.{dropped, lost, rest_of, without_run}
 use Rattle.machine_roads.proofs.Aside.{called_inside}
 use Rattle.machine_roads.proofs.Changing.{sees, settles}
 use Rattle.machine_roads.proofs.Dropped.{leaves, marked}
-use Rattle.machine_roads.proofs.Ending.{ending_so}
+use Rattle.machine_roads.proofs.Ending.{ending_fits, ending_so}
 use Rattle.machine_roads.proofs.Lists.{length_set, set_twice}
 use Rattle.machine_roads.proofs.Moving.{state}
+use Rattle.machine_roads.proofs.Passing.{GoesBy, Passes, drops_by, passed, passes_end, stood, telling}
 use Rattle.machine_roads.proofs.Puts.{put_by, put_lying}
+use Rattle.machine_roads.proofs.RunsStay.{RunsStay, called_stays, given_up_stays, put_stays, stay_on}
 use Rattle.machine_roads.proofs.Stepping.{Way, next}
-use Rattle.machine_roads.proofs.Trying.{final_inside, stops_at}
+use Rattle.machine_roads.proofs.Trying.{stops_at}
 use Rattle.machine_roads.proofs.Unseen.{stands_in}
 
 -- what the end of a run leaves and owes
@@ -224,7 +228,7 @@ goes_out taker c l z a d called_is let_go_is dropped_is =
     called_is)
 
 module _ (p : ℕ) (below : List Op) (under : is_resting below ≡ true) (end : Done) (rests : is_resting end.next ≡ true) (c : Choice)
-    (taker : Taker Waker) (final : Op) (it : Finally taker final) (f : ℕ) (w : World) (q : Plain Output Waker)
+    (taker : Taker Waker) (final : Op) (f : ℕ) (w : World) (q : Plain Output Waker)
     (many : length q.lying ≤ c.tells) (follows : Follows w q) (at : f < length w.tasks)
     (m : Move) (why : End Output) (ends : EndsBy (world.task w f) m why) where
   abbrev s : State
@@ -312,40 +316,52 @@ module _ (p : ℕ) (below : List Op) (under : is_resting below ≡ true) (end : 
       (owed_ops (among f (told_of false b m p w f).table) f (moves.after m s).owed ++ os)) e.unheard two in
       subst (λ ops. Way p end w3 (ops ++ os)) (e.owes (among f w.table) f) three
 
-  abbrev leads : Bool → Plain Output Waker
-  leads b =
-      or (if b then Some tt else None) (λ v. enters (Lose aw (Some taker)) (see (Loses v) z))
-      (plain_takes.next wakes c taker (on aw (called wakes (tell wakes c)) z))
+  -- where its output is dropped
+  abbrev losing : Plain Output Waker
+  losing = enters (Lose aw (Some taker)) (see (Loses tt) z)
 
-  pub runs_out : Way p end w (op.Move m f ∷ os) → Drops taker final below f q end (plain_takes.ended wakes c f l (Some taker) q)
+  abbrev pub EndsOut : Type 0
+  EndsOut =
+      GoesBy p taker final below q c.tells end (λ d. plain_takes.ended wakes d f l (Some taker) q) (Drops taker final below f q end)
+
+  pub runs_out : Way p end w (op.Move m f ∷ os) → EndsOut
   runs_out way =
-      subst (Drops taker final below f q end)
-      (sym (goes_out taker c l z aw (if (moves.after m s).owed.drop_output then Some tt else None)
-      (ap (λ (l : abstract.Left Output Waker). l.called) left_is ∙ e.called_is)
-      (ap (λ (l : abstract.Left Output Waker). l.let_go) left_is ∙ e.let_go_is)
-      (ap (λ (l : abstract.Left Output Waker). l.dropped) left_is ∙ e.dropped_is)))
-      (by (moves.after m s).owed.drop_output (owes_so way))
+      by (moves.after m s).owed.drop_output
+      (ap (λ (l : abstract.Left Output Waker). l.dropped) left_is ∙ e.dropped_is)
+      (owes_so way)
     where
       z_inside : z.inside ≡ q.inside
       z_inside = put_by (λ p. p.inside) f l.task q (λ fs. refl)
 
-      by : (b : Bool)
+      called_so : l.called ≡ aw
+      called_so = ap (λ (l : abstract.Left Output Waker). l.called) left_is ∙ e.called_is
+
+      let_go_so : l.let_go ≡ None
+      let_go_so = ap (λ (l : abstract.Left Output Waker). l.let_go) left_is ∙ e.let_go_is
+
+      by : (b : Bool) → l.dropped ≡ (if b then Some tt else None)
           → Way p end w3 ((output_ops b f ++ (awaiter_ops f (moves.notify_if s.awaiter) ++ op.Move move.GiveUp f ∷ [])) ++ os)
-          → Drops taker final below f q end (leads b)
-      by false way =
-          let r =
-          ending_so p below under end rests c taker final it f w3 z aw
-          (subst (λ ls. length ls ≤ c.tells) (sym (put_lying f l.task q)) many) ending
-          (subst (Way p end w3) to_do_is way) in
-          answered r.0 (final_inside taker final it c (on aw (called wakes (tell wakes c)) z) ∙ (called_inside c aw z ∙ z_inside)) r.1
-      by true way =
+          → EndsOut
+      by false none way =
+          let many1 : length z.lying ≤ c.tells = subst (λ ls. length ls ≤ c.tells) (sym (put_lying f l.task q)) many in
+          passed
+          (record {
+            before = on aw (called wakes (tell wakes c)) z;
+            so = ending_so p below end rests c final f w3 z aw many1 ending (subst (Way p end w3) to_do_is way);
+            fit = ending_fits p below end rests c final f w3 z aw many1 ending;
+            inside = called_inside c aw z ∙ z_inside;
+            stay = stay_on q z (on aw (called wakes (tell wakes c)) z) (put_stays f l.task q) (called_stays c aw z);
+            is = λ d. goes_out taker (telling c.tells d) l z aw None called_so let_go_so none;
+          })
+      by true some way =
           let v = event.OutputDropped p f in
           let step = next p end rests (op.User (user_op.BeginDropOutput f)) w3 to_do refl way in
           let w4 = log w3 v in
           let stop : done w4 (op.User (user_op.DropOutput f) ∷ to_do) ≡ end =
           stops_at p below under end rests (op.User (user_op.DropOutput f) ∷ to_do) w4 refl step.way in
           let q4 : Plain Output Waker = see (Loses tt) z in
-          subst (λ (d : Done). Drops taker final below f q d (leads true)) stop
+          let there : Drops taker final below f q end losing =
+          subst (λ (d : Done). Drops taker final below f q d losing) stop
           (loses aw (ap (λ ops. op.User (user_op.DropOutput f) ∷ ops) to_do_is)
           (ap (λ codes. Lose aw (Some taker) ∷ codes) z_inside)
           (record {
@@ -358,31 +374,87 @@ module _ (p : ℕ) (below : List Op) (under : is_resting below ≡ true) (end : 
             follows =
                 stands_in (Lose aw (Some taker) ∷ q4.inside) (log (without_run f w3) v) q4
                 (sees (without_run f w3) z ending.follows v (Loses tt) refl) refl;
-          }))
+          })) in
+          stood (λ d. subst (Drops taker final below f q end)
+          (sym (goes_out taker (telling c.tells d) l z aw (Some tt) called_so let_go_so some)) there)
+          (λ d. subst (RunsStay q) (sym (goes_out taker (telling c.tells d) l z aw (Some tt) called_so let_go_so some))
+          (record { runs = (put_stays f l.task q).runs; kept = (put_stays f l.task q).kept }))
 
-pub drops : (p : ℕ) (here : Option Waker) (below : List Op) (w : World) (q : Plain Output Waker) → is_resting below ≡ true
-    → Follows w q → DropsAlikeInTake p here below w q
-drops p here below w q under follows taker final it f m why at there ends c many hints has rests =
+-- of another plain scheduler whose code is the same
+module _ (p : ℕ) (taker : Taker Waker) (final : Op) (below : List Op) (f n : ℕ) (end : Done) (q after : Plain Output Waker)
+    (same : after.inside ≡ q.inside) (stay : RunsStay q after) where
+  moved_one : (new : Plain Output Waker) → Drops taker final below f after end new → Drops taker final below f q end new
+  moved_one new (answered next inside follows) = answered next (inside ∙ same) follows
+  moved_one new (loses awaiter next inside ending) =
+      loses awaiter next (inside ∙ ap (λ codes. Lose awaiter (Some taker) ∷ codes) same) ending
+
+  moved_on : (new old : Choice → Plain Output Waker) → ((d : Choice) → new (telling n d) ≡ old (telling n d))
+      → GoesBy p taker final below after n end old (Drops taker final below f after end)
+      → GoesBy p taker final below q n end new (Drops taker final below f q end)
+  moved_on new old alike (passed so) =
+      passed
+      (record {
+        before = so.before;
+        so = so.so;
+        fit = so.fit;
+        inside = so.inside ∙ same;
+        stay = stay_on q after so.before stay so.stay;
+        is = λ d. alike d ∙ so.is d;
+      })
+  moved_on new old alike (stood so stays) =
+      stood (λ d. subst (Drops taker final below f q end) (sym (alike d)) (moved_one (old (telling n d)) (so d)))
+      (λ d. subst (RunsStay q) (sym (alike d)) (stay_on q after (old (telling n d)) stay (stays d)))
+
+-- the drop of the future ends
+abbrev pub drops_with : (taker : Taker Waker) (f : ℕ) (why : End Output) → Plain Output Waker → Choice → Plain Output Waker
+drops_with taker f why q d = does wakes d Ends (record q { inside = Drop f why taker ∷ q.inside })
+
+pub dropped_by : (p : ℕ) (below : List Op) (w : World) (q : Plain Output Waker) → is_resting below ≡ true
+    → Follows w q → (taker : Taker Waker) (final : Op) (f : ℕ) (m : Move) (why : End Output) → f < length w.tasks
+    → among f w.table ≡ true → EndsBy (world.task w f) m why
+    → (c : Choice) → length q.lying ≤ c.tells → (hints : List Hint) → HasAll p hints (upon below (dropped m final p f w))
+    → is_resting (alone p hints (upon below (dropped m final p f w))).next ≡ true
+    → GoesBy p taker final below q c.tells (alone p hints (upon below (dropped m final p f w))) (drops_with taker f why q)
+    (Drops taker final below f q (alone p hints (upon below (dropped m final p f w))))
+dropped_by p below w q under follows taker final f m why at there ends c many hints has rests =
     let os = op.Move m f ∷ (final ∷ below) in
     let end = alone p hints (done w (op.Table (table_op.LeaveTable f) ∷ os)) in
     let start : Way p end w (op.Table (table_op.LeaveTable f) ∷ os) = record { hints = hints; has = has; is = refl } in
     let left = leaves p end rests c f w q follows at m why ends os there start in
     let after = plain_takes.given_up wakes c f (marked f q) in
-    let r =
-    runs_out p below under end rests c taker final it f left.now after
-    (subst (λ ls. length ls ≤ c.tells) (sym left.lying) many) left.stands left.known
-    m why left.run left.way in
-    moved_on taker final end (plain_takes.ended wakes c f (plain_takes.left_by wakes c why (task f after)) (Some taker) after) after
-    left.inside r
-  where
-    moved_on : (taker : Taker Waker) (final : Op) (end : Done) (new after : Plain Output Waker)
-        → after.inside ≡ q.inside → Drops taker final below f after end new → Drops taker final below f q end new
-    moved_on taker final end new after same (answered next inside follows) = answered next (inside ∙ same) follows
-    moved_on taker final end new after same (loses awaiter next inside ending) =
-        loses awaiter next (inside ∙ ap (λ codes. Lose awaiter (Some taker) ∷ codes) same) ending
+    moved_on p taker final below f c.tells end q after left.inside (given_up_stays c f q) (drops_with taker f why q)
+    (λ d. plain_takes.ended wakes d f (plain_takes.left_by wakes c why (task f after)) (Some taker) after) (λ d. refl)
+    (runs_out p below under end rests c taker final f left.now after (subst (λ ls. length ls ≤ c.tells) (sym left.lying) many)
+    left.stands left.known m why left.run left.way)
+
+pub drops : (p : ℕ) (here : Option Waker) (below : List Op) (w : World) (q : Plain Output Waker) → is_resting below ≡ true
+    → Follows w q → DropsAlikeInTake p here below w q
+drops p here below w q under follows taker final it f m why at there ends c many hints has rests =
+    drops_by p below under (alone p hints (upon below (dropped m final p f w))) rests taker final q it c (drops_with taker f why q) f
+    (dropped_by p below w q under follows taker final f m why at there ends c many hints has rests)
+
+-- the drop of the output ends
+abbrev pub loses_with : (taker : Taker Waker) (awaiter : Option Waker) → Plain Output Waker → Choice → Plain Output Waker
+loses_with taker awaiter q d = does wakes d Ends (record q { inside = Lose awaiter (Some taker) ∷ q.inside })
+
+pub lost_by : (taker : Taker Waker) (final : Op) (p f : ℕ) (below : List Op) (w : World) (q : Plain Output Waker)
+    (awaiter : Option Waker) (c : Choice) → IsEnding w f awaiter q → length q.lying ≤ c.tells → (hints : List Hint)
+    → HasAll p hints (upon below (lost final p f w)) → is_resting (alone p hints (upon below (lost final p f w))).next ≡ true
+    → Passes p taker final below q c.tells (alone p hints (upon below (lost final p f w))) (loses_with taker awaiter q)
+lost_by taker final p f below w q awaiter c ending many hints has rests =
+    let end = alone p hints (done w (rest_of (world.task w f).awaiter f final ++ below)) in
+    record {
+      before = on awaiter (called wakes (tell wakes c)) q;
+      so = ending_so p below end rests c final f w q awaiter many ending (record { hints = hints; has = has; is = refl });
+      fit = ending_fits p below end rests c final f w q awaiter many ending;
+      inside = called_inside c awaiter q;
+      stay = called_stays c awaiter q;
+      is = λ d. refl;
+    }
 
 pub loses_in_take : LosesAlikeInTake
 loses_in_take taker final p f below w q awaiter c it under ending many hints unit has rests =
-    ending_so p below under (alone p hints (done w (rest_of (world.task w f).awaiter f final ++ below))) rests c taker final it f w q
-    awaiter many ending
-    (record { hints = hints; has = has; is = refl })
+    let e =
+    passes_end p below under (alone p hints (upon below (lost final p f w))) rests taker final q it c (loses_with taker awaiter q)
+    (lost_by taker final p f below w q awaiter c ending many hints has rests) in
+    (e.0, e.1)

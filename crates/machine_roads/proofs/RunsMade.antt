@@ -1,6 +1,5 @@
 -- A run is made, or that is refused.
-use Rattle.std.proofs.Common.{◌≡◌, ℕ, suc, ◌+◌, ◌++◌, Bool, true, false, List, [], ◌∷◌, length, Option}
-use Rattle.std.proofs.Common.{refl, sym, ap, ◌∙◌}
+use Rattle.std.proofs.Common.{◌≡◌, ℕ, ◌+◌, ◌++◌, Bool, true, false, List, [], ◌∷◌, length, Option, refl, sym, ap, ◌∙◌}
 use Rattle.executor_model.specs.declared.call.Call.TheVariants as call
 use Rattle.executor_model.specs.declared.call.Reply.TheVariants as reply
 use Rattle.executor_model.specs.declared.event.Event.TheVariants as event
@@ -16,16 +15,15 @@ use Rattle.executor_model.specs.World.{Done, World, done, log, new_run}
 use Rattle.plain_scheduler.specs.State.{AtOnce, Choice, Granted, NoMemory, Plain, Refusal, Running, Made as MadeAnswer}
 use Rattle.plain_scheduler.specs.Calls.{does, NewRun}
 use Rattle.machine_roads.specs.View.{Output, wakes}
-use Rattle.machine_roads.specs.Road.{Follows}
+use Rattle.machine_roads.specs.Road.{Follows, counted_anew, run_view}
 use Rattle.machine_roads.specs.Alone.{alone, is_resting}
 use Rattle.machine_roads.specs.Alike.{RunIsMadeAlike}
 use Rattle.machine_roads.proofs.Calling.{ends}
 use Rattle.machine_roads.proofs.Changing.{logs}
-use Rattle.machine_roads.proofs.Lists.{length_last}
+use Rattle.machine_roads.proofs.Lists.{map_append}
 use Rattle.machine_roads.proofs.Numbers.{asleep_run, numbered_still, own_run, sleeps_run}
 use Rattle.machine_roads.proofs.Stepping.{Way, next}
-use Rattle.machine_roads.proofs.Ticking.{returned}
-use Rattle.machine_roads.proofs.Unseen.{locked, roomed}
+use Rattle.machine_roads.proofs.Unseen.{locked, returned, roomed}
 
 abbrev beginner : Running
 beginner = record { taken = 0; is_over = false }
@@ -52,7 +50,9 @@ one_more w q r = record {
   asleep = λ x. r.asleep x ∙ sym (sleeps_run w.ticks w.runs x);
   numbered =
       numbered_still w.ticks w.runs w.ticks (w.runs ++ new_run ∷ []) (asleep_run w.ticks w.runs) w.sleepers.wakers r.numbered;
-  runs = length_last w.runs new_run ∙ (ap suc r.runs ∙ sym (length_last q.runs beginner));
+  runs =
+      map_append run_view w.runs (new_run ∷ [])
+      ∙ (ap (λ runs. runs ++ beginner ∷ []) r.runs ∙ sym (map_append counted_anew q.runs (beginner ∷ [])));
   waking = r.waking;
   seen = r.seen;
 }

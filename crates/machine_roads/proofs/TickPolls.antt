@@ -1,14 +1,12 @@
 -- A poll of a tick: it takes the first that is due without a keeper, where one is, once it has got up.
-use Rattle.std.proofs.Common.{◌≡◌, ℕ, ◌≤◌, ◌++◌, Bool, true, false, List, [], ◌∷◌, length, Option, Some, None}
-use Rattle.std.proofs.Common.{cond, map, slice_set, if◌then◌else◌, refl, sym, ap, subst, ◌∙◌, arith}
+use Rattle.std.proofs.Common.{◌≡◌, ℕ, ◌≤◌, ◌++◌, Bool, true, false, List, [], ◌∷◌, length, Option, Some}
+use Rattle.std.proofs.Common.{cond, map, if◌then◌else◌, refl, sym, ap, subst, ◌∙◌}
 use Rattle.std.specs.Prelude.{filter}
 use Rattle.executor_parts.specs.declared.mark.Mark.{Mark}
 use Rattle.executor_parts.specs.declared.mark.Mark.TheVariants.{Plain as PlainMark, Urgent}
 use Rattle.executor_parts.specs.Marks.{first_of, other}
-use Rattle.executor_parts.specs.Sleepers.{waker_of, woken_up}
 use Rattle.queue_steps.specs.ClosableQueue.{taken}
 use Rattle.task_moves.specs.declared.moves.owed.Move.TheVariants as move
-use Rattle.task_moves.specs.AbstractTask as abstract
 use Rattle.executor_model.specs.declared.call.Reply.{Reply}
 use Rattle.executor_model.specs.declared.call.Reply.TheVariants as reply
 use Rattle.executor_model.specs.declared.op.Hold.{Hold}
@@ -21,41 +19,37 @@ use Rattle.executor_model.specs.declared.op.Sleeping.{Sleeping}
 use Rattle.executor_model.specs.declared.op.TickOp.TheVariants as tick_op
 use Rattle.executor_model.specs.declared.op.TickOrRun.TheVariants as tick_or_run
 use Rattle.executor_model.specs.declared.op.Waker.{Waker}
-use Rattle.executor_model.specs.declared.op.Waker.TheVariants.{Task, Outside}
 use Rattle.executor_model.specs.Acts.{turned}
-use Rattle.executor_model.specs.ActsOfSleepers.{found_by, look_tick_by, wake_up_by}
-use Rattle.executor_model.specs.SleepersAgree.{sleeps}
+use Rattle.executor_model.specs.ActsOfSleepers.{found_by, look_tick_by}
 use Rattle.executor_model.specs.World.{Asleep, Awake, Done, Left, Ticker, World, put_queue, queue_of, tick_of}
-use Rattle.plain_scheduler.specs.State.{Answer, Answers, ATick, Choice, Due, Lying, Plain, Refusal, Granted, Tick, Who}
-use Rattle.plain_scheduler.specs.Lists.{any, on, or, without}
-use Rattle.plain_scheduler.specs.Moves.{answers, chosen, commons, is_common, let_go, lies, task, tell, up}
+use Rattle.plain_scheduler.specs.State.{Answer, Answers, ATick, Choice, Due, Plain, Refusal, Granted, Tick, Who}
+use Rattle.plain_scheduler.specs.Lists.{any, or, without}
+use Rattle.plain_scheduler.specs.Moves.{answers, chosen, commons, is_common, lies, tell, up}
 use Rattle.plain_scheduler.specs.Takes as plain_takes
 use Rattle.plain_scheduler.specs.Calls.{does, PollTick}
 use Rattle.machine_roads.specs.View.{Output, wakes}
 use Rattle.machine_roads.specs.Seeing.{answer_of, shown}
 use Rattle.machine_roads.specs.Road.{Follows, futures_in}
-use Rattle.machine_roads.specs.Alone.{is_resting, SleepsAlone}
-use Rattle.machine_roads.proofs.Aside.{goes_inside, tell_inside}
+use Rattle.machine_roads.specs.Alone.{is_resting}
+use Rattle.machine_roads.proofs.Aside.{tell_inside}
 use Rattle.machine_roads.proofs.Calling.{ends}
 use Rattle.machine_roads.proofs.Due.{First, find_never, find_same, nothing, without_same}
 use Rattle.machine_roads.proofs.Exchanging.{loudly}
-use Rattle.machine_roads.proofs.Lain.{asleep_up, lies_anew, neither, none_found, numbered_up, one_lies, ups, waker_by}
-use Rattle.machine_roads.proofs.Moved.{Then, fits as stays_fit}
-use Rattle.machine_roads.proofs.Numbers.{Rests, down, rests_if, up as is_up}
+use Rattle.machine_roads.proofs.Lain.{neither}
+use Rattle.machine_roads.proofs.Leaving.{gets_up}
 use Rattle.machine_roads.proofs.Stepping.{Way, next}
 use Rattle.machine_roads.proofs.Standing.{Answered, Behind, Stands, StandsSo}
-use Rattle.machine_roads.proofs.Ticking.{sleeper_goes_so}
 use Rattle.machine_roads.proofs.Trying.{runs, takes_first}
 
 -- of each mark, where of one and of the other
-both_marks : (m n : Mark) (due : List Due) → any (is_common m) due ≡ false → any (is_common (other m)) due ≡ false
+pub both_marks : (m n : Mark) (due : List Due) → any (is_common m) due ≡ false → any (is_common (other m)) due ≡ false
     → any (is_common n) due ≡ false
 both_marks PlainMark PlainMark due none nor = none
 both_marks PlainMark Urgent due none nor = nor
 both_marks Urgent PlainMark due none nor = nor
 both_marks Urgent Urgent due none nor = none
 
-none_in : (test : Due → Bool) (due : List Due) → any test due ≡ false → futures_in test due ≡ []
+pub none_in : (test : Due → Bool) (due : List Due) → any test due ≡ false → futures_in test due ≡ []
 none_in test [] none = refl
 none_in test (d ∷ ds) none =
     let both = neither (test d) (any test ds) none in
@@ -113,73 +107,12 @@ module _ (p : ℕ) (below : List Op) (under : is_resting below ≡ true) (end : 
         follows = e.1;
       }
 
-  -- who got up
-  record GotUp (os : List Op) (q : Plain Output Waker) : Type 0 where
-    so_up : Then p end os (up wakes c who q)
-    fit_up : fits (up wakes c who q)
-    inside_up : (up wakes c who q).inside ≡ q.inside
-
-  abbrev rising : Option (Lying Waker) → Plain Output Waker → Plain Output Waker
-  rising o q = on o (λ l p. on l.waker (let_go wakes more) (record p { lying = without (lies who) p.lying })) q
-
-  let_go_fits : (o : Option Waker) (q : Plain Output Waker) → fits q → fits (on o (let_go wakes more) q)
-  let_go_fits None q fit = fit
-  let_go_fits (Some (Outside x)) q fit = fit
-  let_go_fits (Some (Task g)) q fit = stays_fit p end rests more fits (loudly p end rests c) g (abstract.release (task g q)) q fit
-
-  rises : (w : World) (os : List Op) (q : Plain Output Waker) → Follows w q → fits q → Rests w q t
-      → Way p end w (found_by (tick_of w t) (tick_or_run.Tick t) os ++ below) → GotUp (os ++ below) q
-  rises w os q follows fit (is_up awake none) way =
-      let same : up wakes c who q ≡ q = ap (λ o. rising o q) (none_found (lies who) q.lying none) in
-      record {
-        so_up =
-            subst (Then p end (os ++ below)) (sym same) (record { world = w; follows = follows; way = by (tick_of w t) awake way });
-        fit_up = subst fits (sym same) fit;
-        inside_up = ap (λ (q : Plain Output Waker). q.inside) same;
-      }
-    where
-      by : (x : Ticker) → sleeps x ≡ 0 → Way p end w (found_by x (tick_or_run.Tick t) os ++ below) → Way p end w (os ++ below)
-      by Awake awake way = way
-      by Left awake way = way
-      by (Asleep n) awake way = absurd (omega (arith, awake))
-  rises w os q follows fit (down n is named one) way =
-      let u = ups n who w q follows named one in
-      let wakes_up = op.Tick (tick_op.WakeUp (tick_or_run.Tick t)) in
-      let asleep : Way p end w (wakes_up ∷ (os ++ below)) =
-      subst (λ x. Way p end w (found_by x (tick_or_run.Tick t) os ++ below)) is way in
-      let step = next p end rests wakes_up w (os ++ below) refl asleep in
-      let w2 = (wake_up_by (Asleep n) w (tick_or_run.Tick t)).world in
-      let now : Way p end w2 ((wake_up_by (Asleep n) w (tick_or_run.Tick t)).next ++ (os ++ below)) =
-      subst
-      (λ x. Way p end (wake_up_by x w (tick_or_run.Tick t)).world ((wake_up_by x w (tick_or_run.Tick t)).next ++ (os ++ below))) is
-      step.way in
-      let q2 : Plain Output Waker = record q { lying = without (lies who) q.lying } in
-      let follows2 : Follows w2 q2 =
-      lies_anew w q (woken_up n w.sleepers) (without (lies who) q.lying) (slice_set w.ticks t Awake) follows u.wakers u.count
-      (asleep_up n t w q follows (one_lies who q.lying one) is Awake refl)
-      (numbered_up n t w q follows (one_lies who q.lying one) is Awake refl u) in
-      let fit2 : fits q2 = omega (arith, u.fewer, fit) in
-      let g = sleeper_goes_so p end rests c (waker_of n w.sleepers.wakers) w2 (os ++ below) q2 follows2 fit2 now in
-      let o : Option Waker = waker_by (waker_of n w.sleepers.wakers) in
-      let same : up wakes c who q ≡ on o (let_go wakes more) q2 =
-      ap (λ o. rising o q) u.found ∙ ap (λ o. on o (let_go wakes more) q2) (sym u.goes) in
-      record {
-        so_up = subst (Then p end (os ++ below)) (sym same) g;
-        fit_up = subst fits (sym same) (let_go_fits o q2 fit2);
-        inside_up = ap (λ (q : Plain Output Waker). q.inside) same ∙ goes_inside c o q2;
-      }
-
-  gets_up : (w : World) (os : List Op) (q : Plain Output Waker) → Follows w q → fits q
-      → Way p end w (found_by (tick_of w t) (tick_or_run.Tick t) os ++ below) → GotUp (os ++ below) q
-  gets_up w os q follows fit way = rises w os q follows fit (rests_if t w q follows only) way
-    where
-      wakes_up : Op
-      wakes_up = op.Tick (tick_op.WakeUp (tick_or_run.Tick t))
-
-      only : (n : ℕ) → tick_of w t ≡ Asleep n → SleepsAlone w (tick_or_run.Tick t)
-      only n is =
-          (next p end rests wakes_up w (os ++ below) refl
-          (subst (λ x. Way p end w (found_by x (tick_or_run.Tick t) os ++ below)) is way)).has
+  -- what lies below comes behind all that
+  found_more : (x : Ticker) (os : List Op) {w : World} → Way p end w (found_by x (tick_or_run.Tick t) os ++ below)
+      → Way p end w (found_by x (tick_or_run.Tick t) (os ++ below))
+  found_more Awake os way = way
+  found_more Left os way = way
+  found_more (Asleep n) os way = way
 
   -- one that was found is taken
   pub finds : (r : Refusal) (m : Mark) (f : ℕ) (rest : List ℕ) (w : World) (q : Plain Output Waker) → fits q → Follows w q
@@ -194,8 +127,8 @@ module _ (p : ℕ) (below : List Op) (under : is_resting below ≡ true) (end : 
       let q1 : Plain Output Waker = record q { due = without (is_common m) q.due } in
       let w1 = put_queue w m (taken (queue_of w m)) in
       let got =
-      gets_up w1 (op.Sleeper sleeper_op.ExchangeFlag ∷ op.Move move.TakeUp f ∷ final ∷ []) q1 both.1 fit
-      way in
+      gets_up p end rests c (tick_or_run.Tick t) w1 (op.Sleeper sleeper_op.ExchangeFlag ∷ op.Move move.TakeUp f ∷ final ∷ below) q1
+      both.1 fit (found_more (tick_of w t) (op.Sleeper sleeper_op.ExchangeFlag ∷ op.Move move.TakeUp f ∷ final ∷ []) way) in
       let q2 = up wakes c who q1 in
       let told = (loudly p end rests c).tells got.so_up.world (op.Move move.TakeUp f ∷ final ∷ below) q2 got.fit_up got.so_up.follows
       got.so_up.way in

@@ -41,12 +41,13 @@ use Rattle.machine_roads.specs.Moving.{IsPolled, IsQueued}
 use Rattle.machine_roads.specs.Dropped.{queued as queued_by}
 use Rattle.machine_roads.specs.Road.{Follows, futures_in}
 use Rattle.machine_roads.specs.Alone.{alone, is_resting, HasAll}
-use Rattle.machine_roads.specs.Stopped.{Finally, TriesAlike, of_tick, of_try}
+use Rattle.machine_roads.specs.Stopped.{Finally, TriesAlike, of_last, of_tick, of_try}
 use Rattle.machine_roads.proofs.Aside.{tell_inside}
 use Rattle.machine_roads.proofs.Calling.{ends, idles}
 use Rattle.machine_roads.proofs.Changing.{logs, puts, sees}
 use Rattle.machine_roads.proofs.Due.{First, find_never, find_same, first, keepers_apart, marks_apart, nothing, others, without_same}
 use Rattle.machine_roads.proofs.Exchanging.{loudly}
+use Rattle.machine_roads.proofs.GivingWay.{gives_inside, gives_way_so, next_is}
 use Rattle.machine_roads.proofs.Lists.{length_set}
 use Rattle.machine_roads.proofs.Puts.{put_at, put_by}
 use Rattle.machine_roads.proofs.Running.{run_alike}
@@ -92,10 +93,12 @@ takes_first m w q f rest r is =
     items PlainMark Urgent is left = r.common Urgent ∙ sym (others (is_common PlainMark) (is_common Urgent) q.due (marks_apart PlainMark))
     items Urgent PlainMark is left = r.common PlainMark ∙ sym (others (is_common Urgent) (is_common PlainMark) q.due (marks_apart Urgent))
 
-pub final_inside : (taker : Taker Waker) (final : Op) → Finally taker final → (c : Choice) (q : Plain Output Waker)
+pub final_inside : (taker : Taker Waker) (final : Op) (c : Choice) (q : Plain Output Waker) → Finally q taker final
     → (plain_takes.next wakes c taker q).inside ≡ q.inside
-final_inside taker final of_try c q = refl
-final_inside taker final (of_tick t a) c q = refl
+final_inside taker final c q of_try = refl
+final_inside taker final c q (of_tick t a) = refl
+final_inside taker final c q (of_last x last) =
+    ap (λ (q : Plain Output Waker). q.inside) (next_is c x.run x.waker q last) ∙ gives_inside c x.run x.waker q
 
 abbrev pub yes : Op
 yes = op.End reply.Yes hold.Executor
@@ -106,12 +109,16 @@ module _ (p : ℕ) (below : List Op) (under : is_resting below ≡ true) (end : 
   stops_at os w resting way = sym (idles p way.hints os w resting) ∙ way.is
 
   -- what is taken was all that there was to do
-  pub finally_so : (taker : Taker Waker) (final : Op) → Finally taker final → (c : Choice) (w : World) (q : Plain Output Waker)
-      → Follows w q → Way p end w (final ∷ below) → (end.next ≡ below) × Follows end.world (plain_takes.next wakes c taker q)
-  finally_so taker final of_try c w q follows way =
+  pub finally_so : (taker : Taker Waker) (final : Op) (c : Choice) (w : World) (q : Plain Output Waker) → Finally q taker final
+      → length q.lying ≤ c.tells → Follows w q → Way p end w (final ∷ below)
+      → (end.next ≡ below) × Follows end.world (plain_takes.next wakes c taker q)
+  finally_so taker final c w q of_try many follows way =
       ends p below under end rests w q reply.Yes hold.Executor Yes refl follows way
-  finally_so taker final (of_tick t a) c w q follows way =
+  finally_so taker final c w q (of_tick t a) many follows way =
       ends p below under end rests w q reply.Ready (hold.Tick t) Ready refl follows way
+  finally_so taker final c w q (of_last x last) many follows way =
+      subst (λ z. (end.next ≡ below) × Follows end.world z) (sym (next_is c x.run x.waker q last))
+      (gives_way_so p below under end rests c x w q follows many last way)
 
   -- a future that was taken is polled, or dropped where it is closed
   pub runs : (taker : Taker Waker) (final : Op) (c : Choice) (f : ℕ) (w : World) (q : Plain Output Waker) → Follows w q

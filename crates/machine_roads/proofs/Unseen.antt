@@ -1,14 +1,17 @@
 -- What one of both doesn't know of the other changes, and they stand alike.
-use Rattle.std.proofs.Common.{◌≡◌, ℕ, Bool, true, List, length, Option, refl, sym, subst, ◌∙◌}
+use Rattle.std.proofs.Common.{◌≡◌, ℕ, ◌-◌, nat_lt, Bool, true, false, List, length, map, Option, refl, sym, subst, ◌∙◌}
 use Rattle.std.specs.Prelude.{filter}
+use Rattle.executor_parts.specs.Sleepers.{Sleepers}
+use Rattle.executor_model.specs.declared.op.Sleeping.{Sleeping}
 use Rattle.executor_model.specs.declared.op.TickOrRun.{TickOrRun}
 use Rattle.executor_model.specs.declared.op.Waker.{Waker}
+use Rattle.executor_model.specs.ActsOfSleepers.{given_back}
 use Rattle.executor_model.specs.SleepersAgree.{sleeps}
-use Rattle.executor_model.specs.World.{Asleep, Lock, Ticker, World}
-use Rattle.plain_scheduler.specs.State.{Code, Plain}
+use Rattle.executor_model.specs.World.{Asleep, Lock, Run, Ticker, World}
+use Rattle.plain_scheduler.specs.State.{Code, Plain, Running}
 use Rattle.plain_scheduler.specs.Moves.{lies}
 use Rattle.machine_roads.specs.View.{Output}
-use Rattle.machine_roads.specs.Road.{AreNumbered, Follows, place_in, waking_in, who_of}
+use Rattle.machine_roads.specs.Road.{AreNumbered, Follows, counted_anew, place_in, run_view, waking_in, who_of}
 use Rattle.machine_roads.proofs.Numbers.{numbered_still}
 
 -- whether the executor's drop has begun and which futures that has still to drop, the machine's lock and turns, which futures are out
@@ -95,6 +98,49 @@ roomed ticks rooms w q r same still =
     (unseen w.gone w.leaving w.lock w.is_static w.waking w.urgent_turns w.inside w.wakers ticks rooms q.inside w q r
     (λ x. r.asleep x ∙ sym (same x))
     (numbered_still w.ticks w.runs ticks w.runs still w.sleepers.wakers r.numbered) r.waking)
+
+abbrev given_if : Bool → Sleepers Sleeping → Sleepers Sleeping
+given_if b s = elim b [ true ↦ record s { rooms = s.rooms - 1 } | false ↦ s ]
+
+-- and room is given back
+pub returned : (ticks : List Ticker) (w : World) (q : Plain Output Waker) → Follows w q
+    → ((x : TickOrRun) → sleeps (place_in ticks w.runs x) ≡ sleeps (place_in w.ticks w.runs x))
+    → ((x : TickOrRun) (n : ℕ) → place_in w.ticks w.runs x ≡ Asleep n → place_in ticks w.runs x ≡ Asleep n)
+    → Follows (record w { ticks = ticks; sleepers = given_back w.sleepers }) q
+returned ticks w q r same still = by (nat_lt w.sleepers.count w.sleepers.rooms)
+  where
+    by : (b : Bool) → Follows (record w { ticks = ticks; sleepers = given_if b w.sleepers }) q
+    by true = roomed ticks (w.sleepers.rooms - 1) w q r same still
+    by false = roomed ticks w.sleepers.rooms w q r same still
+
+-- runs change, of which as many sleep as did, and the list of their queues
+pub ran : (ticks : List Ticker) (runs : List Run) (listed : List ℕ) (more : List Running) (w : World) (q : Plain Output Waker)
+    → Follows w q → ((x : TickOrRun) → sleeps (place_in ticks runs x) ≡ sleeps (place_in w.ticks w.runs x))
+    → ((x : TickOrRun) (n : ℕ) → place_in w.ticks w.runs x ≡ Asleep n → place_in ticks runs x ≡ Asleep n)
+    → map run_view runs ≡ map counted_anew more
+    → Follows (record w { ticks = ticks; runs = runs; listed = listed }) (record q { runs = more })
+ran ticks runs listed more w q r same still viewed = record {
+  limit = r.limit;
+  kind = r.kind;
+  many = r.many;
+  places = r.places;
+  marked = r.marked;
+  tasks = r.tasks;
+  stored = r.stored;
+  marks = r.marks;
+  calm = r.calm;
+  table = r.table;
+  common = r.common;
+  kept = r.kept;
+  wakers = r.wakers;
+  count = r.count;
+  flag = r.flag;
+  asleep = λ x. r.asleep x ∙ sym (same x);
+  numbered = numbered_still w.ticks w.runs ticks runs still w.sleepers.wakers r.numbered;
+  runs = viewed;
+  waking = r.waking;
+  seen = r.seen;
+}
 
 -- the table has no wakers any more, and these are still to be woken
 pub leaked_so : (waking : List ℕ) (codes : List (Code Output Waker)) (w : World) (q : Plain Output Waker) → Follows w q

@@ -1,6 +1,6 @@
 -- What one party does alone, while user code begins no call: what it has to do, the first thing first, until nothing is left or
 -- user code has to answer, and the calls of outside wakers end at once.
-use Rattle.std.specs.Prelude.{◌≡◌, ℕ, ◌<◌, ◌≤◌, Bool, true, false, ◌&&◌, not, List, [], ◌∷◌, ◌++◌}
+use Rattle.std.specs.Prelude.{◌≡◌, ℕ, suc, ◌+◌, ◌<◌, ◌≤◌, Bool, true, false, ◌&&◌, not, List, [], ◌∷◌, ◌++◌, length}
 use Rattle.task_moves.specs.declared.moves.owed.Move.{Move}
 use Rattle.task_moves.specs.declared.moves.owed.Move.TheVariants as move
 use Rattle.task_moves.specs.declared.moves.state.State.{State}
@@ -10,12 +10,18 @@ use Rattle.executor_model.specs.declared.op.ClosingOp.{ClosingOp}
 use Rattle.executor_model.specs.declared.op.ClosingOp.TheVariants as closing_op
 use Rattle.executor_model.specs.declared.op.HandleOp.{HandleOp}
 use Rattle.executor_model.specs.declared.op.HandleOp.TheVariants as handle_op
+use Rattle.executor_model.specs.declared.op.ListOp.{ListOp}
+use Rattle.executor_model.specs.declared.op.ListOp.TheVariants as list_op
 use Rattle.executor_model.specs.declared.op.Op.{Op}
 use Rattle.executor_model.specs.declared.op.Op.TheVariants as op
 use Rattle.executor_model.specs.declared.op.QueueOp.{QueueOp}
 use Rattle.executor_model.specs.declared.op.QueueOp.TheVariants as queue_op
+use Rattle.executor_model.specs.declared.op.RunOp.{RunOp}
+use Rattle.executor_model.specs.declared.op.RunOp.TheVariants as run_op
 use Rattle.executor_model.specs.declared.op.SleeperOp.{SleeperOp}
 use Rattle.executor_model.specs.declared.op.SleeperOp.TheVariants as sleeper_op
+use Rattle.executor_model.specs.declared.op.StealOp.{StealOp}
+use Rattle.executor_model.specs.declared.op.StealOp.TheVariants as steal_op
 use Rattle.executor_model.specs.declared.op.TickOp.{TickOp}
 use Rattle.executor_model.specs.declared.op.TickOp.TheVariants as tick_op
 use Rattle.executor_model.specs.declared.op.TickOrRun.{TickOrRun}
@@ -26,11 +32,14 @@ use Rattle.executor_model.specs.declared.op.WakerOp.{WakerOp}
 use Rattle.executor_model.specs.declared.op.WakerOp.TheVariants as waker_op
 use Rattle.executor_model.specs.declared.step.Hint.{Hint}
 use Rattle.executor_model.specs.Acts.{takes_more}
+use Rattle.executor_model.specs.ActsOfRuns.{own_places}
 use Rattle.executor_model.specs.Doing.{act}
 use Rattle.executor_model.specs.Good.{HandleNeeds, IsKnown, IsKnownWaker}
+use Rattle.executor_model.specs.Sound.{times}
 use Rattle.executor_model.specs.Steps.{waits}
-use Rattle.executor_model.specs.World.{Asleep, World, Done, among, done, task, place_of, queue_of, mark_of}
+use Rattle.executor_model.specs.World.{Asleep, World, Done, among, done, mark_of, own_of, place_of, queue_of, run_of, task}
 use Rattle.machine_roads.specs.Moving.{IsQueued}
+use Rattle.machine_roads.specs.Road.{run_view}
 
 abbrev pub is_outside : Op → Bool
 is_outside (op.User (user_op.CallOutside x)) = true
@@ -113,6 +122,23 @@ ClosingHas w closing_op.LeakOut = w.gone ≡ false
 ClosingHas w closing_op.LeakNext = (w.gone ≡ false) × ((f : ℕ) (rest : List ℕ) → w.waking ≡ f ∷ rest → IsKnown w f)
 ClosingHas w _ = Unit {0}
 
+-- whom a run's own waker wakes is there
+abbrev pub RunHas : World → RunOp → Type 0
+RunHas w (run_op.WakeOwn x) = IsKnownWaker w x.waker
+RunHas w _ = Unit {0}
+
+-- who walks has an own queue, and what a run keeps that isn't over stands in the list
+abbrev pub ListHas : World → ListOp → Type 0
+ListHas w (list_op.LockRead x) =
+    (x.run < length w.own)
+    × ((k : ℕ) → 1 ≤ length (own_of w k) → (run_view (run_of w k)).is_over ≡ false → 1 ≤ times k w.listed)
+ListHas w _ = Unit {0}
+
+-- a steal has a place for each that it may still take
+abbrev pub StealHas : World → StealOp → Type 0
+StealHas w (steal_op.Take s more) = length (own_of w s.poll.run) + suc more ≤ own_places w s.poll.run
+StealHas w _ = Unit {0}
+
 -- what a thing to do speaks of is there
 abbrev pub Has : World → Op → Type 0
 Has w (op.Move m f) = IsKnown w f × MoveHas m w f
@@ -121,6 +147,9 @@ Has w (op.Waker o) = WakerHas w o
 Has w (op.Sleeper o) = SleeperHas w o
 Has w (op.Handle o) = HandleHas w o
 Has w (op.Tick o) = TickHas w o
+Has w (op.List o) = ListHas w o
+Has w (op.Run o) = RunHas w o
+Has w (op.Steal o) = StealHas w o
 Has w (op.Closing o) = ClosingHas w o
 Has w _ = Unit {0}
 

@@ -1,16 +1,20 @@
 -- Lists of lone calls of a machine are lists of calls of the plain scheduler, with one definition of what is chosen.
-use Rattle.std.specs.Prelude.{◌≡◌, ℕ, ◌<◌, Bool, true, false, ◌&&◌, ◌||◌, List, [], ◌∷◌, length, Some, None}
+use Rattle.std.specs.Prelude.{◌≡◌, ℕ, ◌<◌, Bool, true, false, ◌&&◌, ◌||◌, not, List, [], ◌∷◌, length, Option, Some, None}
 use Rattle.executor_parts.specs.declared.mark.Mark.{Mark}
 use Rattle.executor_parts.specs.Marks.{first_of}
 use Rattle.executor_model.specs.declared.call.By.{By}
 use Rattle.executor_model.specs.declared.call.Call.{Call}
 use Rattle.executor_model.specs.declared.call.Call.TheVariants as call
+use Rattle.executor_model.specs.declared.event.Answer.TheVariants.{Pending}
 use Rattle.executor_model.specs.declared.kind.Kind.{Kind}
 use Rattle.executor_model.specs.declared.op.Waker.{Waker}
 use Rattle.executor_model.specs.declared.step.Step.{Step}
+use Rattle.executor_model.specs.declared.step.UserEnd.{UserEnd}
+use Rattle.executor_model.specs.declared.step.UserEnd.TheVariants.{Polled}
 use Rattle.executor_model.specs.Steps.{Machine, is_drop, is_static_kind, kept, start, waker_of}
 use Rattle.executor_model.specs.World.{World}
 use Rattle.executor_laws.specs.LoneEnds.{IsLoneCall}
+use Rattle.executor_laws.specs.RunReach.{first_answer}
 use Rattle.plain_scheduler.specs.State.{Choice, Plain}
 use Rattle.plain_scheduler.specs.Calls as plain
 use Rattle.plain_scheduler.specs.Calls.{does, new}
@@ -23,12 +27,16 @@ pub record IsChosen (w : World) (q : Plain Output Waker) (c : Choice) : Type 0 w
   pub first : c.first ≡ first_of w.urgent_turns
   pub tells : length q.lying < c.tells
 
--- all calls but the polls and drops of runs, up to the executor's drop
-abbrev pub is_on_road : Call → Bool
-is_on_road (call.PollRun r b) = false
-is_on_road (call.DropRun r) = false
-is_on_road call.DropExecutor = false
-is_on_road _ = true
+-- a run's own future gives no output
+abbrev pub is_unready : Option UserEnd → Bool
+is_unready (Some (Polled Pending)) = true
+is_unready _ = false
+
+-- all calls up to the executor's drop, but polls of runs whose own future gives no output in them
+abbrev pub is_on_road : Call → List Step → Bool
+is_on_road (call.PollRun r b) steps = not (is_unready (first_answer steps))
+is_on_road call.DropExecutor steps = false
+is_on_road _ steps = true
 
 -- calls by kept wakers, which may stand behind that
 abbrev pub is_behind : Call → Bool
@@ -54,6 +62,8 @@ pub data IsCall (w : World) : Call → plain.Call Output Waker → Type 0 where
   poll_tick : (t : ℕ) (b : By) → IsCall w (call.PollTick t b) (plain.PollTick t (waker_of None b))
   drop_tick : (t : ℕ) → IsCall w (call.DropTick t) (plain.DropTick t)
   new_run : IsCall w call.NewRun plain.NewRun
+  poll_run : (r : ℕ) (b : By) → IsCall w (call.PollRun r b) (plain.PollRun r (waker_of None b))
+  drop_run : (r : ℕ) → IsCall w (call.DropRun r) (plain.DropRun r)
   leak : IsCall w call.Leak plain.Leak
   drop_executor : IsCall w call.DropExecutor plain.DropExecutor
 
@@ -84,7 +94,7 @@ are_behind (l ∷ ls) = is_behind l.call && are_behind ls
 
 abbrev pub are_on_road : List Lone → Bool
 are_on_road [] = true
-are_on_road (l ∷ ls) = (is_on_road l.call && are_on_road ls) || (is_drop l.call && are_behind ls)
+are_on_road (l ∷ ls) = (is_on_road l.call l.steps && are_on_road ls) || (is_drop l.call && are_behind ls)
 
 -- both stand alike at each moment at which a call has ended
 abbrev pub GoAlike : Machine → Plain Output Waker → List Lone → Type 0

@@ -1,6 +1,6 @@
--- The end of the drop of a future that a try or a tick took: its entry goes from the table, the task's run ends, and who awaits the task is
--- called. An output that nobody can take is dropped before that: there the plain scheduler has given up the run's reference and who
--- awaits the task, and the machine does so once that drop has ended. Till then both stand alike but for these.
+-- The end of the drop of a future that a try or a tick took, or a run with its 200th: its entry goes from the table, the task's run
+-- ends, and who awaits the task is called. An output that nobody can take is dropped before that: there the plain scheduler has given up
+-- the run's reference and who awaits the task, and the machine does so once that drop has ended. Till then both stand alike but for these.
 use Rattle.std.specs.Prelude.{◌≡◌, ℕ, ◌-◌, ◌≤◌, ◌<◌, Bool, true, false, List, [], ◌∷◌, ◌++◌, length, Option, Some, None}
 use Rattle.task_moves.specs.declared.moves.owed.Move.{Move}
 use Rattle.task_moves.specs.declared.moves.owed.Move.TheVariants as move
@@ -66,7 +66,7 @@ dropped m final p f w =
 
 abbrev pub DropsAlikeInTake : ℕ → Option Waker → List Op → World → Plain Output Waker → Type 0
 DropsAlikeInTake p here below w q =
-    (taker : Taker Waker) (final : Op) → Finally taker final → (f : ℕ) (m : Move) (why : End Output) → f < length w.tasks
+    (taker : Taker Waker) (final : Op) → Finally q taker final → (f : ℕ) (m : Move) (why : End Output) → f < length w.tasks
     → among f w.table ≡ true → EndsBy (task w f) m why
     → (c : Choice) → length q.lying ≤ c.tells → (hints : List Hint) → HasAll p hints (upon below (dropped m final p f w))
     → is_resting (alone p hints (upon below (dropped m final p f w))).next ≡ true
@@ -81,5 +81,5 @@ lost final p f w = upon (rest_of (task w f).awaiter f final) (react p (op.User (
 abbrev pub LosesAlikeInTake : Type 0
 LosesAlikeInTake =
     (taker : Taker Waker) (final : Op) (p f : ℕ) (below : List Op) (w : World) (q : Plain Output Waker) (awaiter : Option Waker)
-    (c : Choice) → Finally taker final → is_resting below ≡ true → IsEnding w f awaiter q → length q.lying ≤ c.tells
+    (c : Choice) → Finally q taker final → is_resting below ≡ true → IsEnding w f awaiter q → length q.lying ≤ c.tells
     → LeavesAlike p below (lost final p f w) (does wakes c Ends (record q { inside = Lose awaiter (Some taker) ∷ q.inside }))

@@ -73,5 +73,5 @@ forgotten final p f w =
 abbrev pub ForgottenGoesAlike : Type 0
 ForgottenGoesAlike =
     (taker : Taker Waker) (final : Op) (p f : ℕ) (below : List Op) (w : World) (q : Plain Output Waker) (c : Choice)
-    → Finally taker final → is_resting below ≡ true → IsForgotten w f q → length q.lying ≤ c.tells
+    → Finally q taker final → is_resting below ≡ true → IsForgotten w f q → length q.lying ≤ c.tells
     → LeavesAlike p below (forgotten final p f w) (does wakes c Ends (record q { inside = Drop f Closed taker ∷ q.inside }))

@@ -9,5 +9,6 @@ pub mod Forgotten
 pub mod Losing
 pub mod Dropped
 pub mod Ticking
+pub mod Searching
 pub mod Lone
 pub mod Course

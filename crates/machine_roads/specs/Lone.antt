@@ -1,6 +1,7 @@
 -- When a lone call of a machine at rest leaves it where the plain scheduler's call leaves that, as long as the executor's drop
 -- hasn't begun; and so does that drop.
-use Rattle.std.specs.Prelude.{◌≡◌, ℕ, ◌≤◌, ◌<◌, Bool, true, false, ◌&&◌, not, List, [], ◌∷◌, length, reverse, Some, None, Ok, is_some}
+use Rattle.std.specs.Prelude.{◌≡◌, ℕ, ◌≤◌, ◌<◌, nat_lt, Bool, true, false, ◌&&◌, not, List, [], ◌∷◌, length, reverse, slice_get, Some, None}
+use Rattle.std.specs.Prelude.{Ok, is_some}
 use Rattle.executor_parts.specs.declared.mark.Mark.{Mark}
 use Rattle.executor_parts.specs.Marks.{first_of}
 use Rattle.task_moves.specs.AbstractTask as abstract
@@ -10,28 +11,35 @@ use Rattle.executor_model.specs.declared.call.By.{By}
 use Rattle.executor_model.specs.declared.call.Call.{Call}
 use Rattle.executor_model.specs.declared.call.Call.TheVariants as call
 use Rattle.executor_model.specs.declared.call.Reply.TheVariants as reply
+use Rattle.executor_model.specs.declared.event.Answer.TheVariants.{Pending as Unready}
 use Rattle.executor_model.specs.declared.op.Hold.TheVariants as hold
 use Rattle.executor_model.specs.declared.op.Op.TheVariants as op
+use Rattle.executor_model.specs.declared.op.RunPoll.{RunPoll}
 use Rattle.executor_model.specs.declared.op.Waker.{Waker}
 use Rattle.executor_model.specs.declared.step.Hint.{Hint}
 use Rattle.executor_model.specs.declared.step.Step.{Step}
 use Rattle.executor_model.specs.declared.step.Step.TheVariants.{Go}
+use Rattle.executor_model.specs.declared.step.UserEnd.TheVariants.{Polled}
 use Rattle.executor_model.specs.Acts.{is_copy_refused, is_refused}
 use Rattle.executor_model.specs.Executions.{EveryMachine, run_all}
 use Rattle.executor_model.specs.Quiet.{IsQuiet}
 use Rattle.executor_model.specs.Steps.{Machine, kept, stack, waker_of}
-use Rattle.executor_model.specs.World.{Done, done, task}
+use Rattle.executor_model.specs.World.{Done, World, done, task}
 use Rattle.executor_laws.specs.LoneEnds.{IsLoneCall}
-use Rattle.plain_scheduler.specs.State.{Choice, Plain, Refusal, Tick, Try}
-use Rattle.plain_scheduler.specs.Lists.{any}
-use Rattle.plain_scheduler.specs.Moves.{is_common}
+use Rattle.executor_laws.specs.RunReach.{first_answer}
+use Rattle.plain_scheduler.specs.State.{Choice, Code, Plain, Refusal, Run, Tick, Try}
+use Rattle.plain_scheduler.specs.Lists.{any, or}
+use Rattle.plain_scheduler.specs.Moves.{is_common, is_due}
 use Rattle.plain_scheduler.specs.Moves as plain
 use Rattle.plain_scheduler.specs.Calls.{does, is_granted, Spawn, Wake, Use, Copy, Release, Cancel, Detach, DropHandle, PollHandle}
-use Rattle.plain_scheduler.specs.Calls.{DropExecutor, DropTick, Ends, EndsWith, IsEmpty, Leak, NewRun, NewTick, Pends, PollTick, TryTick}
+use Rattle.plain_scheduler.specs.Calls.{DropExecutor, DropRun, DropTick, Ends, EndsWith, IsEmpty, Leak, NewRun, NewTick, Pends, PollTick}
+use Rattle.plain_scheduler.specs.Calls.{PollRun, TryTick}
 use Rattle.plain_scheduler.specs.Calls as plain_calls
+use Rattle.plain_scheduler.specs.Takes as plain_takes
 use Rattle.machine_roads.specs.View.{Output, wakes}
 use Rattle.machine_roads.specs.Alike.{begins, LeavesAlike}
 use Rattle.machine_roads.specs.Road.{Follows}
+use Rattle.machine_roads.specs.Searching.{IsLast, goes_on_by}
 use Rattle.machine_roads.specs.Stopped.{Stops}
 
 -- a call that leaves the world so leaves the machine so
@@ -71,6 +79,15 @@ pub data Ended : Plain Output Waker → Plain Output Waker → Type 0 where
   over : (q : Plain Output Waker) → Ended q q
   ends : (c : Choice) (e : plain_calls.Call Output Waker) (q r : Plain Output Waker) → is_end e ≡ true → length q.lying ≤ c.tells
       → Ended (does wakes c e q) r → Ended q r
+
+-- a poll of a run goes on so by ends of user code: it has ended, and both stand alike; or it goes on from where nothing is due, where
+-- the plain scheduler does once such a code ends
+pub data GoesOn (r : ℕ) (a : Waker) (inside : List (Code Output Waker)) (w : World) (q : Plain Output Waker) : Type 0 where
+  ended : (z : Plain Output Waker) → Ended q z → z.inside ≡ inside → Follows w z → GoesOn r a inside w q
+  idle : (z b : Plain Output Waker) (e : plain_calls.Call Output Waker) → Ended q z → is_end e ≡ true → any is_due b.due ≡ false
+      → ((d : Choice) → does wakes (record d { tells = length z.lying }) e z
+      ≡ plain_takes.next wakes (record d { tells = length z.lying }) (Run r a) b)
+      → GoesOn r a inside w q
 
 -- of each machine at rest and each plain scheduler where both stand alike
 abbrev pub EachLoneAlike : (Machine → Plain Output Waker → Type 0) → Type 0
@@ -200,6 +217,41 @@ module _ (s : Machine) (q : Plain Output Waker) where
   LoneRunIsMade =
       (p : ℕ) (c : Choice) (steps : List Step) (new : Machine) → new.world.gone ≡ false → IsLoneCall p call.NewRun steps s new
       → (r : Refusal) × Follows new.world (does wakes (record c { refusal = r }) NewRun q)
+
+  -- a poll of a run that is over, or whose own future is ready in it, with the end of that and of its drop
+  abbrev pub LoneRunEnds : Type 0
+  LoneRunEnds =
+      (p r : ℕ) (c : Choice) (b : By) (steps : List Step) → ¬ (first_answer steps ≡ Some (Polled Unready)) → length q.lying ≤ c.tells
+      → (new : Machine) → new.world.gone ≡ false → IsLoneCall p (call.PollRun r b) steps s new
+      → (z : Plain Output Waker) × Ended (does wakes c (PollRun r (waker_of None b)) q) z × (z.inside ≡ q.inside) × Follows new.world z
+
+  -- a poll of a run whose own future gives no output rests first, behind that future's poll, where the plain scheduler's does: in the poll
+  -- or the drop of a future that it took, where one is due, fewer than 200 were taken and it isn't over
+  abbrev pub LoneRunTakes : Type 0
+  LoneRunTakes =
+      (p r : ℕ) (c : Choice) (b : By) (steps : List Step) → first_answer steps ≡ Some (Polled Unready) → any is_due q.due ≡ true
+      → or (slice_get q.runs r) (λ run. nat_lt run.taken 200) true ≡ true → or (slice_get q.runs r) (λ run. run.is_over) true ≡ false
+      → length q.lying ≤ c.tells → (new : Machine) → new.world.gone ≡ false → IsLoneCall p (call.PollRun r b) steps s new → RestsFirst p
+      (λ e. (d : Choice) × (x : RunPoll) × (last : Bool) × (d.first ≡ first_of s.world.urgent_turns) × (d.tells ≡ c.tells)
+      × Stops (Run r (waker_of None b)) (goes_on_by x last) [] q e (does wakes d Pends (does wakes c (PollRun r (waker_of None b)) q))
+      × IsLast r last (does wakes d Pends (does wakes c (PollRun r (waker_of None b)) q)))
+      new
+
+  -- from the end of its own future's poll without an output on, with the ends of all the code that it comes to, a poll of a run that
+  -- isn't over and has taken fewer than 200 goes on alike until it has taken 200 and lets others go first, or nothing is due
+  abbrev pub LoneRunGoesOn : Type 0
+  LoneRunGoesOn =
+      (p r : ℕ) (c : Choice) (b : By) (steps : List Step) → first_answer steps ≡ Some (Polled Unready)
+      → or (slice_get q.runs r) (λ run. nat_lt run.taken 200) true ≡ true → or (slice_get q.runs r) (λ run. run.is_over) true ≡ false
+      → length q.lying ≤ c.tells → (new : Machine) → new.world.gone ≡ false → IsLoneCall p (call.PollRun r b) steps s new
+      → GoesOn r (waker_of None b) q.inside new.world (does wakes c (PollRun r (waker_of None b)) q)
+
+  -- a run goes, with the end of its own future's drop, if that isn't over
+  abbrev pub LoneRunGoes : Type 0
+  LoneRunGoes =
+      (p r : ℕ) (c : Choice) (steps : List Step) → length q.lying ≤ c.tells → (new : Machine) → new.world.gone ≡ false
+      → IsLoneCall p (call.DropRun r) steps s new
+      → (z : Plain Output Waker) × Ended (does wakes c (DropRun r) q) z × (z.inside ≡ q.inside) × Follows new.world z
 
   -- a leak, where no code is left in which a call stands
   abbrev pub LoneLeaks : Type 0

@@ -1,7 +1,7 @@
 -- When the world of the machine stands where the plain scheduler does, while no step is owed in it: each thing that the plain
 -- scheduler knows is read off the world.
-use Rattle.std.specs.Prelude.{◌≡◌, ℕ, ◌<◌, ◌-◌, Bool, true, false, List, [], ◌∷◌, length, map, filter, take, Option, None, is_some}
-use Rattle.std.specs.Prelude.{slice_index_or}
+use Rattle.std.specs.Prelude.{◌≡◌, ℕ, ◌<◌, ◌-◌, ◌==◌, ◌||◌, Bool, true, false, List, [], ◌∷◌, length, map, filter, take, Option, None}
+use Rattle.std.specs.Prelude.{is_some, slice_index_or, if◌then◌else◌}
 use Rattle.task_moves.specs.declared.moves.state.State.{State}
 use Rattle.executor_parts.specs.declared.mark.Mark.{Mark}
 use Rattle.task_moves.specs.AbstractTask as abstract
@@ -11,9 +11,10 @@ use Rattle.executor_model.specs.declared.op.TickOrRun.{TickOrRun}
 use Rattle.executor_model.specs.declared.op.TickOrRun.TheVariants as tick_or_run
 use Rattle.executor_model.specs.declared.op.Waker.{Waker}
 use Rattle.executor_model.specs.SleepersAgree.{sleeps}
-use Rattle.executor_model.specs.World.{Asleep, Left, Run, Ticker, World, awaiter_of, mark_of, no_run, queue_of, own_of}
+use Rattle.executor_model.specs.World.{Asleep, Ended, Left, Listed, New, Run, Stage, Ticker, World, awaiter_of, mark_of, no_run, queue_of}
+use Rattle.executor_model.specs.World.{own_of}
 use Rattle.executor_model.specs.World as world
-use Rattle.plain_scheduler.specs.State.{Close, Code, Due, Lying, Who, ATick, ARun, Plain}
+use Rattle.plain_scheduler.specs.State.{Close, Code, Due, Lying, Running, Who, ATick, ARun, Plain}
 use Rattle.plain_scheduler.specs.Lists.{any, or}
 use Rattle.plain_scheduler.specs.Moves.{is_called, is_common, is_kept, lies, task, mark}
 use Rattle.plain_scheduler.specs.Calls.{living_from}
@@ -52,6 +53,19 @@ abbrev pub AreNumbered : List Ticker → List Run → List (ℕ × Sleeping) →
 AreNumbered ticks runs [] = Unit {0}
 AreNumbered ticks runs (e ∷ es) = (place_in ticks runs e.1.who ≡ Asleep e.0) × AreNumbered ticks runs es
 
+abbrev pub is_ended : Stage → Bool
+is_ended New = false
+is_ended Listed = false
+is_ended Ended = true
+
+-- a run by how many it has taken; it is over once its own future was ready, or the run is dropped
+abbrev pub run_view : Run → Running
+run_view x = record { taken = x.taken; is_over = x.dropped || is_ended x.stage }
+
+-- with the 200th that a run takes the machine begins to count anew, and the plain scheduler once that has ended
+abbrev pub counted_anew : Running → Running
+counted_anew run = record run { taken = if run.taken == 200 then 0 else run.taken }
+
 -- who is still to be woken behind the executor's drop: those that it has dropped
 abbrev pub waking_in : List (Code Output Waker) → List ℕ
 waking_in [] = []
@@ -85,6 +99,6 @@ pub record Follows (w : World) (p : Plain Output Waker) : Type 0 where
   -- who sleeps lies, once, and nobody else does; and each waker is of who sleeps under its number
   pub asleep : (x : TickOrRun) → length (filter (lies (who_of x)) p.lying) ≡ sleeps (place_in w.ticks w.runs x)
   pub numbered : AreNumbered w.ticks w.runs w.sleepers.wakers
-  pub runs : length w.runs ≡ length p.runs
+  pub runs : map run_view w.runs ≡ map counted_anew p.runs
   pub waking : w.waking ≡ waking_in p.inside
   pub seen : heard_in w.trace ≡ map shown p.events

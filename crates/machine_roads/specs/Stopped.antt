@@ -1,6 +1,6 @@
 -- Where a party comes to that has user code to call: what it has still to do, above what lies below, is what the plain scheduler
 -- knows of the code in which the call stands.
-use Rattle.std.specs.Prelude.{◌≡◌, ℕ, ◌≤◌, ◌<◌, true, false, List, ◌∷◌, length, Option}
+use Rattle.std.specs.Prelude.{◌≡◌, ℕ, ◌≤◌, ◌<◌, true, false, List, ◌∷◌, length, slice_get, Option}
 use Rattle.executor_parts.specs.Marks.{first_of}
 use Rattle.task_moves.specs.declared.moves.owed.Move.TheVariants as move
 use Rattle.executor_model.specs.declared.call.Call.TheVariants as call
@@ -9,6 +9,8 @@ use Rattle.executor_model.specs.declared.event.Answer.TheVariants as answer
 use Rattle.executor_model.specs.declared.op.Hold.TheVariants as hold
 use Rattle.executor_model.specs.declared.op.Op.{Op}
 use Rattle.executor_model.specs.declared.op.Op.TheVariants as op
+use Rattle.executor_model.specs.declared.op.RunOp.TheVariants as run_op
+use Rattle.executor_model.specs.declared.op.RunPoll.{RunPoll}
 use Rattle.executor_model.specs.declared.op.TableOp.TheVariants as table_op
 use Rattle.executor_model.specs.declared.op.UserOp.TheVariants as user_op
 use Rattle.executor_model.specs.declared.op.Waker.{Waker}
@@ -17,7 +19,8 @@ use Rattle.executor_model.specs.declared.step.UserEnd.TheVariants as end
 use Rattle.executor_model.specs.Acts.{is_last_waker}
 use Rattle.executor_model.specs.Steps.{react}
 use Rattle.executor_model.specs.World.{World, Done, among, task}
-use Rattle.plain_scheduler.specs.State.{Choice, Closed, Code, Drop, Gave, Plain, Poll, Taker, Tick, Try}
+use Rattle.plain_scheduler.specs.State.{Choice, Closed, Code, Drop, Gave, Plain, Poll, Run, Taker, Tick, Try}
+use Rattle.plain_scheduler.specs.Lists.{or}
 use Rattle.plain_scheduler.specs.Calls.{does, EndsWith, Pends, TryTick}
 use Rattle.machine_roads.specs.View.{Output, wakes}
 use Rattle.machine_roads.specs.Moving.{IsPolled}
@@ -25,10 +28,16 @@ use Rattle.machine_roads.specs.Road.{Follows}
 use Rattle.machine_roads.specs.Alone.{alone, is_resting, HasAll}
 use Rattle.machine_roads.specs.Alike.{begins, upon}
 
--- a call that takes one future, a try or a tick's poll, and how it ends behind that
-pub data Finally : Taker Waker → Op → Type 0 where
-  of_try : Finally Try (op.End reply.Yes hold.Executor)
-  of_tick : (t : ℕ) (a : Waker) → Finally (Tick t a) (op.End reply.Ready (hold.Tick t))
+-- so many futures a run has taken since it let others go first
+abbrev pub taken_by : ℕ → Plain Output Waker → ℕ
+taken_by r q = or (slice_get q.runs r) (λ run. run.taken) 0
+
+-- a call that takes one future, a try or a tick's poll, and how it ends behind that; or the poll of a run with its 200th, behind which
+-- it calls its own waker
+pub data Finally (q : Plain Output Waker) : Taker Waker → Op → Type 0 where
+  of_try : Finally q Try (op.End reply.Yes hold.Executor)
+  of_tick : (t : ℕ) (a : Waker) → Finally q (Tick t a) (op.End reply.Ready (hold.Tick t))
+  of_last : (x : RunPoll) → taken_by x.run q ≡ 200 → Finally q (Run x.run x.waker) (op.Run (run_op.WakeOwn x))
 
 pub data Stopped (taker : Taker Waker) (final : Op) (below : List Op) (inside : List (Code Output Waker))
     : List Op → List (Code Output Waker) → Type 0 where
@@ -78,7 +87,7 @@ pended p f final below w = upon (final ∷ below) (react p (op.User (user_op.Pol
 
 abbrev pub PendsAlikeInTake : ℕ → Option Waker → List Op → World → Plain Output Waker → Type 0
 PendsAlikeInTake p here below w q =
-    (taker : Taker Waker) (final : Op) → Finally taker final → (f : ℕ) → IsInPoll w f → (c : Choice) → length q.lying ≤ c.tells
+    (taker : Taker Waker) (final : Op) → Finally q taker final → (f : ℕ) → IsInPoll w f → (c : Choice) → length q.lying ≤ c.tells
     → (hints : List Hint) → HasAll p hints (pended p f final below w)
     → is_resting (alone p hints (pended p f final below w)).next ≡ true
     → Stops taker final below q (alone p hints (pended p f final below w))

@@ -2,7 +2,8 @@
 ghost use Rattle.executor_model.specs.Executions.{EveryMachine};
 ghost use Rattle.machine_roads.specs.Course.{ListsGoAlike};
 ghost use Rattle.machine_roads.specs.Lone.{EachLoneAlike, LoneCallIsAlone, LoneCancels, LoneCopies};
-ghost use Rattle.machine_roads.specs.Lone.{LoneEmpty, LoneLeaks, LoneRunIsMade, LoneSpawns, LoneUses, LoneWakerGoes};
+ghost use Rattle.machine_roads.specs.Lone.{LoneEmpty, LoneLeaks, LoneRunEnds, LoneRunGoes, LoneRunGoesOn, LoneRunIsMade};
+ghost use Rattle.machine_roads.specs.Lone.{LoneRunTakes, LoneSpawns, LoneUses, LoneWakerGoes};
 ghost use Rattle.machine_roads.specs.Lone.{LoneDetachLoses, LoneDropEnds, LoneGoesWithOutput};
 ghost use Rattle.machine_roads.specs.Lone.{LoneDetaches, LoneHandleGoes, LoneHandlePolls};
 ghost use Rattle.machine_roads.specs.Lone.{LoneHandleWaits, LoneTickGoes, LoneTickIsMade};
@@ -96,6 +97,31 @@ pub fn lone_runs_are_made()
     ensures { EachLoneAlike LoneRunIsMade }
 {}
 
+/// So is a lone poll of a run that is over, or whose own future is ready in it, with the ends of that
+/// future's poll and drop.
+pub fn lone_runs_end()
+    ensures { EachLoneAlike LoneRunEnds }
+{}
+
+/// And where its own future gives no output, and some future is due, it rests first behind that where
+/// the plain scheduler's does: in the poll or the drop of the future that it took.
+pub fn lone_runs_take()
+    ensures { EachLoneAlike LoneRunTakes }
+{}
+
+/// From the end of its own future's poll without an output on, with the ends of all the code that it
+/// comes to, a lone poll of a run that isn't over and has taken fewer than 200 is one, until it has
+/// taken 200 and lets others go first; or it comes to where nothing is due.
+pub fn lone_runs_go_on()
+    ensures { EachLoneAlike LoneRunGoesOn }
+{}
+
+/// With the end of its own future's drop, if that isn't over, a lone drop of a run is one: those that
+/// it keeps are appended, in order, each telling, and it gets up where it lies.
+pub fn lone_runs_go()
+    ensures { EachLoneAlike LoneRunGoes }
+{}
+
 /// So does a lone leak, where the plain scheduler stands in no code.
 pub fn lone_leaks_are_leaks()
     ensures { EachLoneAlike LoneLeaks }
@@ -123,8 +149,8 @@ pub fn lone_questions_are_answered()
 
 /// Lists of such calls of a new machine, one after the other, are lists of calls of the new plain
 /// scheduler, which looks first at the mark that the turn names and tells who lay down last: all calls
-/// but polls and drops of runs, and then, if it comes to that, the executor's drop, with wakes by kept
-/// wakers and these wakers' drops behind it.
+/// but polls of runs whose own future gives no output in them, and then, if it comes to that, the
+/// executor's drop, with wakes by kept wakers and these wakers' drops behind it.
 pub fn lists_of_lone_calls_go_alike()
     ensures { ListsGoAlike }
 {}

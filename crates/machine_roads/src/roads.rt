@@ -14,6 +14,7 @@ ghost use Rattle.machine_roads.specs.Dropped.{DropsAlikeInTake, LosesAlikeInTake
 ghost use Rattle.machine_roads.specs.Forgotten.{ForgetsAlikeInTake, ForgottenGoesAlike};
 ghost use Rattle.machine_roads.specs.Losing.{DetachesToLose, GoesToLose, LosesAlike};
 ghost use Rattle.machine_roads.specs.Road.{Follows};
+ghost use Rattle.machine_roads.specs.Searching.{RunTakesAlike};
 ghost use Rattle.machine_roads.specs.Ticking.{TickGoesAlike, TickIsMadeAlike, TickIsPolledAlike};
 ghost use Rattle.machine_roads.specs.Stopped.{GivesAlikeInTake, PendsAlikeInTake, TriesAlike};
 
@@ -86,8 +87,9 @@ pub fn a_try_is_a_try()
     ensures { EachAlike TriesAlike }
 {}
 
-/// And so does the end of such a poll, in a try or a tick's poll, where it gives no output and the
-/// future can still be reached.
+/// And so does the end of such a poll, where it gives no output and the future can still be reached: in
+/// a try or a tick's poll, and in a run's with its 200th, which then calls its own waker and lets others
+/// go first.
 pub fn an_end_without_output_ends_alike()
     ensures { EachAlike PendsAlikeInTake }
 {}
@@ -141,7 +143,15 @@ pub fn a_run_is_made_alike()
     ensures { EachAlike RunIsMadeAlike }
 {}
 
-/// So does a leak, of an executor that isn't static.
+/// A poll of a run whose own future gave no output comes, where some future is due, to the poll or the
+/// drop of the one that it takes, where both stand alike: the first of its own queue, or of the
+/// executor's as the turn names them, or of another run's; with what it steals beside. Behind that it
+/// searches again, or calls its own waker where that was the 200th.
+pub fn a_run_takes_alike()
+    ensures { EachAlike RunTakesAlike }
+{}
+
+/// A leak leaves both alike, of an executor that isn't static.
 pub fn a_leak_is_a_leak()
     ensures { EachAlike LeaksAlike }
 {}

@@ -84,5 +84,11 @@ pub mod Resleeping
 pub mod Keeping
 pub mod InVain
 pub mod RunResting
+pub mod RunRefusing
+pub mod Listed
+pub mod OwnKept
+pub mod Counting
+pub mod CodesKept
+pub mod Polled
 pub mod RunGoing
 pub mod RunEnding

@@ -6,6 +6,7 @@ pub mod Spawning
 pub mod Taking
 pub mod Ending
 pub mod Losing
+pub mod StillListed
 pub mod Courses
 pub mod AllThere
 pub mod AfterClose

@@ -28,7 +28,8 @@ use Rattle.plain_scheduler.specs.Calls.{does}
 use Rattle.solo_laws.specs.Alike.{calls, cancelled, handle_polled, takes_one}
 use Rattle.solo_laws.specs.Dropping.{after_drop, ends_one}
 use Rattle.solo_laws.specs.Leaking.{leaked}
-use Rattle.solo_laws.specs.Road.{HasLife, IsNamed, count_of, wakes as wakes_of}
+use Rattle.solo_laws.specs.Busy.{busy_in}
+use Rattle.solo_laws.specs.Road.{HasLife, IsNamed, count_of, is_in, wakes as wakes_of}
 use Rattle.solo_laws.specs.Shown.{rings, found_as, cancel_shows, detach_shows, poll_shows, end_shows, drop_shows, call_shows, leak_shows}
 use Rattle.solo_laws.specs.Numbered.{ticker_of}
 use Rattle.solo_laws.specs.Ticking.{CanCopy, number_after, rest_answer, rested, tick_shows, looks_again, slept_answer, slept_once}
@@ -116,8 +117,8 @@ pub data Acts {F T X : Type 0} (its : ℕ → Lent) (number : Who → ℕ) (c : 
   makes_run : c.refusal ≡ Granted → length p.runs < most_accepted
       → Acts its number c s p NewRun (Answers Made ∷ []) number (runs.made s)
   makes_no_run : is_granted c.refusal ≡ false → Acts its number c s p NewRun (Answers NoMemory ∷ []) number s
-  -- as long as a run's own future is polled
-  run_polled : (runner : Runner) (w : SoloWaker X) → goes_on runner.number p ≡ true
+  -- as long as a run's own future is polled; no call is on a run that is polled or dropped
+  run_polled : (runner : Runner) (w : SoloWaker X) → goes_on runner.number p ≡ true → is_in runner.number (busy_in p.inside) ≡ false
       → Acts its number c s p (PollRun runner.number w) [] number (runs.begun runner s)
   over_polled : (r : ℕ) (w : SoloWaker X) → goes_on r p ≡ false
       → Acts its number c s p (PollRun r w) (Answers Finished ∷ []) number s
@@ -125,7 +126,7 @@ pub data Acts {F T X : Type 0} (its : ℕ → Lent) (number : Who → ℕ) (c : 
       → Acts its number c s p (EndsWith v) [] number s
   -- its own future is pending, and it looks for one to take, or lies down
   run_looks : (runner : Runner) (w : SoloWaker X) (rest : List (Code T (SoloWaker X))) (shown : List (Event T (SoloWaker X)))
-      (now : Who → ℕ) (z : Solo F T X) → p.inside ≡ PollOwn runner.number w ∷ rest → goes_on runner.number p ≡ true
+      (now : Who → ℕ) (z : Solo F T X) → p.inside ≡ PollOwn runner.number w ∷ rest
       → Searches its number c runner w s (record p { inside = rest }) shown now z → Acts its number c s p Pends shown now z
   -- the poll or drop of one that it took ends as in a try, and then the run goes on; or one is dropped first, or its output
   run_goes_on : (stage : Stage T (SoloWaker X)) (runner : Runner) (w : SoloWaker X) (rest : List (Code T (SoloWaker X)))
@@ -142,10 +143,10 @@ pub data Acts {F T X : Type 0} (its : ℕ → Lent) (number : Who → ℕ) (c : 
       (shown : List (Event T (SoloWaker X))) (v : T) (z : Solo F T X) → p.inside ≡ code_at stage (Run r w) ∷ rest
       → IsEnding stage call → Makes its c s (in_try stage rest p) call (shown ++ Loses v ∷ []) z
       → Acts its number c s p call (shown ++ Loses v ∷ []) number z
-  run_dropped : (r : ℕ) → goes_on r p ≡ true → Acts its number c s p (DropRun r) [] number s
+  run_dropped : (r : ℕ) → goes_on r p ≡ true → is_in r (busy_in p.inside) ≡ false → Acts its number c s p (DropRun r) [] number s
   over_dropped : (r : ℕ) → goes_on r p ≡ false → Acts its number c s p (DropRun r) (Answers Done ∷ []) number s
   run_leaves : (runner : Runner) (answer : Answer T) (rest : List (Code T (SoloWaker X)))
-      → p.inside ≡ DropOwn runner.number answer ∷ rest → goes_on runner.number p ≡ true
+      → p.inside ≡ DropOwn runner.number answer ∷ rest
       → HasLife (3 * count_of_own runner.number s.runs + 5) s.lines
       → Acts its number c s p Ends (run_shows (ticker_of number (ARun runner.number) p.lying) runner s ++ Answers answer ∷ []) number
       (run_left (ticker_of number (ARun runner.number) p.lying) runner s)

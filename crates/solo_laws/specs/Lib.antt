@@ -23,8 +23,11 @@ pub mod Running
 pub mod Stealing
 pub mod RunTaking
 pub mod Walking
+pub mod Busy
 pub mod RunGoing
+pub mod RunCounting
 pub mod RunResting
+pub mod Led
 pub mod Going
 pub mod Seen
 pub mod Done

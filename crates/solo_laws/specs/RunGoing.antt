@@ -13,17 +13,19 @@ use Rattle.solo.specs.OwnQueues.{first_of}
 use Rattle.solo.specs.Runs as runs
 use Rattle.solo.specs.Solo as solo
 use Rattle.solo.specs.Steals as steals
-use Rattle.plain_scheduler.specs.State.{Answers, ARun, Choice, Code, Drop, End, Event, Granted, Lose, Pending, Plain, Poll, Taker, Try, Who}
+use Rattle.plain_scheduler.specs.State.{Answers, ARun, AtOnce, Choice, Code, Drop, End, Event, Granted, Later, Lose, NoMemory, Pending}
+use Rattle.plain_scheduler.specs.State.{Plain, Poll}
+use Rattle.plain_scheduler.specs.State.{Taker, Try, Who}
 use Rattle.plain_scheduler.specs.Lists.{or}
 use Rattle.plain_scheduler.specs.Moves.{lies}
 use Rattle.plain_scheduler.specs.Calls.{Call, Ends, Pends}
 use Rattle.solo_laws.specs.Numbered.{ticker_of}
 use Rattle.solo_laws.specs.Road.{HasLife, IsNamed}
-use Rattle.solo_laws.specs.RunResting.{EachListed, run_rest_answer, run_rested, sleep_answer, slept_from}
+use Rattle.solo_laws.specs.RunResting.{run_rest_answer, run_rested, sleep_answer, slept_from}
 use Rattle.solo_laws.specs.RunTaking.{searched_further, wake_shows, woken_by}
 use Rattle.solo_laws.specs.Shown.{rings}
 use Rattle.solo_laws.specs.Stealing.{share_of, so_many, stolen_marks}
-use Rattle.solo_laws.specs.Tabled.{goes_on, named}
+use Rattle.solo_laws.specs.Tabled.{named}
 use Rattle.solo_laws.specs.Ticking.{looks_again, number_after, tick_shows}
 use Rattle.solo_laws.specs.Walking.{robbed, robs_more, searched_none}
 
@@ -89,8 +91,8 @@ module _ {F T X : Type 0} (its : ℕ → Lent) (number : Who → ℕ) (c : Choic
         → Searches (shows_taken task (steals.walked runner.number start (searched_none runner.number s))) number
         (runs.searched runner its_ticker start s)
     -- or there is none, and it lies down
-    rests : (first second : ℕ) → EachListed s.runs → (steals.seek_answer runner.number first s).task ≡ None
-        → c.first ≡ mark_of_turn s.lines.turn → c.refusal ≡ Granted
+    rests : (first second : ℕ) → (steals.seek_answer runner.number first s).task ≡ None → c.first ≡ mark_of_turn s.lines.turn
+        → c.refusal ≡ Granted
         → (find (lies (ARun runner.number)) p.lying ≡ None → nat_lt s.sleepers.count s.sleepers.rooms ≡ true)
         → ((u : Task) → w ≡ OfTask u → IsNamed (named its) (length p.futures) u × (solo.may_hold u s ≡ true)
         × (looks_again (sleep_answer runner.number first its_ticker w s).look ≡ true
@@ -98,11 +100,21 @@ module _ {F T X : Type 0} (its : ℕ → Lent) (number : Who → ℕ) (c : Choic
         → suc (length p.lying) ≤ c.tells → HasLife 2 s.lines
         → Searches (rings (run_rest_answer runner.number first second its_ticker w s).sleeper ++ Answers Pending ∷ [])
         (number_after (ARun runner.number) number s p) (run_rested runner.number first second its_ticker w s)
+    -- and is refused a copy of its waker, or another for the look once it lies
+    is_refused : (start : ℕ) → (steals.seek_answer runner.number start s).task ≡ None → c.first ≡ mark_of_turn s.lines.turn
+        → c.refusal ≡ AtOnce → Searches (Answers NoMemory ∷ []) number (steals.sought runner.number start s)
+    lies_refused : (first second : ℕ) → (steals.seek_answer runner.number first s).task ≡ None → c.first ≡ mark_of_turn s.lines.turn
+        → c.refusal ≡ Later
+        → (find (lies (ARun runner.number)) p.lying ≡ None → nat_lt s.sleepers.count s.sleepers.rooms ≡ true)
+        → ((u : Task) → w ≡ OfTask u → IsNamed (named its) (length p.futures) u × (solo.may_hold u s ≡ true))
+        → looks_again (sleep_answer runner.number first its_ticker w s).look ≡ true → suc (length p.lying) ≤ c.tells → HasLife 2 s.lines
+        → Searches (Answers NoMemory ∷ []) (number_after (ARun runner.number) number s p)
+        (steals.sought runner.number second (slept_from runner.number first its_ticker w s))
 
   -- it looks for another, or lets others go first after 200
   pub data RunsOn : List (Event T (SoloWaker X)) → (Who → ℕ) → Solo F T X → Type 0 where
     looks_on : (shown : List (Event T (SoloWaker X))) (now : Who → ℕ) (z : Solo F T X) → nat_lt (taken_by runner.number p) 200 ≡ true
-        → goes_on runner.number p ≡ true → Searches shown now z → RunsOn shown now z
+        → Searches shown now z → RunsOn shown now z
     gives_way : nat_lt (taken_by runner.number p) 200 ≡ false
         → ((t : Task) → w ≡ OfTask t → IsNamed (named its) (length p.futures) t) → HasLife 2 s.lines
         → RunsOn (wake_shows w s ++ Answers Pending ∷ []) number (woken_by w s)

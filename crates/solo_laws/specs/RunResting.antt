@@ -14,14 +14,14 @@ use Rattle.solo.specs.OwnQueues.{OwnQueuesValue}
 use Rattle.solo.specs.Solo.{may_hold}
 use Rattle.solo.specs.Steals.{seek_answer, sought}
 use Rattle.solo.specs.Ticks as ticks
-use Rattle.plain_scheduler.specs.State.{ARun, Choice, Code, Granted, Plain, PollOwn, Who}
+use Rattle.plain_scheduler.specs.State.{ARun, AtOnce, Choice, Code, Granted, Later, Plain, PollOwn, Who}
 use Rattle.plain_scheduler.specs.Moves.{lies}
 use Rattle.plain_scheduler.specs.Calls.{Pends, does}
 use Rattle.solo_laws.specs.Alike.{copies}
 use Rattle.solo_laws.specs.Numbered.{ticker_of}
 use Rattle.solo_laws.specs.Road.{HasLife, IsNamed, wakes}
 use Rattle.solo_laws.specs.Tabled.{goes_on, named}
-use Rattle.solo_laws.specs.Ticking.{IsAtRest, looks_again, number_after}
+use Rattle.solo_laws.specs.Ticking.{IsAtRest, IsRefused, LiesRefused, looks_again, number_after}
 
 -- others look at each own queue in which there is a task
 abbrev pub EachListed : OwnQueuesValue → Type 0
@@ -51,8 +51,7 @@ module _ {F T X : Type 0} (its : ℕ → Lent) (number : Who → ℕ) (s : Solo 
   abbrev pub RunsRest : Type 0
   RunsRest =
       (c : Choice) (r : ℕ) (w : SoloWaker X) (rest : List (Code T (SoloWaker X))) (first second : ℕ) → p.inside ≡ PollOwn r w ∷ rest
-      → goes_on r p ≡ true → EachListed s.runs → (seek_answer r first s).task ≡ None → c.first ≡ mark_of_turn s.lines.turn
-      → c.refusal ≡ Granted
+      → goes_on r p ≡ true → (seek_answer r first s).task ≡ None → c.first ≡ mark_of_turn s.lines.turn → c.refusal ≡ Granted
       → let ticker = ticker_of number (ARun r) p.lying in
       (find (lies (ARun r)) p.lying ≡ None → nat_lt s.sleepers.count s.sleepers.rooms ≡ true)
       → ((u : Task) → w ≡ OfTask u → IsNamed (named its) (length p.futures) u × (may_hold u s ≡ true)
@@ -60,3 +59,22 @@ module _ {F T X : Type 0} (its : ℕ → Lent) (number : Who → ℕ) (s : Solo 
       → suc (length p.lying) ≤ c.tells → HasLife 2 s.lines
       → IsAtRest its number s (record p { inside = rest }) (ARun r) (number_after (ARun r) number s p)
       (run_rest_answer r first second ticker w s) (run_rested r first second ticker w s) (does wakes c Pends p)
+
+  -- a copy of its waker is refused: the run is as it was
+  abbrev pub RunsAreRefused : Type 0
+  RunsAreRefused =
+      (c : Choice) (r : ℕ) (w : SoloWaker X) (rest : List (Code T (SoloWaker X))) (start : ℕ) → p.inside ≡ PollOwn r w ∷ rest
+      → goes_on r p ≡ true → (seek_answer r start s).task ≡ None → c.first ≡ mark_of_turn s.lines.turn → c.refusal ≡ AtOnce
+      → IsRefused its number s (record p { inside = rest }) number (sought r start s) (does wakes c Pends p)
+
+  -- or another is, for the look once it lies: it lies on
+  abbrev pub RunsLieRefused : Type 0
+  RunsLieRefused =
+      (c : Choice) (r : ℕ) (w : SoloWaker X) (rest : List (Code T (SoloWaker X))) (first second : ℕ) → p.inside ≡ PollOwn r w ∷ rest
+      → goes_on r p ≡ true → (seek_answer r first s).task ≡ None → c.first ≡ mark_of_turn s.lines.turn → c.refusal ≡ Later
+      → let ticker = ticker_of number (ARun r) p.lying in
+      (find (lies (ARun r)) p.lying ≡ None → nat_lt s.sleepers.count s.sleepers.rooms ≡ true)
+      → ((u : Task) → w ≡ OfTask u → IsNamed (named its) (length p.futures) u × (may_hold u s ≡ true))
+      → looks_again (sleep_answer r first ticker w s).look ≡ true → suc (length p.lying) ≤ c.tells → HasLife 2 s.lines
+      → LiesRefused its number s (record p { inside = rest }) (ARun r) (number_after (ARun r) number s p) (sleep_answer r first ticker w s)
+      (sought r second (slept_from r first ticker w s)) (does wakes c Pends p)

@@ -3,10 +3,12 @@ ghost use Rattle.std.specs.Prelude.{ℕ};
 ghost use Rattle.solo.specs.declared.names.SoloWaker.{SoloWaker};
 ghost use Rattle.solo.specs.declared.owed.Lent.{Lent};
 ghost use Rattle.solo.specs.declared.solo.Solo.{Solo};
-ghost use Rattle.plain_scheduler.specs.State.{Plain, Who};
+ghost use Rattle.plain_scheduler.specs.State.{Choice, Plain, Who};
+ghost use Rattle.solo_laws.specs.Led.{IsLed};
 ghost use Rattle.solo_laws.specs.Numbered.{IsNumbered};
 ghost use Rattle.solo_laws.specs.Running.{OversAreDropped, OversArePolled, OwnsAreReady, RunsAreDropped, RunsArePolled, RunsLeave};
-ghost use Rattle.solo_laws.specs.RunResting.{RunsRest};
+ghost use Rattle.solo_laws.specs.RunCounting.{RunsCount, RunsCountAnew};
+ghost use Rattle.solo_laws.specs.RunResting.{EachListed, RunsAreRefused, RunsLieRefused, RunsRest};
 ghost use Rattle.solo_laws.specs.RunTaking.{RunsGiveWay, RunsTakeCommon, RunsTakeOwn};
 ghost use Rattle.solo_laws.specs.Stealing.{KeepsAlike, KeepsOfBoth, RobsAlike};
 ghost use Rattle.solo_laws.specs.Tabled.{Stands};
@@ -73,14 +75,33 @@ pub fn runs_take_what_others_keep<F, T, X>()
         → IsNumbered number s.sleepers p.lying → RunsTakeKept its number s p }
 {}
 
-/// Where others look at each own queue in which there is a task, a run that finds nothing lies down: no future is due, and it falls
-/// asleep with a copy of its waker; where it lies anew it looks once more.
+/// Where others look at each own queue in which there is a task, and so wherever a list of calls leads, a run that finds nothing lies
+/// down: no future is due, and it falls asleep with a copy of its waker; where it lies anew it looks once more.
 pub fn runs_rest_alike<F, T, X>()
-    ensures { (its : ℕ → Lent) (number : Who → ℕ) (s : Solo F T X) (p : Plain T (SoloWaker X)) → Stands its s p
-        → IsNumbered number s.sleepers p.lying → RunsRest its number s p }
+    ensures listed { (its : ℕ → Lent) (number : Who → ℕ) (s : Solo F T X) (p : Plain T (SoloWaker X)) → Stands its s p
+        → IsNumbered number s.sleepers p.lying → EachListed s.runs → RunsRest its number s p }
+    ensures led { (its : ℕ → Lent) (number : Who → ℕ) (s : Solo F T X) (p : Plain T (SoloWaker X)) → IsLed its number s p
+        → RunsRest its number s p }
+{}
+
+/// One that is refused a copy of its waker is as it was; where the copy for its second look is refused it lies.
+pub fn runs_are_refused_alike<F, T, X>()
+    ensures once { (its : ℕ → Lent) (number : Who → ℕ) (s : Solo F T X) (p : Plain T (SoloWaker X)) → Stands its s p
+        → IsNumbered number s.sleepers p.lying → EachListed s.runs → RunsAreRefused its number s p }
+    ensures later { (its : ℕ → Lent) (number : Who → ℕ) (s : Solo F T X) (p : Plain T (SoloWaker X)) → Stands its s p
+        → IsNumbered number s.sleepers p.lying → EachListed s.runs → RunsLieRefused its number s p }
+    ensures led { (its : ℕ → Lent) (number : Who → ℕ) (s : Solo F T X) (p : Plain T (SoloWaker X)) → IsLed its number s p
+        → RunsAreRefused its number s p × RunsLieRefused its number s p }
 {}
 
 /// Where a run has taken 200 since it last let others go first, it goes on by calling its own waker, and is pending.
 pub fn runs_give_way_alike<F, T, X>()
     ensures { (its : ℕ → Lent) (s : Solo F T X) (p : Plain T (SoloWaker X)) → Stands its s p → RunsGiveWay its s p }
+{}
+
+/// Where a run has counted as many as the plain scheduler's has taken, it says with its next take that it is to let others go first just
+/// where that one then does, and both have counted as many again; once they have, both count anew.
+pub fn runs_count_alike<T, X>()
+    ensures takes { (c : Choice) (p : Plain T (SoloWaker X)) → RunsCount c p }
+    ensures anew { (c : Choice) (p : Plain T (SoloWaker X)) → RunsCountAnew c p }
 {}

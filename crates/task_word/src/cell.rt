@@ -53,8 +53,7 @@ impl<F, T, W> Cell<F, T, W> {
     /// A seat with nothing.
     #[inline(always)]
     pub fn pass(&self) -> Pass<F, T, W>
-        ensures seat { IsSeatOf self.now.board.shared result }
-        ensures nothing { Has Nothing result }
+        ensures { IsSeatOf self.now.board.shared result × Has Nothing result }
     {
         self.board.shared.load_new_seat::<Arrive>(0).1
     }

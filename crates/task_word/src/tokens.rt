@@ -53,10 +53,8 @@ impl<F: 'static, T: 'static, W: 'static> Runnable<F, T, W> {
 
     #[inline(always)]
     pub(crate) fn open(self) -> (&'static Cell<F, T, W>, Pass<F, T, W>)
-        ensures same { (result.1.table_id ≡ self.entry.claim.badge.table_id) × (result.1.id ≡ self.entry.claim.badge.id) }
-        ensures cell { result.0.now ≡ self.entry.cell.now }
-        ensures seat { IsSeatOf result.0.now.board.shared result.1 }
-        ensures has { Has Queued result.1 }
+        ensures { (result.1.table_id ≡ self.entry.claim.badge.table_id) × (result.1.id ≡ self.entry.claim.badge.id)
+            × (result.0.now ≡ self.entry.cell.now) × IsSeatOf result.0.now.board.shared result.1 × Has Queued result.1 }
     {
         let Runnable { cell, claim } = self;
         (cell, claim.into_seat())
@@ -86,10 +84,8 @@ impl<F: 'static, T: 'static, W: 'static> Waker<F, T, W> {
 
     #[inline(always)]
     pub(crate) fn open(self) -> (&'static Cell<F, T, W>, Pass<F, T, W>)
-        ensures same { (result.1.table_id ≡ self.entry.claim.badge.table_id) × (result.1.id ≡ self.entry.claim.badge.id) }
-        ensures cell { result.0.now ≡ self.entry.cell.now }
-        ensures seat { IsSeatOf result.0.now.board.shared result.1 }
-        ensures has { Has Reference result.1 }
+        ensures { (result.1.table_id ≡ self.entry.claim.badge.table_id) × (result.1.id ≡ self.entry.claim.badge.id)
+            × (result.0.now ≡ self.entry.cell.now) × IsSeatOf result.0.now.board.shared result.1 × Has Reference result.1 }
     {
         let Waker { cell, claim } = self;
         (cell, claim.into_seat())
@@ -109,8 +105,7 @@ impl<F: 'static, T: 'static, W: 'static> Task<F, T, W> {
     pub(crate) fn of(cell: &'static Cell<F, T, W>, pass: Pass<F, T, W>) -> Self
         requires seat { IsSeatOf cell.now.board.shared pass }
         requires has { Has Handle pass }
-        ensures claim { IsClaimOf pass result.claim }
-        ensures cell { result.cell.now ≡ cell.now }
+        ensures { IsClaimOf pass result.claim × (result.cell.now ≡ cell.now) }
     {
         Task {
             cell,
@@ -120,10 +115,8 @@ impl<F: 'static, T: 'static, W: 'static> Task<F, T, W> {
 
     #[inline(always)]
     pub(crate) fn open(self) -> (&'static Cell<F, T, W>, Pass<F, T, W>)
-        ensures same { (result.1.table_id ≡ self.entry.claim.badge.table_id) × (result.1.id ≡ self.entry.claim.badge.id) }
-        ensures cell { result.0.now ≡ self.entry.cell.now }
-        ensures seat { IsSeatOf result.0.now.board.shared result.1 }
-        ensures has { Has Handle result.1 }
+        ensures { (result.1.table_id ≡ self.entry.claim.badge.table_id) × (result.1.id ≡ self.entry.claim.badge.id)
+            × (result.0.now ≡ self.entry.cell.now) × IsSeatOf result.0.now.board.shared result.1 × Has Handle result.1 }
     {
         let Task { cell, claim } = self;
         (cell, claim.into_seat())

@@ -7,8 +7,6 @@ mod caught;
 #[cfg(test)]
 mod gates;
 #[cfg(test)]
-mod lists;
-#[cfg(test)]
 mod rows;
 #[cfg(test)]
 mod scripts;

@@ -6,7 +6,7 @@ ghost use Rattle.call_steps.specs.declared.reply.Reply.TheVariants as reply;
 ghost use Rattle.call_steps.specs.declared.step.CallStep.TheVariants as step;
 ghost use Rattle.call_steps.specs.declared.step.run.RunStep.TheVariants as run_step;
 ghost use Rattle.call_steps.specs.declared.step.tick.TickStep.TheVariants as tick_step;
-ghost use Rattle.async_executor.specs.Sleeping.{is_asleep};
+ghost use Rattle.async_executor.specs.Sleeping.{sleeps_with};
 ghost use Rattle.async_executor.specs.Ticks.{sleeping};
 
 use super::SleeperWaker;
@@ -91,7 +91,7 @@ impl<W: Wake + Drop + 'static> SleeperWaker<W> {
     where
         T: Drop + 'static,
         R: Wait + Copy + Drop + 'static,
-        requires asleep { is_asleep ticker.now ≡ true }
+        requires asleep { sleeps_with ticker.now ≡ Some name.now }
         requires falls { steps.old ≡ step.Tick (tick_step.FallAsleep (sleeping who.now name.now)) ∷ [] }
         ensures { steps.new ≡ step.End reply.Pending ∷ [] }
     {

@@ -38,7 +38,7 @@ impl Ticker {
         ensures { steps.new ≡ below steps.old }
     {
         match self {
-            Ticker::Asleep(sleeper) => {
+            Ticker::Asleep(sleeper, _) => {
                 let room = leave_sleepers(rt, state, realm, sleeper, who, steps, unlocked);
                 return_room(&rt, state, room, unlocked);
                 steps.follow(Saw::Nothing);

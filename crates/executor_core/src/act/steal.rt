@@ -2,12 +2,14 @@
 ghost use Rattle.std.specs.Prelude.{◌≡◌, ◌+◌, ◌≤◌, [], ◌∷◌, IfNone, IfSome, length, vec_len, vec_capacity};
 ghost use Rattle.executor_model.specs.ActsOfRuns as runs;
 ghost use Rattle.executor_model.specs.Doing as doing;
+ghost use Rattle.executor_core.specs.Walks as walks;
 ghost use Rattle.executor_core.specs.Views.{world_of, HasRoom, HasRoomToEnd, HasSpace, Does};
 
-use crate::found::{push_found, push_run};
+use crate::found::{asleep, push_found, push_run};
 use crate::store::Store;
-use executor_model::{Event, Op, QueueOp, RunOp, Source, Steal, StealOp, Then};
+use executor_model::{Event, ListOp, Op, RunOp, Source, Steal, StealOp, Then, TickOp};
 use executor_parts::Mark;
+use task_moves::moves::Move;
 
 /// The party does this part of a steal.
 pub fn act(store: &mut Store, todo: &mut Vec<Op>, party: u32, op: StealOp)
@@ -126,7 +128,7 @@ fn take(store: &mut Store, todo: &mut Vec<Op>, s: Steal, more: u64)
     }
 }
 
-/// It is appended to the own queue, where a place is free. That none is never happens, and then it is scheduled.
+/// It is appended to the own queue, where a place is free.
 fn put(store: &mut Store, todo: &mut Vec<Op>, party: u32, s: Steal, more: u64, f: u64)
     requires room { HasRoom store.old }
     requires space { HasSpace todo.old }
@@ -141,7 +143,36 @@ fn put(store: &mut Store, todo: &mut Vec<Op>, party: u32, s: Steal, more: u64, f
         });
         go_on(store, todo, s, more);
     } else {
+        put_refused(store, todo, s, f);
+    }
+}
+
+/// Whether the steal is part of a walk.
+fn is_walk(then: Then) -> bool
+    ensures { result ≡ walks.is_walk then }
+{
+    match then {
+        Then::Walk(_, _) => true,
+        Then::Found(_) => false,
+        Then::StealPlain(_) => false,
+        Then::Run(_) => false,
+    }
+}
+
+/// A full own queue gave it back, which never happens: the steal ends, and it is dropped once no lock is held. A walk ends
+/// with it, and the run searches anew.
+fn put_refused(store: &mut Store, todo: &mut Vec<Op>, s: Steal, f: u64)
+    requires room { HasRoomToEnd store.old }
+    requires space { HasSpace todo.old }
+    ensures { Does (runs.put_refused s.then (world_of store.old) s.poll f) store.new todo.old.items todo.new.items }
+{
+    let walks = is_walk(s.then);
+    if walks {
+        todo.push_reserved(Op::Tick(TickOp::Search(asleep(s.poll))));
+        todo.push_reserved(Op::Move(Move::DropRunnable, f));
+        todo.push_reserved(Op::List(ListOp::UnlockRead));
+    } else {
         end(store, todo, s);
-        todo.push_reserved(Op::Queue(QueueOp::Append(f)));
+        todo.push_reserved(Op::Move(Move::DropRunnable, f));
     }
 }

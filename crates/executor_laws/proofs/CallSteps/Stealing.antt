@@ -6,11 +6,11 @@ use Rattle.call_steps.specs.Next.{next, next_call, next_list, next_run, next_ste
 use Rattle.call_steps.{specs.declared.names.TickOrRun.TickOrRun, specs.declared.saw.Saw.Saw}
 use Rattle.call_steps.{specs.declared.step.CallStep.CallStep, specs.declared.step.run.ListStep.ListStep}
 use Rattle.call_steps.{specs.declared.step.run.RunStep.RunStep, specs.declared.step.tick.TickStep.TickStep}
-use Rattle.executor_laws.proofs.Types.{Reply, Event, Hold, Look, First, Second, ListOp, Op, Polled, QueueOp, RunOp, RunPoll}
+use Rattle.executor_laws.proofs.Types.{Reply, Event, Hold, Look, First, Second, ListOp, Op, Polled, RunOp, RunPoll}
 use Rattle.executor_laws.proofs.Types.{Section, Own, Steal, StealOp, Then, Waker, Task, Outside, Hint, Move}
 use Rattle.executor_model.specs.declared.op.TickOrRun.TheVariants.{Run as RunOf}
 use Rattle.executor_model.specs.ActsOfRuns.{call_by_reference, counted_by, counted_to, found, free_places, kept_by, look_own_by}
-use Rattle.executor_model.specs.ActsOfRuns.{make_room_by, make_run_by, next_place, queue_at, reschedule_by, run_by, run_found}
+use Rattle.executor_model.specs.ActsOfRuns.{make_room_by, make_run_by, next_place, put_refused, queue_at, reschedule_by, run_by, run_found}
 use Rattle.executor_model.specs.ActsOfRuns.{search_common_by, search_own_by, share, source_of, steal_by, steal_length_by}
 use Rattle.executor_model.specs.ActsOfRuns.{steal_put_by, steal_take_by, stolen, wake_own, walk}
 use Rattle.executor_model.specs.World.{queue_of, World, Run, Ticker, Awake, Asleep, Left, log, no_run, own_of, put_own, run_of}
@@ -91,12 +91,16 @@ of-take : (fs : List ℕ) (w : World) (s : Steal) (more : ℕ) →
 of-take [] w s more = of-stolen s.then w s.poll
 of-take (f ∷ fs) w s more = refl
 
+of-refused : (t : Then) (w : World) (x : RunPoll) (f : ℕ) →
+    steps_of (put_refused t w x f).next ≡ stealing.put_refused (then_of t) (searcher w (RunOf x.run)) (poll_of x) f
+of-refused (Then.Walk at left) w x f = refl
+of-refused t w x f = both (Op.Move Move.DropRunnable f ∷ []) (stolen t w x).next _ _ refl (of-stolen t w x)
+
 of-put : (b : Bool) (p : ℕ) (w : World) (s : Steal) (more f : ℕ) →
     steps_of (steal_put_by b p w s more f).next
     ≡ next_steal (StealStep.Put (steal_of s) more f) (put_where b (searcher w (RunOf s.poll.run)))
 of-put true p w s more f = of-steal more (kept_by p w s.poll.run f) s
-of-put false p w s more f =
-    both (Op.Queue (QueueOp.Append f) ∷ []) (stolen s.then w s.poll).next _ _ refl (of-stolen s.then w s.poll)
+of-put false p w s more f = of-refused s.then w s.poll f
 
 pub of-steals : (p : ℕ) (o : StealOp) (w : World) →
     steps_of (steal_act p o w).next ≡ next (CallStep.Steal (steal_step_of o)) (seen_steal o w)

@@ -6,11 +6,11 @@ use Rattle.std.specs.Prelude.{Option, Some, None, reverse}
 use Rattle.std.{proofs.Math.ListN.length-set, proofs.lemmas.List.reverse-append}
 use Rattle.executor_parts.{specs.Marks.first_of, specs.Marks.other, specs.Sleepers.waker_at}
 use Rattle.executor_laws.proofs.Types.{Plain, Urgent, Look, First, Second, Move, Reply, Event, Hold, ListOp, Op, Polled}
-use Rattle.executor_laws.proofs.Types.{QueueOp, RunOp, RunPoll, Sleeping, SleeperOp, Source, Common, Own, Steal, StealOp, Then}
+use Rattle.executor_laws.proofs.Types.{RunOp, RunPoll, Sleeping, SleeperOp, Source, Common, Own, Steal, StealOp, Then}
 use Rattle.executor_laws.proofs.Types.{TickOp, TickOrRun, UserOp, Waker, Task, Outside, Hint}
 use Rattle.executor_model.specs.World.{queue_of, Asleep, Awake, Done, Left, Ticker, World, done, log, own_of, place_of, put_own}
 use Rattle.executor_model.specs.ActsOfRuns.{asleep, call_by_reference, counted_by, counted_to, found, kept_by, look_own_by}
-use Rattle.executor_model.specs.ActsOfRuns.{next_place, queue_at, run_by, run_found, search_common_by, search_own_by, steal_by}
+use Rattle.executor_model.specs.ActsOfRuns.{next_place, put_refused, queue_at, run_by, run_found, search_common_by, search_own_by, steal_by}
 use Rattle.executor_model.specs.ActsOfSleepers.{copy_sleeper_by, fall_asleep_by, found_by, sleep_again_by, sleep_anew_by}
 use Rattle.executor_model.specs.ActsOfRuns.{steal_length_by, steal_put_by, steal_take_by, stolen, wake_own, walk, without_first}
 use Rattle.executor_model.specs.ActsOfSleepers.{sleep_listed_by, sleeper_goes}
@@ -188,14 +188,21 @@ few-take (f ∷ rest) w s more r =
     few-one s.poll.run w (without_first w s.from rest) (Op.Steal (StealOp.Put s more f)) refl
     (without-same s.from w rest) (omega arith)
 
+few-refused : (t : Then) (w : World) (x : RunPoll) (f : ℕ) → Ready x.run w →
+    Few x.run (left_of x.run w) w (put_refused t w x f)
+few-refused (Then.Walk at left) w x f r =
+    few-behind x.run (left_of x.run w) w (Op.List ListOp.UnlockRead ∷ Op.Move Move.DropRunnable f ∷ [])
+    (done w (Op.Tick (TickOp.Search (asleep x)) ∷ [])) refl refl
+    (few-one x.run w w (Op.Tick (TickOp.Search (asleep x))) refl (same-runs w w refl) (omega arith))
+few-refused t w x f r =
+    few-behind x.run (left_of x.run w) w (Op.Move Move.DropRunnable f ∷ []) (stolen t w x) refl refl (few-stolen t w x r)
+
 few-put : (b : Bool) (p : ℕ) (w : World) (s : Steal) (more f : ℕ) → Ready s.poll.run w →
     Few s.poll.run (left_of s.poll.run w) w (steal_put_by b p w s more f)
 few-put true p w s more f r =
     let v : World = kept_by p w s.poll.run f in
     few-from s.poll.run w v (steal_by more v s) (same-runs w v refl) (few-steal_by more v s r)
-few-put false p w s more f r =
-    few-behind s.poll.run (left_of s.poll.run w) w (Op.Queue (QueueOp.Append f) ∷ []) (stolen s.then w s.poll) refl refl
-    (few-stolen s.then w s.poll r)
+few-put false p w s more f r = few-refused s.then w s.poll f r
 
 few-steal : (p : ℕ) (o : StealOp) (w : World) → Ready (steal_in o).poll.run w →
     Few (steal_in o).poll.run (left_of (steal_in o).poll.run w) w (steal_act p o w)

@@ -73,10 +73,14 @@ un-take q (f ∷ rest) w s more n = by s.from
     by (Common mark) = refl
     by (Own r) = refl
 
+un-refused : (q : ℕ) (t : Then) (w : World) (x : RunPoll) (f : ℕ) → q ≢ x.run → Untaken q w (runs.put_refused t w x f).world
+un-refused q (Then.Walk at left) w x f n = refl
+un-refused q t w x f n = un-stolen q t w x n
+
 un-put : (q : ℕ) (b : Bool) (p : ℕ) (w : World) (s : Steal) (more f : ℕ) → q ≢ s.poll.run →
     Untaken q w (runs.steal_put_by b p w s more f).world
 un-put q true p w s more f n = un-more q more (runs.kept_by p w s.poll.run f) s n
-un-put q false p w s more f n = un-stolen q s.then w s.poll n
+un-put q false p w s more f n = un-refused q s.then w s.poll f n
 
 un-steal : (q p : ℕ) (o : StealOp) (w : World) → running_of q (Op.Steal o) ≡ 0 → Untaken q w (steal_act p o w).world
 un-steal q p (StealOp.Length s) w z = un-length q _ w s (another q s.poll.run z)

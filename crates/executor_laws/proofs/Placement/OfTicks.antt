@@ -6,7 +6,7 @@ use Rattle.executor_laws.proofs.Types.{Reply, Event, Kind, Hold, ListOp, Op, Run
 use Rattle.executor_model.specs.Steps.{Machine, begun, mine, react, run, stack, start, top}
 use Rattle.executor_model.specs.Weights.{is_run, weigh, weigh_all}
 use Rattle.executor_model.specs.{Doing.list_act, Good.Good, OwnQueues.empty_of, World.World, World.Done, World.done, World.log}
-use Rattle.executor_model.proofs.OwnQueues.RunsDone.{to_walk, walk_ends, walk_on, Deed, keeps, takes, lacks, shares, grows}
+use Rattle.executor_model.proofs.OwnQueues.RunsDone.{to_leave, to_walk, walk_ends, walk_on, Deed, keeps, takes, lacks, shares, grows}
 use Rattle.executor_model.proofs.OwnQueues.RunsDone.{wakes, lists, deed-act, is_loud, loud, loud-weigh, walks-by, Stole, More}
 use Rattle.executor_model.proofs.OwnQueues.RunsDone.{no_more, one_more, Walks, Missing, misses_there, Leads, turns, finds}
 use Rattle.executor_model.proofs.Steps.Lift.{good-start, split, unsettled, weigh_all-idle}
@@ -29,6 +29,7 @@ quiet-astray r _ e = refl
 
 stole-astray : (r : ℕ) (x : RunPoll) (n : ℕ) (os : List Op) → Stole x n os → weigh (astray r) os ≡ 0
 stole-astray r x n os (to_walk at left) = refl
+stole-astray r x n os to_leave = refl
 stole-astray r x n os _ = refl
 
 more-astray : (r : ℕ) (s : Steal) (k : ℕ) (os : List Op) → More s k os → weigh (astray r) os ≡ 0

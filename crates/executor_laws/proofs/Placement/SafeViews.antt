@@ -154,7 +154,7 @@ away-effect : (w : World) (old : List Op) (d : Done) →
     (y : Extra) → (with_extra g old y).runs ≡ 0 → Ground (seen w g (with_ops g old r) (with_extra g old y)) →
     Away (seen w g (with_ops g old r) (with_extra g old y)) →
     Away (seen d.world g (with_ops g d.next r) (with_extra g d.next y))
-away-effect w old d n (passes s) g r y z b h = away-passes _ _ z (s g r y).passes (s g r y).queues h
+away-effect w old d n (passes s c) g r y z b h = away-passes _ _ z (s g r y).passes (s g r y).queues h
 away-effect w old _ n (turns d m p f v more i j k s a e) g r y z b h =
     turned-after Ground Away Needs away-moved away-loose d m p f v more i (λ q u. needs m f w v old q u j n k) a e g r y
     (ground-passes _ _ (s g r y).passes b) (away-passes _ _ z (s g r y).passes (s g r y).queues h)

@@ -7,12 +7,13 @@ use Rattle.std.proofs.lemmas.List.{reverse-append}
 use Rattle.std.specs.Prelude.{Option, Some, None, reverse}
 use Rattle.executor_parts.specs.Marks.{first_of, other}
 use Rattle.executor_parts.specs.Sleepers.{waker_at}
-use Rattle.executor_laws.proofs.Types.{Look, Plain, Urgent, First, Second, Move, Reply, Event, Hold, ListOp, Op, Polled, QueueOp, RunOp}
+use Rattle.executor_laws.proofs.Types.{Look, Plain, Urgent, First, Second, Move, Reply, Event, Hold, ListOp, Op, Polled, RunOp}
 use Rattle.executor_laws.proofs.Types.{RunPoll, Sleeping, SleeperOp, Source, Common, Own, Steal, StealOp, Then, TickOp, TickOrRun, UserOp}
 use Rattle.executor_laws.proofs.Types.{Waker, Task, Outside, Hint}
 use Rattle.executor_model.specs.Acts.{turned, mark_in, copied, followed}
 use Rattle.executor_model.specs.World.{queue_of, Asleep, Awake, Done, Left, Ticker, World, done, log, own_of, place_of, put_own, run_of}
-use Rattle.executor_model.specs.ActsOfRuns.{asleep, call_by_reference, counted_by, counted_to, found, kept_by, look_own_by, next_place}
+use Rattle.executor_model.specs.ActsOfRuns.{asleep, call_by_reference, counted_by, counted_to, found, kept_by, look_own_by}
+use Rattle.executor_model.specs.ActsOfRuns.{next_place, put_refused}
 use Rattle.executor_model.specs.ActsOfRuns.{queue_at, run_by, search_common_by, search_own_by, steal_by, steal_length_by, steal_put_by}
 use Rattle.executor_model.specs.ActsOfRuns.{steal_take_by, stolen, wake_own, walk, without_first}
 use Rattle.executor_model.specs.ActsOfSleepers.{copy_sleeper_by, fall_asleep_by, found_by, sleep_again_by, sleep_anew_by, sleep_listed_by}
@@ -172,6 +173,14 @@ lines-take (f ∷ rest) w s more k =
     (ap (λ (ns : List ℕ). hand_then s.then ++ ns) (own-without s.poll.run s.from w rest k))
     (one s.poll.run v (Op.Steal (StealOp.Put s more f)) (refl, k))
 
+lines-refused : (t : Then) (w : World) (x : RunPoll) (f : ℕ) → Lines x.run (hand_then t ++ own_of w x.run) (put_refused t w x f)
+lines-refused (Then.Walk at left) w x f =
+    behind-ops x.run (own_of w x.run) (Op.List ListOp.UnlockRead ∷ Op.Move Move.DropRunnable f ∷ [])
+    (done w (Op.Tick (TickOp.Search (asleep x)) ∷ [])) refl refl (one x.run w (Op.Tick (TickOp.Search (asleep x))) refl)
+lines-refused t w x f =
+    behind-ops x.run (hand_then t ++ own_of w x.run) (Op.Move Move.DropRunnable f ∷ []) (stolen t w x) refl refl
+    (lines-stolen t w x)
+
 put-behind : (qs : List (List ℕ)) (q f : ℕ) →
     (extra : List ℕ) × (get_or (set qs q (get_or qs q [] ++ f ∷ [])) q [] ≡ get_or qs q [] ++ extra)
 put-behind [] q f = ([], refl)
@@ -187,9 +196,7 @@ lines-put true p w s more f k =
     (fronts s.poll.run (front_of v s) (front_of w s ++ e.0) (steal_by more v s)
     (ap (λ (ns : List ℕ). hand_then s.then ++ ns) e.1 ∙ sym (append_assoc (hand_then s.then) (own_of w s.poll.run) e.0))
     (lines-steal_by more v s k))
-lines-put false p w s more f k =
-    behind-ops s.poll.run (front_of w s) (Op.Queue (QueueOp.Append f) ∷ []) (stolen s.then w s.poll) refl refl
-    (lines-stolen s.then w s.poll)
+lines-put false p w s more f k = lines-refused s.then w s.poll f
 
 lines-steal : (p : ℕ) (o : StealOp) (w : World) → NotOwn (steal_of o).poll.run (steal_of o).from →
     Lines (steal_of o).poll.run (front_of w (steal_of o)) (steal_act p o w)

@@ -4,10 +4,10 @@ use Rattle.std.proofs.Common.{◌≡◌, ◌⊎◌, ◌∙◌, ℕ, zero, suc, L
 use Rattle.std.proofs.Common.{append-nil, append_assoc, arith}
 use Rattle.std.proofs.lemmas.List.{reverse-append}
 use Rattle.std.specs.Prelude.{Some, None, reverse}
-use Rattle.executor_laws.proofs.Types.{Move, Plain, Urgent, Event, Op, QueueOp, RunOp, RunPoll, TickOrRun, SleeperOp, Source, Common, Own}
+use Rattle.executor_laws.proofs.Types.{Move, Plain, Urgent, Event, Op, RunOp, RunPoll, TickOrRun, SleeperOp, Source, Common, Own}
 use Rattle.executor_laws.proofs.Types.{Steal, StealOp, Then, TickOp}
 use Rattle.executor_model.specs.{ActsOfRuns.asleep, ActsOfRuns.behind, ActsOfRuns.counted_by, ActsOfRuns.counted_to, ActsOfRuns.found}
-use Rattle.executor_model.specs.{ActsOfRuns.kept_by, ActsOfRuns.run_by, ActsOfRuns.run_found, ActsOfRuns.steal_by}
+use Rattle.executor_model.specs.{ActsOfRuns.kept_by, ActsOfRuns.put_refused, ActsOfRuns.run_by, ActsOfRuns.run_found, ActsOfRuns.steal_by}
 use Rattle.executor_model.specs.{ActsOfRuns.steal_length_by, ActsOfRuns.steal_put_by, ActsOfRuns.steal_take_by, ActsOfRuns.stolen}
 use Rattle.executor_model.specs.{ActsOfRuns.without_first, ActsOfSleepers.found_by, Doing.steal_act, Steps.end_of, Steps.top, Trace.Trace}
 use Rattle.executor_model.specs.{Weights.weigh, World.Done, World.Left, World.Asleep, World.Ticker, World.Awake, World.World, World.done}
@@ -154,14 +154,17 @@ heads-take f (g ∷ rest) w s more k =
     heads-steals f w.trace w.gone (without_first w s.from rest) (StealOp.Put s more g) (without-trace s.from w rest)
     (without-gone s.from w rest) k
 
+heads-refused : (f : ℕ) (h : Then) (w : World) (x : RunPoll) (g : ℕ) → Finds f h → Heads f w.trace w.gone (put_refused h w x g)
+heads-refused f (Then.Walk at left) w x g k = absurd k
+heads-refused f h w x g k =
+    heads-behind f w.trace w.gone (Op.Move Move.DropRunnable g ∷ []) (stolen h w x) refl (heads-stolen f h w x k)
+
 heads-put : (f : ℕ) (b : Bool) (p : ℕ) (w : World) (s : Steal) (more g : ℕ) → Finds f s.then →
     Heads f w.trace w.gone (steal_put_by b p w s more g)
 heads-put f true p w s more g k =
     heads-after f w.trace (Event.Kept p g s.poll.run ∷ []) w.gone (steal_by more (kept_by p w s.poll.run g) s)
     (heads-steal_by f more (kept_by p w s.poll.run g) s k)
-heads-put f false p w s more g k =
-    heads-behind f w.trace w.gone (Op.Queue (QueueOp.Append g) ∷ []) (stolen s.then w s.poll) refl
-    (heads-stolen f s.then w s.poll k)
+heads-put f false p w s more g k = heads-refused f s.then w s.poll g k
 
 pub heads-steal : (f p : ℕ) (o : StealOp) (w : World) → Steals f o → Heads f w.trace w.gone (steal_act p o w)
 heads-steal f p (StealOp.Length s) w k = heads-length f _ w s k

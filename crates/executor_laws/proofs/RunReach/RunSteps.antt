@@ -7,13 +7,14 @@ use Rattle.std.proofs.lemmas.List.{reverse-append}
 use Rattle.std.specs.Prelude.{Option, Some, None, reverse}
 use Rattle.executor_parts.specs.Marks.{first_of, other}
 use Rattle.executor_parts.specs.Sleepers.{waker_at}
-use Rattle.executor_laws.proofs.Types.{Look, Plain, Urgent, First, Second, Move, Reply, Event, Hold, ListOp, Op, Polled, QueueOp, RunOp}
+use Rattle.executor_laws.proofs.Types.{Look, Plain, Urgent, First, Second, Move, Reply, Event, Hold, ListOp, Op, Polled, RunOp}
 use Rattle.executor_laws.proofs.Types.{RunPoll, TickOrRun, SleeperOp, Sleeping, Source, Common, Own, Steal, StealOp, Then, TickOp, Waker}
 use Rattle.executor_laws.proofs.Types.{Task, Outside, Hint, UserEnd}
 use Rattle.executor_model.specs.Acts.{turned, mark_in, followed}
 use Rattle.executor_model.specs.World.{queue_of, Done, Left, Asleep, Ticker, Awake, World, log, own_of, place_of, put_own}
 use Rattle.executor_model.specs.ActsOfRuns.{asleep, behind, call_by_reference, counted_by, counted_to, found, kept_by, look_own_by}
-use Rattle.executor_model.specs.ActsOfRuns.{next_place, queue_at, run_by, search_common_by, search_own_by, steal_by, steal_length_by}
+use Rattle.executor_model.specs.ActsOfRuns.{next_place, put_refused, queue_at, run_by, search_common_by, search_own_by}
+use Rattle.executor_model.specs.ActsOfRuns.{steal_by, steal_length_by}
 use Rattle.executor_model.specs.ActsOfRuns.{steal_put_by, steal_take_by, stolen, walk, without_first}
 use Rattle.executor_model.specs.ActsOfSleepers.{copy_sleeper_by, found_by, sleep_again_by, sleep_anew_by, fall_asleep_by, sleep_listed_by}
 use Rattle.executor_model.specs.ActsOfSleepers.{sleeper_goes}
@@ -324,6 +325,20 @@ tracked-put q f n r p h w e k = subst (λ (x : ℕ). Tracked q f n (kept_by p w 
   few = k.few;
 })
 
+after-refused : (q f n : ℕ) (t : Then) (w : World) (x : RunPoll) (h : ℕ) → x.run ≡ q → Tracked q f n w →
+    After q f n w (put_refused t w x h)
+after-refused q f n (Then.Walk at left) w x h e k = record {
+  goes = on (holds-behind q (Op.List ListOp.UnlockRead ∷ Op.Move Move.DropRunnable h ∷ [])
+      (Op.Tick (TickOp.Search (asleep x)) ∷ []) refl
+      (holds-one q (Op.Tick (TickOp.Search (asleep x))) (ap TickOrRun.Run e))) k;
+  gone = refl;
+}
+after-refused q f n t w x h e k = record {
+  goes = on (holds-behind q (Op.Move Move.DropRunnable h ∷ []) (stolen t w x).next refl (holds-stolen q t w x e))
+      (same-own q f n w (stolen t w x).world (idle-stolen t w x).own k);
+  gone = (idle-stolen t w x).gone;
+}
+
 after-put : (q f n : ℕ) (b : Bool) (p : ℕ) (w : World) (s : Steal) (more h : ℕ) →
     (s.poll.run ≡ q) × NotOwn q s.from → Tracked q f n w → After q f n w (steal_put_by b p w s more h)
 after-put q f n true p w s more h e k = by more
@@ -339,12 +354,7 @@ after-put q f n true p w s more h e k = by more
       gone = (idle-stolen s.then (kept_by p w s.poll.run h) s.poll).gone;
     }
     by (suc l) = record { goes = on (holds-one q (Op.Steal (StealOp.Take s l)) e) v; gone = refl }
-after-put q f n false p w s more h e k = record {
-  goes = on (holds-behind q (Op.Queue (QueueOp.Append h) ∷ []) (stolen s.then w s.poll).next refl
-      (holds-stolen q s.then w s.poll e.0))
-      (same-own q f n w (stolen s.then w s.poll).world (idle-stolen s.then w s.poll).own k);
-  gone = (idle-stolen s.then w s.poll).gone;
-}
+after-put q f n false p w s more h e k = after-refused q f n s.then w s.poll h e.0 k
 
 after-steal : (q f n p : ℕ) (o : StealOp) (w : World) → Control q (Op.Steal o) → Tracked q f n w →
     After q f n w (steal_act p o w)

@@ -8,12 +8,12 @@ use Rattle.executor_model.specs.{World.queue_of, World.run_of, ActsOfSleepers.fo
 use Rattle.executor_model.proofs.{Quiet.Calls.is_end, Steps.Reached.Reached}
 use Rattle.executor_laws.proofs.{Types.TickOrRun, Types.UserOp, Types.Hint, Fewness.AnySteps.beside_of}
 use Rattle.executor_laws.proofs.{Placement.OwnReady.reached-on, Seeking.SeekStacks.Lands.on, Seeking.SeekStacks.Lands.over}
-use Rattle.executor_laws.proofs.Types.{Step, Begin, Go, UserEnd, Mark, Call, Reply, Kind, Hold, ListOp, Look, First, Second, Op, QueueOp}
+use Rattle.executor_laws.proofs.Types.{Step, Begin, Go, UserEnd, Mark, Call, Reply, Kind, Hold, ListOp, Look, First, Second, Move, Op}
 use Rattle.executor_laws.proofs.Types.{RunOp, RunPoll, Section, SleeperOp, Sleeping, Steal, StealOp, Then, TickOp}
 use Rattle.executor_model.specs.declared.step.Step.TheVariants.{Answer}
 use Rattle.executor_model.specs.ActsOfRuns.{asleep, behind, counted_by, found, free_places, reschedule_by, run_by, run_found}
 use Rattle.executor_model.specs.ActsOfRuns.{search_common_by, search_own_by, share, source_of, steal_by, steal_length_by, steal_put_by}
-use Rattle.executor_model.specs.ActsOfRuns.{steal_take_by, stolen}
+use Rattle.executor_model.specs.ActsOfRuns.{put_refused, steal_take_by, stolen}
 use Rattle.executor_model.specs.World.{Asleep, Awake, Done, Ended, Left, Listed, New, Stage, Ticker, World, own_of, put_own}
 use Rattle.executor_model.specs.Steps.{Machine, accepts, poll_run, react, refusal, run, stack, start, step, stepped, top, waits}
 use Rattle.executor_laws.specs.PendingPolls.{CommonHadNone, IsAnswered, OtherHadNone, RunFoundNone, RunsLookFirst, Walked, run_poll}
@@ -128,10 +128,13 @@ module _ (p : ℕ) (x : RunPoll) (old : List Op) where
   take-again [] w s more k = stolen-again s.then w s.poll k.0 k.1
   take-again (f ∷ rest) w s more k = record { control = _; side = _; is = refl; kind = k; light = refl }
 
+  refused-again : (t : Then) (w : World) (y : RunPoll) (f : ℕ) → y ≡ x → Running t → Again (put_refused t w y f)
+  refused-again (Then.Walk at left) w y f k r = absurd r
+  refused-again t w y f k r = behind-again (Op.Move Move.DropRunnable f ∷ []) (stolen t w y) refl (stolen-again t w y k r)
+
   put-again : (b : Bool) (w : World) (s : Steal) (more f : ℕ) → Steals s → Again (steal_put_by b p w s more f)
   put-again true w s more f k = steal-again more _ s k
-  put-again false w s more f k = behind-again (Op.Queue (QueueOp.Append f) ∷ []) (stolen s.then w s.poll) refl
-      (stolen-again s.then w s.poll k.0 k.1)
+  put-again false w s more f k = refused-again s.then w s.poll f k.0 k.1
 
   -- its own future was ready
 

@@ -9,7 +9,7 @@ use Rattle.executor_model.specs.World.{World, Stage, New, Listed, Ended, Done, o
 use Rattle.executor_model.specs.{Doing.act, Doing.list_act, Rows.running_of, Steps.accepts, Steps.react}
 use Rattle.executor_laws.specs.Costs.{left_by, registers_of}
 use Rattle.executor_model.proofs.OwnQueues.RunsDone.{Deed, keeps, takes, lacks, shares, grows, wakes, lists, deed-act, is_loud}
-use Rattle.executor_model.proofs.OwnQueues.RunsDone.{loud, loud-weigh, walks-by, Stole, to_walk, More, no_more, one_more, Walks}
+use Rattle.executor_model.proofs.OwnQueues.RunsDone.{loud, loud-weigh, walks-by, Stole, to_leave, to_walk, More, no_more, one_more, Walks}
 use Rattle.executor_model.proofs.OwnQueues.RunsDone.{walk_ends, walk_on, Missing, misses_there, Leads, finds, stole, looks}
 use Rattle.executor_model.proofs.OwnQueues.OwnRooms.{Shorter, grown, made-length, of_coat, same-own, shorter-taken}
 use Rattle.executor_model.proofs.OwnQueues.RunsAside.{Hull, apart-act, coat, hull, hull_of, runs_of}
@@ -40,6 +40,7 @@ quiet-registers _ z = refl
 
 stole-registers : (x : RunPoll) (n : ℕ) (os : List Op) → Stole x n os → weigh registers_of os ≡ 0
 stole-registers x n os (to_walk at left) = refl
+stole-registers x n os to_leave = refl
 stole-registers x n os _ = refl
 
 more-registers : (s : Steal) (k : ℕ) (os : List Op) → More s k os → weigh registers_of os ≡ 0

@@ -23,7 +23,8 @@ use Rattle.executor_model.proofs.Steps.Ways.{Way, acted, reacted, called, along}
 use Rattle.executor_model.proofs.Steps.Lists.{weigh-append, weigh-reverse}
 use Rattle.executor_model.proofs.Steps.SleepersNext.{Blind, search-blind}
 use Rattle.executor_model.proofs.{OwnQueues.RunsMoving.weighs-stolen, Table.Spawning.top-last, Steps.Reached.Reached}
-use Rattle.executor_laws.proofs.{Termination.Reached.has-free, Termination.Beside.by_reference}
+use Rattle.executor_model.proofs.OwnQueues.OwnRooms.{has-free}
+use Rattle.executor_laws.proofs.Termination.Beside.{by_reference}
 use Rattle.executor_model.specs.ActsOfRuns as runs
 
 -- nothing that is done under the lock, or gives it back, follows later than next

@@ -1,12 +1,13 @@
 -- For calls_end and lone_calls_end.
 -- What holds of the runs of each machine to which steps lead.
-use Rattle.std.proofs.Common.{◌≡◌, ℕ, ◌+◌, ◌-◌, ◌<◌, ◌≤◌, [], ◌∷◌, length, Bool, true, false, eqb, ltb, cond, refl, sym, ap}
+use Rattle.std.proofs.Common.{◌≡◌, ℕ, ◌+◌, ◌<◌, ◌≤◌, [], ◌∷◌, length, Bool, true, false, ltb, cond, refl, sym, ap}
 use Rattle.std.{proofs.Common.subst, proofs.Common.arith, proofs.lemmas.Bool.Decides.nat_tests, specs.Prelude.Some}
 use Rattle.executor_model.specs.OwnQueues.{HasOwnRoom, IsUsedOnce, filling_of}
 use Rattle.executor_model.specs.{ActsOfRuns.free_places, ActsOfRuns.own_places, Rows.running_of, Steps.Machine, Steps.stack}
 use Rattle.executor_model.specs.{Steps.top, Weights.weigh_all, World.World, World.own_of}
 use Rattle.executor_model.proofs.{OwnQueues.UsingSteps.AllUsed, OwnQueues.UsingSteps.all-used, Steps.Lift.split}
-use Rattle.executor_model.proofs.{Steps.Lift.topped, OwnQueues.OwnExecutions.has-own-room, Steps.Reached.Reached}
+use Rattle.executor_model.proofs.{Steps.Lift.topped, OwnQueues.OwnExecutions.has-own-room, OwnQueues.OwnRooms.has-free}
+use Rattle.executor_model.proofs.Steps.Reached.{Reached}
 use Rattle.executor_laws.proofs.Termination.SpendingRuns.{CanPay, TakesFew}
 use Rattle.executor_laws.proofs.{Types.Op, Types.Steal, Types.StealOp, Termination.TakingFew.takes-few}
 
@@ -28,18 +29,6 @@ places-few w q = by (ltb q (length w.own))
     by : (b : Bool) → cond b 512 0 ≤ 512
     by true = omega arith
     by false = omega arith
-
--- a steal that is on its way finds a free place
-pub has-free : (s : Machine) (x : Steal) (more f : ℕ) → HasOwnRoom s x.poll.run →
-    filling_of x.poll.run (Op.Steal (StealOp.Put x more f)) ≤ weigh_all (filling_of x.poll.run) s.parties →
-    ltb 0 (free_places s.world x.poll.run) ≡ true
-has-free s x more f h k =
-    let q : ℕ = x.poll.run in
-    let same_one : eqb q q ≡ true = grind (arith, nat_tests) in
-    let fills : filling_of q (Op.Steal (StealOp.Put x more f)) ≡ more + 1 =
-    ap (λ (b : Bool). cond b (more + 1) 0) same_one in
-    let free : 1 ≤ own_places s.world q - length (own_of s.world q) = omega (arith, h, fills, k) in
-    grind (arith, nat_tests)
 
 -- what stands on top has what it needs, to be paid for
 module _ (s : Machine) (p : ℕ) (o : Op) (l : p < length s.parties) (e : top (stack s p) ≡ Some o) (r : Reached s) where

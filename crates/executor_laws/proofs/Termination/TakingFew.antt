@@ -182,10 +182,14 @@ pauses-take (f ∷ rest) w s more k = by s.from
     by (Common mark) = k
     by (Own r) = k
 
+pauses-refused : (t : Then) (w : World) (x : RunPoll) (f : ℕ) → Pauses w (runs.put_refused t w x f).world
+pauses-refused (Then.Walk at left) w x f k = k
+pauses-refused t w x f k = pauses-stolen t w x k
+
 pauses-put : (b : Bool) (p : ℕ) (w : World) (s : Steal) (more f : ℕ) →
     Pauses w (runs.steal_put_by b p w s more f).world
 pauses-put true p w s more f k = pauses-more more (runs.kept_by p w s.poll.run f) s k
-pauses-put false p w s more f k = pauses-stolen s.then w s.poll k
+pauses-put false p w s more f k = pauses-refused s.then w s.poll f k
 
 pauses-steal : (p : ℕ) (o : StealOp) (w : World) → Pauses w (steal_act p o w).world
 pauses-steal p (StealOp.Length s) w k = pauses-length _ w s k

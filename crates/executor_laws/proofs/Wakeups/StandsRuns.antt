@@ -3,7 +3,7 @@
 use Rattle.std.proofs.Common.{◌≡◌, ◌⊎◌, ◌∙◌, ℕ, zero, suc, ◌+◌, ◌%◌, ◌≤◌, List, [], ◌∷◌, ◌++◌, length, Bool, true, false, eqb}
 use Rattle.std.proofs.Common.{refl, sym, ap, subst, inl, inr, ⊎_elim, arith}
 use Rattle.executor_parts.specs.Marks.{first_of, other}
-use Rattle.executor_laws.proofs.Types.{Plain, Urgent, Look, First, Second, Move, Reply, Event, ListOp, Op, QueueOp, RunOp}
+use Rattle.executor_laws.proofs.Types.{Plain, Urgent, Look, First, Second, Move, Reply, Event, ListOp, Op, RunOp}
 use Rattle.executor_laws.proofs.Types.{RunPoll, Section, TickOrRun, SleeperOp, Source, Common, Own, Steal, StealOp, Then}
 use Rattle.executor_model.specs.Acts.{mark_in, turned}
 use Rattle.executor_model.specs.World.{World, Ticker, Awake, Asleep, Left, Run, Done, own_of, put_own, put_run, run_of}
@@ -417,6 +417,18 @@ owned-kept p w r f (TickOrRun.Run q) k = ⊎_elim
     inl (omega (arith, k, grown w.own r f q (λ e. x.2 (ap (λ (n : ℕ). TickOrRun.Run n) e)))))
     (who_cases (TickOrRun.Run q) (TickOrRun.Run r))
 
+walks-refused : (n : Then) (w : World) (x : RunPoll) (f : ℕ) → Walks w x (runs.put_refused n w x f)
+walks-refused (Then.Walk at left) w x f = walks w x (runs.put_refused (Then.Walk at left) w x f)
+    (λ t. stage-front t x (Op.List ListOp.UnlockRead ∷ Op.Move Move.DropRunnable f ∷ [])
+    (Op.Tick (TickOp.Search (runs.asleep x)) ∷ []) (nothing-of t _ refl) (stage-search t x))
+    (calm-same w w refl refl refl refl refl) (same-own w w refl)
+walks-refused n w x f =
+    let k : Walks w x (runs.stolen n w x) = walks-stolen n w x in record {
+      stage = λ t. stage-front t x (Op.Move Move.DropRunnable f ∷ []) (runs.stolen n w x).next (nothing-of t _ refl) (k.stage t);
+      calm = k.calm;
+      own = k.own;
+    }
+
 walks-put : (b : Bool) (p : ℕ) (w : World) (s : Steal) (more f : ℕ) →
     Walks w s.poll (runs.steal_put_by b p w s more f)
 walks-put true p w s more f =
@@ -427,13 +439,7 @@ walks-put true p w s more f =
       own = λ t o. ⊎_elim (λ (y : 1 ≤ owned_in t v.own). owned-kept p w s.poll.run f t y)
           (λ (y : 1 ≤ is_it t (TickOrRun.Run s.poll.run)). inr y) (k.own t o);
     }
-walks-put false p w s more f =
-    let k : Walks w s.poll (runs.stolen s.then w s.poll) = walks-stolen s.then w s.poll in record {
-      stage = λ t. stage-front t s.poll (Op.Queue (QueueOp.Append f) ∷ []) (runs.stolen s.then w s.poll).next
-          (nothing-of t _ refl) (k.stage t);
-      calm = k.calm;
-      own = k.own;
-    }
+walks-put false p w s more f = walks-refused s.then w s.poll f
 
 pub walks-steal : (p : ℕ) (o : StealOp) (w : World) → Walks w (poll_in o) (steal_act p o w)
 walks-steal p (StealOp.Length s) w = walks-length _ w s

@@ -17,7 +17,7 @@ use Rattle.executor_model.specs.{ActsOfSleepers.look_tick_by, ActsOfRuns.search_
 use Rattle.executor_model.proofs.Awaiters.AwaitedSweeps.{KeepsSweeps, Kept, Lists, NoSteps, Sweep, Sweeps, dropping_of}
 use Rattle.executor_model.proofs.Awaiters.AwaitedSweeps.{draining_plain_of, draining_urgent_of, shuts_left, steps_of}
 use Rattle.executor_model.proofs.Awaiters.AwaitedSweeps.{shutting_plain_of, shutting_urgent_of, is_sweeping, kept-moves}
-use Rattle.executor_model.proofs.Awaiters.AwaitedSweeps.{kept-own, kept-put, lists, no-act, no-self, no-steps, rousing_of}
+use Rattle.executor_model.proofs.Awaiters.AwaitedSweeps.{kept-own, kept-put, kept-refused, lists, no-act, no-self, no-steps, rousing_of}
 use Rattle.executor_model.proofs.Steps.Lift.{split, unsettled, good-start, none_refused, open_executor, weigh_all-idle}
 use Rattle.executor_model.proofs.Steps.Ways.Way.{acted, reacted, called}
 use Rattle.executor_model.proofs.Awaiters.RunsQueue.{Fewer, fewer, takes-run, takes-search, takes-steal}
@@ -25,7 +25,7 @@ use Rattle.executor_model.proofs.Steps.RunsWays.{by-run, by-search, by-steal}
 use Rattle.executor_model.proofs.Awaiters.AwaitedLists.{plain-act, plain-begun, plain-wake, rough_of}
 use Rattle.executor_model.proofs.Awaiters.AwaitedSweeps.{same-act, same-log_if, sweep, sweeps-still, with-none, with_sweep}
 use Rattle.executor_model.proofs.Steps.Asides.{aside-leak_next, aside-leak_out}
-use Rattle.executor_model.proofs.{Types.Hint, Types.Step, Types.UserEnd, Steps.Cases.by_bool, Steps.Cases.by_list}
+use Rattle.executor_model.proofs.{Types.Hint, Types.Step, Types.UserEnd, Steps.Cases.by_list}
 use Rattle.executor_model.proofs.{Steps.Lists.weigh-append, Steps.Lists.weigh_all-push, Steps.Ways.Way, Steps.Ways.along}
 use Rattle.executor_model.proofs.{Steps.RunsPlain.plain-run, Steps.RunsPlain.plain-steal, Awaiters.RunsQueue.Takes.first}
 use Rattle.task_moves.specs.Moves as moves
@@ -101,7 +101,7 @@ sweeps-search look Left (f ∷ rest) w s = sweeps-taken w (mark_in look) (Op.Tic
     (look_tick_by Left w look (f ∷ rest) s).next refl refl
 
 sweeps-steal : (p : ℕ) (h : Hint) (o : StealOp) (w : World) → KeepsSweeps w (Op.Steal o ∷ []) (steal_act p o w)
-sweeps-steal p h o w = sweeps-less w (Op.Steal o) (steal_act p o w) (by-steal Kept kept-moves kept-put p o w)
+sweeps-steal p h o w = sweeps-less w (Op.Steal o) (steal_act p o w) (by-steal Kept kept-moves kept-put kept-refused p o w)
     (fewer w _ (takes-steal p o w)) (omega (arith, ap (λ (x : Row). x.ousting) (plain-steal o)))
     (no-steps _ (plain-act p h (Op.Steal o) w refl))
 

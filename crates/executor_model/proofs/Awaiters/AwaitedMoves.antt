@@ -1,19 +1,19 @@
 -- For awaiters_are_kept.
 -- The queue, the table and the moves of a task keep what holds of each future and of who waits on its handle.
-use Rattle.std.proofs.Common.{◌≡◌, ℕ, ◌+◌, ◌<◌, List, [], ◌∷◌, length, Bool, true, false, ◌||◌, ◌&&◌, not, eqb, drop, arith}
+use Rattle.std.proofs.Common.{◌≡◌, ℕ, ◌<◌, List, [], ◌∷◌, length, Bool, true, false, ◌||◌, ◌&&◌, not, eqb, arith}
 use Rattle.std.{proofs.lemmas.Bool.Decides.nat_tests, proofs.lemmas.List.length-set, proofs.lemmas.List.length-append}
 use Rattle.executor_model.proofs.Types.{First, Second, Look, Moved, Event, Task, Polled, Op, Move, QueueOp, TableOp, UserOp}
 use Rattle.executor_model.specs.Acts.{mark_in, take_turn, append_by, take_by, enter_by, take_to_poll, put_back, take_to_drop}
 use Rattle.executor_model.specs.World.{queue_of, World, log, log_if, task, among}
 use Rattle.executor_model.specs.Acts.{leave_by, begin_drop, begin_drop_output}
-use Rattle.executor_model.specs.{Carried.carried, Weights.same, Sound.Pend, Sound.with_ops, Sound.times}
+use Rattle.executor_model.specs.{Carried.carried, Sound.Pend, Sound.with_ops}
 use Rattle.executor_model.proofs.Counts.Counting.{settling, readied, pended, ending, dropping, taken_up, woken, woken_by}
 use Rattle.executor_model.proofs.Awaiters.Awaited.{Awaiting, Mark, heard-push, with_awaiting, Footing, Awaits, KeepsAwaits}
 use Rattle.executor_model.proofs.Steps.QueuesByMark.{times-last, times-first}
 use Rattle.executor_model.proofs.Steps.Marks.{IsUnmarked, unmarked, IsGoing, going, IsIdle, idle, last-one, IsUnheld, unheld}
 use Rattle.executor_model.proofs.Steps.Lists.{read_put, fresh_is, read_push, same_is, times-append}
 use Rattle.executor_model.proofs.Counts.Counting.{cancel_going, cancel_idle, cancel_over, detached}
-use Rattle.executor_model.proofs.{Types.WakerOp, Steps.Cases.by_bool, Steps.Cases.by_list, Awaiters.Awaited.kept_push}
+use Rattle.executor_model.proofs.{Types.WakerOp, Steps.Cases.by_bool, Awaiters.Awaited.kept_push}
 use Rattle.executor_parts.specs.declared.mark.Mark as of_mark
 use Rattle.task_moves.specs.Moves as moves
 

@@ -1,7 +1,7 @@
 -- For awaiters_are_kept and calls_do_what_they_say.
 -- What the steps of the executor's drop look at, and how most of what is done leaves it as it was.
 use Rattle.std.proofs.Common.{◌≡◌, ◌⊎◌, ℕ, ◌+◌, ◌<◌, ◌≤◌, List, [], ◌∷◌, ◌++◌, length, Bool, true, false, not, refl, sym, ap}
-use Rattle.std.proofs.Common.{◌∙◌, subst, arith}
+use Rattle.std.proofs.Common.{◌∙◌, ltb, subst, arith}
 use Rattle.std.specs.Prelude.{Option, Some, None}
 use Rattle.task_moves.specs.declared.moves.owed.Answer.{Answer}
 use Rattle.executor_model.proofs.Types.{Plain, Urgent, Mark, Moved, Move, Reply, Event, Waker, Task, Outside, Hold, Polled, Op}
@@ -9,13 +9,14 @@ use Rattle.executor_model.proofs.Types.{ListOp, RunPoll, Steal, StealOp, Sleeper
 use Rattle.executor_model.specs.Acts.{is_last_waker, is_told, let_go_by, move_by, told_as, enter_by, leave_by, copy_by, look_by}
 use Rattle.executor_model.specs.World.{World, Done, done, log, log_if, task}
 use Rattle.executor_model.specs.Acts.{look_again_by, copy_awaiter_by, register_by, end_register_by, notify_by, call_awaiter}
-use Rattle.executor_model.specs.ActsOfRuns.{call_by_reference, kept_by, wake_own}
+use Rattle.executor_model.specs.ActsOfRuns.{call_by_reference, free_places, kept_by, put_refused, wake_own}
 use Rattle.executor_model.specs.{Queues.Queues, Carried.awaiter_ops, Doing.act, Doing.list_act, Weights.weigh}
 use Rattle.executor_model.specs.{Weights.weigh_all, Rows.Row, Rows.ousting_of, Steps.mine}
 use Rattle.executor_model.proofs.Steps.RunsPlain.{plain-list, plain-run, plain-steal}
 use Rattle.executor_model.proofs.Awaiters.SleepersWorlds.{Rest, sleeper-rest, tick-rest}
 use Rattle.executor_model.proofs.Awaiters.AwaitedLists.{rough_of, plain-act, is_special}
-use Rattle.executor_model.proofs.{Types.TableOp, Types.UserOp, Types.WakerOp, Types.Hint, Steps.RunsMoves.Moves}
+use Rattle.executor_model.proofs.{Types.TableOp, Types.UserOp, Types.WakerOp, Types.Hint}
+use Rattle.executor_model.proofs.Steps.RunsMoves.{Moves, Same, moves-refused}
 use Rattle.executor_model.proofs.{Awaiters.RunsQueue.queue-list, Steps.RunsWays.AllOfRuns, Steps.RunsWays.by-list}
 use Rattle.task_moves.specs.Moves as moves
 
@@ -255,8 +256,16 @@ pub record Kept (w : World) (old : List Op) (d : Done) : Type 0 where
   pub leaving : d.world.leaving ≡ w.leaving
   pub waking : d.world.waking ≡ w.waking
 
+kept-same : (w : World) (old : List Op) (d : Done) → Same w d.world → Kept w old d
+kept-same w old d m = record { gone = m.gone; leaving = m.leaving; waking = m.waking }
+
 pub kept-moves : (w : World) (old : List Op) (d : Done) → AllOfRuns old → AllOfRuns d.next → Moves w old d → Kept w old d
-kept-moves w old d a n m = record { gone = m.same.gone; leaving = m.same.leaving; waking = m.same.waking }
+kept-moves w old d a n m = kept-same w old d m.same
+
+pub kept-refused : (w : World) (s : Steal) (more f : ℕ) → ltb 0 (free_places w s.poll.run) ≡ false →
+    Kept w (Op.Steal (StealOp.Put s more f) ∷ []) (put_refused s.then w s.poll f)
+kept-refused w s more f e =
+    kept-same w (Op.Steal (StealOp.Put s more f) ∷ []) _ (moves-refused s.then w s.poll s.from more f).same
 
 pub kept-put : (p : ℕ) (w : World) (s : Steal) (more f : ℕ) (d : Done) → s.poll.run < length w.own →
     Kept (kept_by p w s.poll.run f) (Op.Steal (StealOp.OwnLength s 0) ∷ []) d →

@@ -7,7 +7,7 @@ use Rattle.executor_model.specs.{Rows.Row, Rows.handling_of, Weights.weigh}
 use Rattle.executor_model.proofs.Awaiters.Awaited.{Awaiting, with_awaiting, again_of, calls_of, detaches_of, fresh_of}
 use Rattle.executor_model.proofs.Awaiters.Awaited.{lending_of, looks_of, mine_of, notices_of, notifying_of, over_of, storing_of}
 use Rattle.executor_model.proofs.Awaiters.Awaited.{strays_of, waits_of}
-use Rattle.executor_model.proofs.Steps.RunsWays.{AllOfRuns, Unseeing, plain-of-runs}
+use Rattle.executor_model.proofs.Steps.RunsWays.{AllOrDropped, Unseeing, plain-of-runs}
 
 -- of such a poll, what none of the answers counts for
 record Parts : Type 0 where
@@ -136,22 +136,22 @@ pub record Away (g : ℕ) (os : List Op) : Type 0 where
   pub strays : (k : ℕ) → weigh (strays_of g k) os ≡ 0
   pub calls : (k : ℕ) → weigh (calls_of g k) os ≡ 0
 
-pub away : (g : ℕ) (os : List Op) → AllOfRuns os → Away g os
+pub away : (g : ℕ) (os : List Op) → AllOrDropped os → Away g os
 away g os a = record {
   handling = plain-of-runs os a (handling_of g) (λ o e. ap (λ (x : Row). x.handling g) e);
-  looks = a (looks_of g) (unseen (λ x. x.looks) g refl);
-  fresh = a (fresh_of g) (unseen (λ x. x.fresh) g refl);
-  storing = a (storing_of g) (unseen (λ x. x.storing) g refl);
-  again = a (again_of g) (unseen (λ x. x.again) g refl);
-  waits = a (waits_of g) (unseen-waits g);
-  over = a (over_of g) (unseen-over g);
-  notices = a (notices_of g) (unseen (λ x. x.notices) g refl);
-  notifying = a (notifying_of g) (unseen (λ x. x.notifying) g refl);
-  mine = a (mine_of g) (unseen (λ x. x.mine) g refl);
-  detaches = a (detaches_of g) (unseen (λ x. x.detaches) g refl);
-  lending = a (lending_of g) (unseen (λ x. x.lending) g refl);
-  strays = λ k. a (strays_of g k) (unseen (λ x. x.strays k) g refl);
-  calls = λ k. a (calls_of g k) (unseen (λ x. x.calls k) g refl);
+  looks = a (looks_of g) (unseen (λ x. x.looks) g refl) (λ f. refl);
+  fresh = a (fresh_of g) (unseen (λ x. x.fresh) g refl) (λ f. refl);
+  storing = a (storing_of g) (unseen (λ x. x.storing) g refl) (λ f. refl);
+  again = a (again_of g) (unseen (λ x. x.again) g refl) (λ f. refl);
+  waits = a (waits_of g) (unseen-waits g) (λ f. refl);
+  over = a (over_of g) (unseen-over g) (λ f. refl);
+  notices = a (notices_of g) (unseen (λ x. x.notices) g refl) (λ f. refl);
+  notifying = a (notifying_of g) (unseen (λ x. x.notifying) g refl) (λ f. refl);
+  mine = a (mine_of g) (unseen (λ x. x.mine) g refl) (λ f. refl);
+  detaches = a (detaches_of g) (unseen (λ x. x.detaches) g refl) (λ f. refl);
+  lending = a (lending_of g) (unseen (λ x. x.lending) g refl) (λ f. refl);
+  strays = λ k. a (strays_of g k) (unseen (λ x. x.strays k) g refl) (λ f. refl);
+  calls = λ k. a (calls_of g k) (unseen (λ x. x.calls k) g refl) (λ f. refl);
 }
 
 -- so the polls of the handle are as they were

@@ -13,8 +13,9 @@ use Rattle.executor_model.proofs.Awaiters.Awaited.{again_of, calls_of, detaches_
 use Rattle.executor_model.proofs.Awaiters.Awaited.{notices_of, notifying_of, over_of, storing_of, strays_of, waits_of}
 use Rattle.executor_model.proofs.Steps.Lists.{times-append, weigh-append}
 use Rattle.executor_model.proofs.Steps.RunsCounting.{Bare, bare, with_ops-append}
-use Rattle.executor_model.proofs.Steps.RunsMoves.{Moves, Same, times_in-set}
-use Rattle.executor_model.proofs.Steps.RunsWays.{AllOfRuns, by-list, by-run, by-search, by-steal, plain-of-runs}
+use Rattle.executor_model.proofs.Steps.RunsMoves.{Moves, Same, moves-refused, times_in-set}
+use Rattle.executor_model.proofs.Steps.RunsWays.{AllOfRuns, AllOrDropped, by-list, by-run, by-search, by-steal, or-dropped}
+use Rattle.executor_model.proofs.Steps.RunsWays.{plain-of-runs, refused-dropped}
 use Rattle.executor_model.proofs.Awaiters.RunsApart.{away, same-awaiting}
 use Rattle.executor_model.proofs.{Awaiters.SleepersAwaited.awaits-tick_turn, Awaiters.AwaitedMoves.awaits-wake_by_reference}
 use Rattle.task_moves.specs.Moves as moves
@@ -24,9 +25,9 @@ still : (w v : World) (g : ℕ) (r r2 : Pend) (y : Awaiting) (m : Mark) → Same
     Awaits w g r y m → Awaits v g r2 y m
 still w v g r r2 y m s e h = grind arith
 
-awaits-moves : (w : World) (old : List Op) (d : Done) → AllOfRuns old → AllOfRuns d.next → Moves w old d →
+awaits-moved : (w : World) (old : List Op) (d : Done) → AllOrDropped old → AllOrDropped d.next → Moves w old d →
     KeepsAwaits w old d
-awaits-moves w old d a n m g r y k bb h =
+awaits-moved w old d a n m g r y k bb h =
     let b : Bare g old = bare g old (plain-of-runs old a) in
     let c : Bare g d.next = bare g d.next (plain-of-runs d.next n) in
     subst (λ (x : Awaiting). Awaits d.world g (with_ops g d.next r) x k)
@@ -34,6 +35,10 @@ awaits-moves w old d a n m g r y k bb h =
     (still w d.world g (with_ops g old r) (with_ops g d.next r) (with_awaiting g [] y) k m.same
     (omega (arith, b.ready, c.ready))
     (subst (λ (x : Awaiting). Awaits w g (with_ops g old r) x k) (same-awaiting g old y (away g old a)) h))
+
+awaits-moves : (w : World) (old : List Op) (d : Done) → AllOfRuns old → AllOfRuns d.next → Moves w old d →
+    KeepsAwaits w old d
+awaits-moves w old d a n m = awaits-moved w old d (or-dropped old a) (or-dropped d.next n) m
 
 awaits-kept : (p : ℕ) (w : World) (s : Steal) (more f : ℕ) (d : Done) → s.poll.run < length w.own →
     KeepsAwaits (kept_by p w s.poll.run f) (Op.Steal (StealOp.OwnLength s 0) ∷ []) d →
@@ -60,7 +65,10 @@ awaits-kept p w s more f d i k g r y m bb h =
     k g r y m foot waits
 
 pub awaits-steal : (p : ℕ) (o : StealOp) (w : World) → KeepsAwaits w (Op.Steal o ∷ []) (steal_act p o w)
-awaits-steal p o w = by-steal KeepsAwaits awaits-moves awaits-kept p o w
+awaits-steal p o w = by-steal KeepsAwaits awaits-moves awaits-kept
+    (λ w s more f e. awaits-moved w (Op.Steal (StealOp.Put s more f) ∷ []) _ (λ v u z. omega (arith, u.blind.steal (StealOp.Put s more f)))
+    (refused-dropped s w f) (moves-refused s.then w s.poll s.from more f))
+    p o w
 
 pub awaits-list : (h : Hint) (o : ListOp) (w : World) → KeepsAwaits w (Op.List o ∷ []) (list_act h o w)
 awaits-list h o w = by-list KeepsAwaits awaits-moves awaits-kept h o w

@@ -1,11 +1,11 @@
 -- For awaiters_are_kept and calls_do_what_they_say.
 -- What a run does takes from the executor's queue at most, and neither closes nor opens it.
-use Rattle.std.proofs.Common.{◌≡◌, ◌≤◌, ℕ, zero, suc, List, [], ◌∷◌, length, drop, Bool, true, false, refl, sym, ap, subst, ◌∙◌}
+use Rattle.std.proofs.Common.{◌≡◌, ◌≤◌, ℕ, zero, suc, List, [], ◌∷◌, length, drop, Bool, true, false, refl, ap, ◌∙◌}
 use Rattle.std.proofs.Common.{arith}
 use Rattle.executor_model.proofs.Types.{Plain, Urgent, Mark, Look, First, Second, Reply, Event, ListOp, Polled, RunOp, RunPoll}
 use Rattle.executor_model.proofs.Types.{Section, Source, Common, Own, Steal, StealOp, Then, Waker, Task, Outside, Hint}
 use Rattle.executor_model.specs.ActsOfRuns.{call_by_reference, counted_by, found, kept_by, look_own_by, make_room_by}
-use Rattle.executor_model.specs.ActsOfRuns.{make_run_by, registered, reschedule_by, run_by, search_common_by, search_own}
+use Rattle.executor_model.specs.ActsOfRuns.{make_run_by, put_refused, registered, reschedule_by, run_by, search_common_by, search_own}
 use Rattle.executor_model.specs.World.{World, Stage, New, Listed, Ended, log, log_if, put_own, queue_of}
 use Rattle.executor_model.specs.ActsOfRuns.{search_own_by, steal_by, steal_length_by, steal_put_by, steal_take_by, stolen}
 use Rattle.executor_model.specs.{Queues.Queues, Queues.queue_in, Acts.mark_in, Doing.list_act, Doing.run_act, Doing.steal_act}
@@ -47,10 +47,14 @@ takes-take from [] w x t more = stays (queue-stolen t w x)
 takes-take (Common mark) (f ∷ rest) w x t more = first mark refl
 takes-take (Own r) (f ∷ rest) w x t more = stays refl
 
+queue-refused : (t : Then) (w : World) (x : RunPoll) (f : ℕ) → (put_refused t w x f).world.queues ≡ w.queues
+queue-refused (Then.Walk at left) w x f = refl
+queue-refused t w x f = queue-stolen t w x
+
 pub queue-put : (b : Bool) (p : ℕ) (w : World) (s : Steal) (more f : ℕ) → (steal_put_by b p w s more f).world.queues
     ≡ w.queues
 queue-put true p w s more f = queue-more more (kept_by p w s.poll.run f) s
-queue-put false p w s more f = queue-stolen s.then w s.poll
+queue-put false p w s more f = queue-refused s.then w s.poll f
 
 pub takes-steal : (p : ℕ) (o : StealOp) (w : World) → Takes w (steal_act p o w).world
 takes-steal p (StealOp.Length s) w = stays (queue-length _ w s)

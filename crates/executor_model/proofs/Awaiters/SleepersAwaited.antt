@@ -1,12 +1,12 @@
 -- For awaiters_are_kept.
 -- What tells sleepers, and what a tick does, keeps what is known of each awaiter.
-use Rattle.std.proofs.Common.{◌≡◌, ℕ, ◌+◌, ◌<◌, List, [], ◌∷◌, length, Bool, true, false, ◌||◌, drop, refl, arith}
+use Rattle.std.proofs.Common.{◌≡◌, ℕ, ◌<◌, List, [], ◌∷◌, length, Bool, true, false, ◌||◌, refl, arith}
 use Rattle.std.{proofs.lemmas.List.length-set, specs.Prelude.Option, specs.Prelude.Some, specs.Prelude.None}
 use Rattle.executor_model.proofs.Types.{Look, First, Second, Move, Event, Op, Sleeping, SleeperOp, TickOp, Waker, Task, Outside}
 use Rattle.executor_model.specs.ActsOfSleepers.{polled_as, search_tick, exchange_by, hand_out_by, call_sleeper, make_tick_by}
 use Rattle.executor_model.specs.World.{queue_of, World, Ticker, Awake, Asleep, Left, log, task}
 use Rattle.executor_model.specs.ActsOfSleepers.{look_tick_by, copy_sleeper_by, fall_asleep_by, wake_up_by, leave_sleepers_by}
-use Rattle.executor_model.specs.{Acts.mark_in, Weights.same, Good.IsKnownWaker, Sound.with_ops, Sound.times}
+use Rattle.executor_model.specs.{Acts.mark_in, Good.IsKnownWaker, Sound.with_ops}
 use Rattle.executor_model.proofs.Steps.Lists.{read_put, same_is}
 use Rattle.executor_model.proofs.Awaiters.SleepersCases.{by_going, FallsAsleep, sleeps-down, WakesUp, gets-up, Leaves, leaves}
 use Rattle.executor_model.proofs.Awaiters.Awaited.{KeepsAwaits, Footing, Awaits, with_awaiting, heard-push}

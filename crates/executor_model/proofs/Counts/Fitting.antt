@@ -1,6 +1,6 @@
 -- For one_runnable and references_are_counted.
 -- Each thing that is done leaves numbers that are futures'.
-use Rattle.std.proofs.Common.{◌≡◌, ℕ, ◌+◌, ◌≤◌, ◌<◌, List, [], ◌∷◌, ◌++◌, length, Bool, true, false, not, ◌&&◌, set, drop, refl}
+use Rattle.std.proofs.Common.{◌≡◌, ℕ, ◌+◌, ◌≤◌, ◌<◌, List, [], ◌∷◌, ◌++◌, length, Bool, true, false, not, ◌&&◌, set, refl}
 use Rattle.std.proofs.Common.{sym, ap, ◌∙◌, subst, arith, length-append}
 use Rattle.std.proofs.Math.ListN.{length-set}
 use Rattle.std.specs.Prelude.{Option, Some, None, slice_set}
@@ -15,7 +15,7 @@ use Rattle.executor_model.specs.World.{queue_of, World, Done, done, log, log_if,
 use Rattle.executor_model.specs.Acts.{is_output, leak_next_by, leak_out_by, leaked, leaking_ops}
 use Rattle.executor_model.specs.{Carried.awaiter_ops, Carried.owed_ops, Carried.carried, Weights.weigh, Weights.past}
 use Rattle.executor_model.specs.{Weights.waker_past, Good.pasts, Good.awaiters_past, Good.Fits, Rows.past_of}
-use Rattle.executor_model.proofs.Steps.Cases.{by_bool, by_list, by_waker}
+use Rattle.executor_model.proofs.Steps.Cases.{by_bool, by_waker}
 use Rattle.executor_model.proofs.Steps.Owed.{owed-future, owed-awaiter, owed-nothing}
 use Rattle.executor_model.proofs.Steps.Lists.{past_is, awaiters_past-set, past_if, weigh-append}
 use Rattle.executor_model.proofs.{Steps.QueuesByMark.pasts-first, Types.Hint}

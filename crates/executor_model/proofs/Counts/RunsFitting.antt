@@ -8,13 +8,14 @@ use Rattle.executor_model.proofs.Types.{Task, Outside, Hint, Event, Polled}
 use Rattle.executor_model.specs.World.{queue_of, World, Ticker, Awake, Asleep, Left, Stage, New, Listed, Ended, Done, done, log}
 use Rattle.executor_model.specs.ActsOfRuns.{call_by_reference, run_by, counted_by, found, make_run_by, registered, kept_by}
 use Rattle.executor_model.specs.ActsOfRuns.{look_own_by, next_place, queue_at, search_common_by, walk, search_own_by, source_of}
-use Rattle.executor_model.specs.ActsOfRuns.{stolen, steal_by, steal_length_by, steal_put_by, steal_take_by, make_room_by}
+use Rattle.executor_model.specs.ActsOfRuns.{put_refused, stolen, steal_by, steal_length_by, steal_put_by, steal_take_by, make_room_by}
 use Rattle.executor_model.specs.World.{log_if, own_of, put_own, run_of, task}
 use Rattle.executor_model.specs.Doing.{list_act, run_act, search_by_who, steal_act}
 use Rattle.executor_model.specs.{Acts.mark_in, ActsOfSleepers.found_by, ActsOfRuns.reschedule_by, Good.Fits, Good.pasts}
 use Rattle.executor_model.specs.{Good.pasts_in, Rows.past_of, Rows.then_past, Weights.past, Weights.waker_past, Weights.weigh}
 use Rattle.executor_model.proofs.Counts.Fitting.{Grown, Grows, Shaped, shaped, fits-log, grows-carried, same-log}
-use Rattle.executor_model.proofs.Steps.RunsMoves.{Same, same-found, same-here, same-rooms, same-stolen, same-taken, same-trans}
+use Rattle.executor_model.proofs.Steps.RunsMoves.{Same, moves-refused, same-found, same-here, same-rooms, same-stolen}
+use Rattle.executor_model.proofs.Steps.RunsMoves.{same-taken, same-trans}
 use Rattle.executor_model.proofs.{Steps.QueuesByMark.pasts-first, Steps.Lists.weigh-append, Steps.SleepersLists.given_back-same}
 use Rattle.task_moves.specs.Moves as moves
 
@@ -59,6 +60,11 @@ module _ (n : ℕ) (x : RunPoll) (wz : waker_past n x.waker ≡ 0) where
   past-stolen (Then.StealPlain f) w z = omega (arith, wz, z)
   past-stolen (Then.Run f) w z = past-run_by _ w f z
   past-stolen (Then.Walk at left) w z = omega (arith, wz)
+
+  past-refused : (t : Then) (w : World) (f : ℕ) → past n f ≡ 0 → then_past n t ≡ 0 →
+      weigh (past_of n) (put_refused t w x f).next ≡ 0
+  past-refused (Then.Walk at left) w f y z = omega (arith, wz, y)
+  past-refused t w f y z = omega (arith, y, past-stolen t w z)
 
   past-walk : (qs : List ℕ) (at left : ℕ) → weigh (past_of n) (walk x qs at left) ≡ 0
   past-walk qs at zero = omega (arith, wz)
@@ -125,8 +131,8 @@ grows-take_first (Own r) (f ∷ rest) w x t more e =
 grows-put : (b : Bool) (p : ℕ) (w : World) (s : Steal) (more f : ℕ) →
     Grows w (Op.Steal (StealOp.Put s more f) ∷ []) (steal_put_by b p w s more f)
 grows-put false p w s more f h k =
-    grows-moves w (Op.Steal (StealOp.Put s more f) ∷ []) _ (same-stolen s.then w s.poll)
-    (λ h k. omega (arith, k, past-stolen (length w.tasks) s.poll (omega (arith, k)) s.then w (omega (arith, k)))) h k
+    grows-moves w (Op.Steal (StealOp.Put s more f) ∷ []) _ (moves-refused s.then w s.poll s.from more f).same
+    (λ h k. past-refused (length w.tasks) s.poll (omega (arith, k)) s.then w f (omega (arith, k)) (omega (arith, k))) h k
 grows-put true p w s more f h k =
     let v = kept_by p w s.poll.run f in
     let t : Shaped v = record { awaiting = h.awaiting; inside = h.inside } in

@@ -3,9 +3,9 @@
 use Rattle.std.proofs.Common.{◌≡◌, ℕ, zero, suc, ◌+◌, List, [], ◌∷◌, ◌++◌, Bool, true, false, ◌||◌, eqb, refl, ap, ◌∙◌}
 use Rattle.std.specs.List.{list_any}
 use Rattle.executor_parts.specs.Marks.{first_of, other}
-use Rattle.executor_model.proofs.Types.{Move, Plain, Urgent, ListOp, Look, First, Second, Op, QueueOp, RunOp, RunPoll}
+use Rattle.executor_model.proofs.Types.{Move, Plain, Urgent, ListOp, Look, First, Second, Op, RunOp, RunPoll}
 use Rattle.executor_model.proofs.Types.{TickOrRun, SleeperOp, Sleeping, Common, Own, Steal, StealOp, Then, TickOp}
-use Rattle.executor_model.specs.ActsOfRuns.{asleep, run_by, counted_by, found, walk, next_place, queue_at, kept_by, look_own}
+use Rattle.executor_model.specs.ActsOfRuns.{asleep, put_refused, run_by, counted_by, found, walk, next_place, queue_at, kept_by, look_own}
 use Rattle.executor_model.specs.ActsOfRuns.{look_own_by, search_own, search_own_by, search_common, search_common_by, stolen}
 use Rattle.executor_model.specs.World.{World, Ticker, Awake, Asleep, Left, put_own, run_of}
 use Rattle.executor_model.specs.ActsOfRuns.{take_turn_of_run, steal_length_by, steal_by, steal_take_by, steal_put_by}
@@ -17,7 +17,7 @@ pub record Untold (t : Op → Bool) : Type 0 where
   pub search : (s : Sleeping) → t (Op.Tick (TickOp.Search s)) ≡ false
   pub up : (who : TickOrRun) → t (Op.Tick (TickOp.WakeUp who)) ≡ false
   pub take_up : (f : ℕ) → t (Op.Move Move.TakeUp f) ≡ false
-  pub append : (f : ℕ) → t (Op.Queue (QueueOp.Append f)) ≡ false
+  pub retract : (f : ℕ) → t (Op.Move Move.DropRunnable f) ≡ false
   pub steal : (o : StealOp) → t (Op.Steal o) ≡ false
   pub turn : (x : RunPoll) → t (Op.Run (RunOp.TakeTurn x)) ≡ false
   pub common : (x : RunPoll) (l : Look) → t (Op.Run (RunOp.SearchCommon x l)) ≡ false
@@ -78,11 +78,17 @@ module _ (t : Op → Bool) (u : Untold t) where
   untold-take [] w s more = untold-stolen s.then w s.poll
   untold-take (f ∷ rest) w s more = let o = StealOp.Put s more f in alone (Op.Steal o) (u.steal o)
 
+  untold-refused : (n : Then) (w : World) (x : RunPoll) (f : ℕ) → list_any t (put_refused n w x f).next ≡ false
+  untold-refused (Then.Walk at left) w x f =
+      let o = TickOp.Search (asleep x) in
+      first (Op.List ListOp.UnlockRead) (Op.Move Move.DropRunnable f ∷ Op.Tick o ∷ []) u.unlock
+      (first (Op.Move Move.DropRunnable f) (Op.Tick o ∷ []) (u.retract f) (alone (Op.Tick o) (u.search (asleep x))))
+  untold-refused n w x f = first (Op.Move Move.DropRunnable f) (stolen n w x).next (u.retract f) (untold-stolen n w x)
+
   untold-put : (b : Bool) (p : ℕ) (w : World) (s : Steal) (more f : ℕ) →
       list_any t (steal_put_by b p w s more f).next ≡ false
   untold-put true p w s more f = untold-more more (kept_by p w s.poll.run f) s
-  untold-put false p w s more f =
-      first (Op.Queue (QueueOp.Append f)) (stolen s.then w s.poll).next (u.append f) (untold-stolen s.then w s.poll)
+  untold-put false p w s more f = untold-refused s.then w s.poll f
 
   pub untold-steal : (p : ℕ) (o : StealOp) (w : World) → list_any t (steal_act p o w).next ≡ false
   untold-steal p (StealOp.Length s) w = untold-length _ w s

@@ -16,7 +16,7 @@ use Rattle.executor_model.proofs.OneFuture.Views.{Seen, seen, none}
 use Rattle.executor_model.proofs.OneFuture.EffectsCalls.{by_call, goes-begun}
 use Rattle.executor_model.proofs.{Types.Step, Types.UserEnd, Steps.Lists.weigh_all-push, Steps.Growing.pend-none}
 use Rattle.executor_model.proofs.{Steps.Ways.Way, Steps.Ways.along, Counts.SoundAll.sure-of, Counts.SoundViews.Sure}
-use Rattle.executor_model.proofs.{OneFuture.Effects.Effect, OneFuture.Effects.effect-act, OneFuture.Effects.Effect.passes}
+use Rattle.executor_model.proofs.{OneFuture.Effects.Effect, OneFuture.Effects.effect-act, OneFuture.Effects.passed}
 
 -- in a machine of this world and these parties
 pub data Effects (w : World) (ss : List (List Op)) : List Op → Done → Type 0 where
@@ -35,12 +35,12 @@ effect-react : (p : ℕ) (o : Op) (u : UserEnd) (w : World) (ss : List (List Op)
     Effects w ss (o ∷ []) (react p o u w)
 effect-react p (Op.User (UserOp.Poll f)) (UserEnd.Polled Answer.Pending) w ss a = pends p f
 effect-react p (Op.User (UserOp.Poll f)) (UserEnd.Polled Answer.Ready) w ss a = readies p f
-effect-react p (Op.User (UserOp.Drop f)) UserEnd.Done w ss a = does (passes (λ g r y. grind arith))
-effect-react p (Op.User (UserOp.DropOutput f)) UserEnd.Done w ss a = does (passes (λ g r y. grind arith))
-effect-react p (Op.User (UserOp.CallOutside x)) UserEnd.Done w ss a = does (passes (λ g r y. grind arith))
-effect-react p (Op.User (UserOp.PollOwn x)) (UserEnd.Polled Answer.Pending) w ss a = does (passes (λ g r y. grind arith))
-effect-react p (Op.User (UserOp.PollOwn x)) (UserEnd.Polled Answer.Ready) w ss a = does (passes (λ g r y. grind arith))
-effect-react p (Op.User (UserOp.DropOwn r)) UserEnd.Done w ss a = does (passes (λ g r y. grind arith))
+effect-react p (Op.User (UserOp.Drop f)) UserEnd.Done w ss a = does (passed (λ g r y. grind arith))
+effect-react p (Op.User (UserOp.DropOutput f)) UserEnd.Done w ss a = does (passed (λ g r y. grind arith))
+effect-react p (Op.User (UserOp.CallOutside x)) UserEnd.Done w ss a = does (passed (λ g r y. grind arith))
+effect-react p (Op.User (UserOp.PollOwn x)) (UserEnd.Polled Answer.Pending) w ss a = does (passed (λ g r y. grind arith))
+effect-react p (Op.User (UserOp.PollOwn x)) (UserEnd.Polled Answer.Ready) w ss a = does (passed (λ g r y. grind arith))
+effect-react p (Op.User (UserOp.DropOwn r)) UserEnd.Done w ss a = does (passed (λ g r y. grind arith))
 effect-react p _ _ w ss a = absurd (cc)
 
 effect-begun : (p : ℕ) (w : World) (ss : List (List Op)) (here : Option Waker) (c : Call) →
@@ -48,7 +48,7 @@ effect-begun : (p : ℕ) (w : World) (ss : List (List Op)) (here : Option Waker)
     Effects w ss [] (begun p (log w (Event.CallBegun p c)) here c)
 effect-begun p w ss here = by_call _
     (λ on un. closes p (open_executor w Call.DropExecutor refl on) (unborrowed (weigh_all borrowing_of ss) un))
-    (λ c d on un. does (passes (goes-begun p w here c d (λ e. open_executor w c e on))))
+    (λ c d on un. does (passed (goes-begun p w here c d (λ e. open_executor w c e on))))
 
 -- the futures that it speaks of are there
 op-known : (s : Machine) (p : ℕ) (o : Op) (rest : List Op) → p < length s.parties →

@@ -45,12 +45,15 @@ pub record Passes (x y : Seen) : Type 0 where
 pub record Stays (x y : Seen) : Type 0 where
   pub story : (y.story ≡ x.story) ⊎ ((1 ≤ x.extra.waking) × (y.story ≡ record x.story { ended = true }))
   pub leaves : (y.extra.leaves ≡ x.extra.leaves) ⊎ ((x.table ≡ 0) × (y.extra.leaves ≤ x.extra.leaves))
-  pub closing : x.extra.closing ≡ 0 → y.extra.closing ≡ 0
-  pub waking : x.extra.waking ≡ 0 → y.extra.waking ≡ 0
   pub limit : y.limit ≡ x.limit
   pub urgent_capacity : y.urgent_capacity ≡ x.urgent_capacity
   pub plain_capacity : y.plain_capacity ≡ x.plain_capacity
   pub shut : (y.shut ≡ x.shut) ⊎ (1 ≤ x.extra.waking)
+
+-- no part of the executor's drop, and no drop of a Runnable, comes but from another
+pub record Shuts (x y : Seen) : Type 0 where
+  pub closing : x.extra.closing ≡ 0 → y.extra.closing ≡ 0
+  pub waking : x.extra.waking ≡ 0 → y.extra.waking ≡ 0
 
 -- its output: one that is there is given at most, and then its task is closed
 pub record Gives (x y : Seen) : Type 0 where
@@ -81,9 +84,19 @@ pub record Queues (x y : Seen) : Type 0 where
 pub record Refers (x y : Seen) : Type 0 where
   pub more : x.state.references ≤ y.state.references
 
+-- all but that
+pub record Shifts (x y : Seen) : Type 0 where
+  pub passes : Passes x y
+  pub stays : Stays x y
+  pub gives : Gives x y
+  pub handles : Handles x y
+  pub queues : Queues x y
+  pub refers : Refers x y
+
 pub record Goes (x y : Seen) : Type 0 where
   pub passes : Passes x y
   pub stays : Stays x y
+  pub shuts : Shuts x y
   pub gives : Gives x y
   pub handles : Handles x y
   pub queues : Queues x y
@@ -92,3 +105,21 @@ pub record Goes (x y : Seen) : Type 0 where
 abbrev pub GoesBy : World → List Op → Done → Type 0
 GoesBy w old d = (g : ℕ) (r : Pend) (y : Extra) →
     Goes (seen w g (with_ops g old r) (with_extra g old y)) (seen d.world g (with_ops g d.next r) (with_extra g d.next y))
+
+abbrev pub ShiftsBy : World → List Op → Done → Type 0
+ShiftsBy w old d = (g : ℕ) (r : Pend) (y : Extra) →
+    Shifts (seen w g (with_ops g old r) (with_extra g old y)) (seen d.world g (with_ops g d.next r) (with_extra g d.next y))
+
+abbrev pub ShutsBy : World → List Op → Done → Type 0
+ShutsBy w old d = (g : ℕ) (r : Pend) (y : Extra) →
+    Shuts (seen w g (with_ops g old r) (with_extra g old y)) (seen d.world g (with_ops g d.next r) (with_extra g d.next y))
+
+pub shifts : (x y : Seen) → Goes x y → Shifts x y
+shifts x y s = record {
+  passes = s.passes;
+  stays = s.stays;
+  gives = s.gives;
+  handles = s.handles;
+  queues = s.queues;
+  refers = s.refers;
+}

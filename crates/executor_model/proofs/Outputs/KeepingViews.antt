@@ -94,7 +94,7 @@ stored-leaked : (d : Done) (p f g : ℕ) (r : Pend) (y : Extra) → HasAsked d.w
 stored-leaked d p f g r y a h = leaked-keeps Stored (λ x a h. grind arith) d.world p f g r y a h
 
 pub stored-effect : (w : World) (old : List Op) (d : Done) → Effect w old d → KeepsStored w old d
-stored-effect w old d (passes s) g r y k h =
+stored-effect w old d (passes s c) g r y k h =
     stored-passes _ _ (s g r y).passes (s g r y).handles (footing _ k) h
 stored-effect w old _ (turns d m p f v more i j n s a e) g r y k h =
     turned-keeps Sure Stored (λ m x. stands_alone m ≡ true) stored-moved stored-loose

@@ -91,7 +91,7 @@ out-leaked : (d : Done) (p f g : ℕ) (r : Pend) (y : Extra) → HasAsked d.worl
 out-leaked d p f g r y a h = leaked-keeps Given (λ x a h. grind arith) d.world p f g r y a h
 
 out-effect : (w : World) (old : List Op) (d : Done) → Effect w old d → KeepsOutput w old d
-out-effect w old d (passes s) g r y b h = given-passes _ _ (s g r y).passes (s g r y).gives h
+out-effect w old d (passes s c) g r y b h = given-passes _ _ (s g r y).passes (s g r y).gives h
 out-effect w old _ (turns d m p f v more i j n s a e) g r y b h =
     turned-keeps Sure Given (λ m x. stands_alone m ≡ true) given-moved given-loose (λ x y z. sound-passes x y z.passes)
     (λ x y z b. given-passes x y z.passes z.gives) w old d m p f v more i (λ q u. j) s a e g r y b h

@@ -94,7 +94,7 @@ settle-leaked : (d : Done) (p f g : ℕ) (r : Pend) (y : Extra) → HasAsked d.w
 settle-leaked d p f g r y a h = leaked-keeps Settled (λ x a h. grind arith) d.world p f g r y a h
 
 settle-effect : (w : World) (old : List Op) (d : Done) → Effect w old d → KeepsSettled w old d
-settle-effect w old d (passes s) g r y b h = settled-passes _ _ (s g r y).passes (s g r y).gives (s g r y).handles h
+settle-effect w old d (passes s c) g r y b h = settled-passes _ _ (s g r y).passes (s g r y).gives (s g r y).handles h
 settle-effect w old _ (turns d m p f v more i j n s a e) g r y b h =
     turned-keeps Sure Settled (λ m x. stands_alone m ≡ true) settled-moved settled-loose (λ x y z. sound-passes x y z.passes)
     (λ x y z b. settled-passes x y z.passes z.gives z.handles) w old d m p f v more i (λ q u. j) s a e g r y b h

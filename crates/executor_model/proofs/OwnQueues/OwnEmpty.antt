@@ -8,7 +8,7 @@ use Rattle.executor_model.proofs.Types.{Reply, Event, Hold, ListOp, Op, RunOp, R
 use Rattle.executor_model.specs.World.{World, Done, done, log, own_of, put_own}
 use Rattle.executor_model.specs.{Doing.list_act, OwnQueues.empty_of, Rows.running_of, Steps.Machine, Steps.begun, Steps.mine}
 use Rattle.executor_model.specs.{Steps.react, Steps.stack, Steps.top, Weights.same, Weights.weigh, Weights.weigh_all}
-use Rattle.executor_model.proofs.OwnQueues.RunsDone.{to_walk, walk_ends, walk_on, Deed, keeps, takes, lacks, shares, grows}
+use Rattle.executor_model.proofs.OwnQueues.RunsDone.{to_leave, to_walk, walk_ends, walk_on, Deed, keeps, takes, lacks, shares, grows}
 use Rattle.executor_model.proofs.OwnQueues.RunsDone.{wakes, lists, deed-act, is_loud, loud, loud-weigh, walks-by, Stole, More}
 use Rattle.executor_model.proofs.OwnQueues.RunsDone.{no_more, one_more, Walks, Missing, misses_there, Leads, turns, finds}
 use Rattle.executor_model.proofs.OwnQueues.OwnRooms.{of_coat, Shorter, grown, made-length, needed, of_hull, same-own}
@@ -69,6 +69,7 @@ stays-of w o d s f = stays w (o ∷ []) d s
 
 stole-empty : (r : ℕ) (x : RunPoll) (n : ℕ) (os : List Op) → Stole x n os → weigh (empty_of r) os ≡ 0
 stole-empty r x n os (to_walk at left) = refl
+stole-empty r x n os to_leave = refl
 stole-empty r x n os _ = refl
 
 more-empty : (r : ℕ) (s : Steal) (k : ℕ) (os : List Op) → More s k os → weigh (empty_of r) os ≡ 0

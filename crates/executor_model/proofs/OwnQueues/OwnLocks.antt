@@ -8,7 +8,7 @@ use Rattle.executor_model.specs.OwnQueues.{LockAgrees, reads_of, walks_then, wri
 use Rattle.executor_model.specs.Steps.{Machine, accepts, begun, is_locked_out, mine, react, run, stack, start, top}
 use Rattle.executor_model.specs.World.{World, Stage, New, Listed, Ended, Lock, Done, done, log, own_of, put_own}
 use Rattle.executor_model.specs.{Doing.list_act, Good.Good, Weights.weigh, Weights.weigh_all}
-use Rattle.executor_model.proofs.OwnQueues.RunsDone.{to_walk, walk_ends, walk_on, Deed, keeps, takes, lacks, shares, grows}
+use Rattle.executor_model.proofs.OwnQueues.RunsDone.{to_leave, to_walk, walk_ends, walk_on, Deed, keeps, takes, lacks, shares, grows}
 use Rattle.executor_model.proofs.OwnQueues.RunsDone.{wakes, lists, deed-act, is_loud, loud, loud-weigh, walks-by, Stole, More}
 use Rattle.executor_model.proofs.OwnQueues.RunsDone.{no_more, one_more, Walks, Missing, misses_there, Leads, quiet, finds}
 use Rattle.executor_model.proofs.Steps.Lift.{good-start, split, unsettled, weigh_all-idle}
@@ -67,6 +67,7 @@ stays w o d e u = stays-lock w (o ∷ []) d e (omega (arith, u.0, loud-weigh wri
 
 under-stole : (x : RunPoll) (n : ℕ) (os : List Op) → Stole x n os → Under os 0 n
 under-stole x n os (to_walk at left) = (refl, refl)
+under-stole x n os to_leave = (refl, refl)
 under-stole x n os _ = (refl, refl)
 
 under-more : (s : Steal) (k : ℕ) (os : List Op) → More s k os → Under os 0 (walks_then s.then)

@@ -1,14 +1,14 @@
 -- For own_queues_agree.
 -- For what a steal may still bring into a run's own queue there are free places, as a run is in one call at most.
-use Rattle.std.proofs.Common.{◌≡◌, ◌≢◌, ◌⊎◌, ◌∙◌, ℕ, zero, suc, ◌+◌, ◌<◌, ◌≤◌, ◌%◌, List, [], ◌∷◌, ◌++◌, length, get_or, set}
+use Rattle.std.proofs.Common.{◌≡◌, ◌≢◌, ◌⊎◌, ◌∙◌, ℕ, zero, suc, ◌+◌, ◌-◌, ◌<◌, ◌≤◌, ◌%◌, List, [], ◌∷◌, ◌++◌, length, get_or, set}
 use Rattle.std.proofs.Common.{Bool, true, false, ltb, eqb, cond, refl, sym, ap, subst, ⊎_elim, inl, inr, arith}
 use Rattle.std.proofs.lemmas.List.{length-append, length-set}
 use Rattle.std.{proofs.lemmas.Bool.Decides.nat_tests, specs.Prelude.reverse}
 use Rattle.executor_model.proofs.Types.{Reply, Event, Hold, ListOp, Op, RunPoll, Section, Steal, StealOp, Hint}
 use Rattle.executor_model.specs.World.{World, Stage, New, Listed, Ended, Done, done, log, own_of, put_own}
-use Rattle.executor_model.specs.{Doing.list_act, OwnQueues.filling_of, Rows.running_of, Steps.Machine, Steps.begun, Steps.mine}
-use Rattle.executor_model.specs.{Steps.react, Steps.stack, Steps.top, Weights.same, Weights.weigh, Weights.weigh_all}
-use Rattle.executor_model.proofs.OwnQueues.RunsDone.{to_walk, walk_ends, walk_on, Deed, keeps, takes, lacks, shares, grows}
+use Rattle.executor_model.specs.{Doing.list_act, OwnQueues.HasOwnRoom, OwnQueues.filling_of, Rows.running_of, Steps.Machine, Steps.begun}
+use Rattle.executor_model.specs.{Steps.mine, Steps.react, Steps.stack, Steps.top, Weights.same, Weights.weigh, Weights.weigh_all}
+use Rattle.executor_model.proofs.OwnQueues.RunsDone.{to_leave, to_walk, walk_ends, walk_on, Deed, keeps, takes, lacks, shares, grows}
 use Rattle.executor_model.proofs.OwnQueues.RunsDone.{wakes, lists, deed-act, is_loud, loud, loud-weigh, walks-by, Stole, More}
 use Rattle.executor_model.proofs.OwnQueues.RunsDone.{no_more, one_more, Walks, Missing, misses_there, Leads, finds, stole}
 use Rattle.executor_model.proofs.Steps.Lists.{same_cases, weigh_all-push}
@@ -89,6 +89,7 @@ stays-of w o d s f = stays w (o ∷ []) d s
 
 stole-filling : (r : ℕ) (x : RunPoll) (n : ℕ) (os : List Op) → Stole x n os → weigh (filling_of r) os ≡ 0
 stole-filling r x n os (to_walk at left) = refl
+stole-filling r x n os to_leave = refl
 stole-filling r x n os _ = refl
 
 walks-filling : (r : ℕ) (x : RunPoll) (os : List Op) → Walks x os → weigh (filling_of r) os ≡ 0
@@ -304,3 +305,15 @@ roomy-ends s p a held below l e h r =
       split (filling_of r) s.parties p (Op.End a held ∷ []) below l e,
       weigh_all-push (filling_of r) s.parties p below [] l,
     )
+
+-- a steal that is on its way finds a free place
+pub has-free : (s : Machine) (x : Steal) (more f : ℕ) → HasOwnRoom s x.poll.run →
+    filling_of x.poll.run (Op.Steal (StealOp.Put x more f)) ≤ weigh_all (filling_of x.poll.run) s.parties →
+    ltb 0 (runs.free_places s.world x.poll.run) ≡ true
+has-free s x more f h k =
+    let q : ℕ = x.poll.run in
+    let same_one : eqb q q ≡ true = grind (arith, nat_tests) in
+    let fills : filling_of q (Op.Steal (StealOp.Put x more f)) ≡ more + 1 =
+    ap (λ (b : Bool). cond b (more + 1) 0) same_one in
+    let free : 1 ≤ runs.own_places s.world q - length (own_of s.world q) = omega (arith, h, fills, k) in
+    grind (arith, nat_tests)

@@ -8,7 +8,7 @@ use Rattle.executor_model.proofs.Types.{UserOp, Waker, Task, Outside, Hint}
 use Rattle.executor_model.specs.World.{World, Done, log, own_of, put_own}
 use Rattle.executor_model.specs.{Doing.act, Doing.list_act, Rows.running_of, Weights.same, Weights.weigh, Weights.is_run}
 use Rattle.executor_model.proofs.OwnQueues.OwnRooms.{of_coat, shorter-taken, Shorter, grown, made-length, same-own}
-use Rattle.executor_model.proofs.OwnQueues.RunsDone.{to_walk, misses_last, Deed, keeps, takes, lacks, shares, grows, wakes}
+use Rattle.executor_model.proofs.OwnQueues.RunsDone.{to_leave, to_walk, misses_last, Deed, keeps, takes, lacks, shares, grows, wakes}
 use Rattle.executor_model.proofs.OwnQueues.RunsDone.{lists, deed-act, is_loud, loud, loud-weigh, poll_in, Stole, More, no_more}
 use Rattle.executor_model.proofs.OwnQueues.RunsDone.{one_more, Missing, Leads, quiet, slumbering, turns, finds, stole, looks}
 use Rattle.executor_model.proofs.OwnQueues.RunsSeen.{seen, Seen, seen-act}
@@ -103,6 +103,7 @@ empty-there w o d q e s f = record {
 
 stole-keeps : (r : ℕ) (x : RunPoll) (n : ℕ) (os : List Op) → Stole x n os → weigh (keeps_of r) os ≡ same r x.run
 stole-keeps r x n os (to_walk at left) = omega arith
+stole-keeps r x n os to_leave = omega arith
 stole-keeps r x n os _ = omega arith
 
 more-keeps : (r : ℕ) (s : Steal) (k : ℕ) (os : List Op) → More s k os → weigh (keeps_of r) os ≡ same r s.poll.run

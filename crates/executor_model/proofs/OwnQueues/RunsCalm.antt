@@ -3,7 +3,7 @@
 use Rattle.std.proofs.Common.{◌≡◌, ℕ, ◌≤◌, ◌%◌, List, length, Bool, true, false, refl, ap, arith}
 use Rattle.executor_model.proofs.Types.{Answer, ListOp, Op, RunOp, RunPoll, Section, TickOrRun, Steal, TickOp, UserOp, Waker}
 use Rattle.executor_model.specs.{Doing.act, Doing.list_act, Steps.accepts, Steps.react, Weights.weigh, World.World, World.Done}
-use Rattle.executor_model.proofs.OwnQueues.RunsDone.{to_walk, walk_ends, walk_on, Deed, keeps, takes, lacks, shares, grows}
+use Rattle.executor_model.proofs.OwnQueues.RunsDone.{to_leave, to_walk, walk_ends, walk_on, Deed, keeps, takes, lacks, shares, grows}
 use Rattle.executor_model.proofs.OwnQueues.RunsDone.{wakes, lists, deed-act, is_loud, loud, loud-weigh, poll_in, walks-by}
 use Rattle.executor_model.proofs.OwnQueues.RunsDone.{Stole, More, no_more, one_more, Walks, Missing, misses_there, Leads, finds}
 use Rattle.executor_model.proofs.{Types.Hint, Types.UserEnd, OwnQueues.RunsDone.stole, OwnQueues.RunsDone.looks}
@@ -62,6 +62,7 @@ module _ (n : RunPoll → ℕ) where
 
   stole-part : (x : RunPoll) (k : ℕ) (os : List Op) → Stole x k os → weigh (part_of n) os ≡ n x
   stole-part x k os (to_walk at left) = omega arith
+  stole-part x k os to_leave = omega arith
   stole-part x k os _ = omega arith
 
   more-part : (s : Steal) (k : ℕ) (os : List Op) → More s k os → weigh (part_of n) os ≡ n s.poll

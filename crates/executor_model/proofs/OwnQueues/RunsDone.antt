@@ -16,7 +16,7 @@ use Rattle.executor_model.specs.Acts.{is_copy_refused, mark_in, waker_goes}
 use Rattle.executor_model.specs.ActsOfSleepers.{look_tick_by, sleeper_goes, tell_and_return}
 use Rattle.executor_model.specs.Doing.{act, list_act, run_act, search_by_who, steal_act, tick_act}
 use Rattle.executor_model.specs.{OwnQueues.walks_steal, OwnQueues.walks_then, Weights.weigh, World.run_of}
-use Rattle.executor_model.proofs.OwnQueues.RunsMoving.{coat-found, coat-more, coat-search, coat-stolen, coat-tick, is_search}
+use Rattle.executor_model.proofs.OwnQueues.RunsMoving.{coat-found, coat-more, coat-refused, coat-search, coat-stolen, coat-tick, is_search}
 use Rattle.executor_model.proofs.OwnQueues.RunsAside.{apart-act, coat, is_run, runs_of}
 use Rattle.executor_model.proofs.{Steps.Lift.no_hint, OwnQueues.RunsMoving.walk-by}
 use Rattle.executor_model.specs.ActsOfRuns as runs
@@ -95,7 +95,7 @@ poll_in (StealOp.OwnLength s n) = s.poll
 poll_in (StealOp.Take s more) = s.poll
 poll_in (StealOp.Put s more f) = s.poll
 
--- the end of a steal, in a walk or in none: with what is found the run goes on in one of four ways
+-- the end of a steal, in a walk or in none: with what is found the run goes on in one of four ways; a walk may end with it
 pub data Stole (x : RunPoll) : ℕ → List Op → Type 0 where
   to_steal : (f : ℕ) →
       Stole x 0 (Op.Steal (StealOp.Length (record { poll = x; from = Common Urgent; then = Then.StealPlain f })) ∷ [])
@@ -104,6 +104,7 @@ pub data Stole (x : RunPoll) : ℕ → List Op → Type 0 where
   to_wake : Stole x 0 (Op.Run (RunOp.WakeOwn x) ∷ [])
   to_search : Stole x 0 (Op.Tick (TickOp.Search (runs.asleep x)) ∷ [])
   to_walk : (at left : ℕ) → Stole x 1 (Op.Run (RunOp.LookOwn x at left) ∷ [])
+  to_leave : Stole x 1 (Op.List ListOp.UnlockRead ∷ Op.Tick (TickOp.Search (runs.asleep x)) ∷ [])
 
 -- so many more are taken
 pub data More (s : Steal) : ℕ → List Op → Type 0 where
@@ -195,6 +196,11 @@ stole-by (Then.StealPlain f) w x = to_steal_plain f
 stole-by (Then.Run f) w x = stole-run_by _ w x f
 stole-by (Then.Walk at left) w x = to_walk at left
 
+stole-refused : (t : Then) (w : World) (x : RunPoll) (f : ℕ) →
+    Stole x (walks_then t) (loud (runs.put_refused t w x f).next)
+stole-refused (Then.Walk at left) w x f = to_leave
+stole-refused t w x f = stole-by t w x
+
 more-by : (n : ℕ) (w : World) (s : Steal) → More s n (loud (runs.steal_by n w s).next)
 more-by zero w s = no_more (stole-by s.then w s.poll)
 more-by (suc n) w s = one_more n
@@ -228,7 +234,8 @@ deed-put : (b : Bool) (p : ℕ) (w : World) (s : Steal) (k f : ℕ) →
     Deed w (Op.Steal (StealOp.Put s k f)) (runs.steal_put_by b p w s k f)
 deed-put true p w s k f =
     let v = runs.kept_by p w s.poll.run f in grows s k f (coat-more k v s) (more-by k v s)
-deed-put false p w s k f = keeps (coat-stolen s.then w s.poll) (stole (StealOp.Put s k f) (stole-by s.then w s.poll))
+deed-put false p w s k f =
+    keeps (coat-refused s.then w s.poll f) (stole (StealOp.Put s k f) (stole-refused s.then w s.poll f))
 
 deed-steal : (p : ℕ) (o : StealOp) (w : World) → Deed w (Op.Steal o) (steal_act p o w)
 deed-steal p (StealOp.Length s) w = deed-length _ w s

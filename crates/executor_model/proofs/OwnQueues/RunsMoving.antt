@@ -35,6 +35,10 @@ coat-stolen (Then.StealPlain f) w x = refl
 coat-stolen (Then.Run f) w x = coat-run_by _ w x f
 coat-stolen (Then.Walk at left) w x = refl
 
+pub coat-refused : (t : Then) (w : World) (x : RunPoll) (f : ℕ) → coat w ≡ coat (runs.put_refused t w x f).world
+coat-refused (Then.Walk at left) w x f = refl
+coat-refused t w x f = coat-stolen t w x
+
 pub coat-more : (n : ℕ) (w : World) (s : Steal) → coat w ≡ coat (runs.steal_by n w s).world
 coat-more zero w s = coat-stolen s.then w s.poll
 coat-more (suc n) w s = refl

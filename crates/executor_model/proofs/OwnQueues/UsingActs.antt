@@ -18,7 +18,7 @@ use Rattle.executor_model.proofs.OwnQueues.UsingRuns.{part-common, part-look, pa
 use Rattle.executor_model.proofs.OwnQueues.Using.{Mild, emptying_of, is_for_runs, lending_of, mild-aside, mild-lending}
 use Rattle.executor_model.proofs.OwnQueues.UsingWorlds.{Idle, count-set, idle, idle-act, idle-copy, idle-copy_sleeper}
 use Rattle.executor_model.proofs.OwnQueues.UsingKeeps.{KeepsUsed, Within, used-here, used-idle, used-stays, within-act}
-use Rattle.executor_model.proofs.OwnQueues.UsingRuns.{lessens-act, first-taken, idle-more, idle-stolen}
+use Rattle.executor_model.proofs.OwnQueues.UsingRuns.{lessens-act, first-taken, idle-more, idle-refused}
 use Rattle.executor_model.proofs.OwnQueues.Using.{mild-none, mild-polling, mild-running, polling_of}
 use Rattle.executor_model.proofs.OwnQueues.UsingWorlds.{idle-search, idle-sleep, is_over_stage, is_past, past-set}
 use Rattle.executor_model.proofs.{Types.WakerOp, Types.Hint, Types.Move, Steps.Asides.aside-owed, Steps.Lists.same_cases}
@@ -59,7 +59,7 @@ used-put true p w s more f e = λ r x a b h.
     ∙ (get_or-set_other w.own q r (own_of w q ++ f ∷ []) [] y.2 ∙ z)))
     (same_cases r q)) k h)
 used-put false p w s more f e =
-    used-idle w (Op.Steal (StealOp.Put s more f) ∷ []) (steal_put_by false p w s more f) (idle-stolen s.then w s.poll)
+    used-idle w (Op.Steal (StealOp.Put s more f) ∷ []) (steal_put_by false p w s more f) (idle-refused s.then w s.poll f)
     (λ r. subst (λ (c : Bool). Within r (Op.Steal (StealOp.Put s more f) ∷ []) (steal_put_by c p w s more f).next) e
     (within-steal r p (StealOp.Put s more f) w))
 

@@ -3,16 +3,16 @@
 use Rattle.std.proofs.Common.{◌≡◌, ℕ, zero, suc, ◌+◌, List, [], ◌∷◌, length, set, get_or, Bool, true, false, eqb, refl, ap, ◌∙◌}
 use Rattle.std.proofs.Common.{arith}
 use Rattle.executor_parts.specs.Marks.{other}
-use Rattle.executor_model.proofs.Types.{Plain, Urgent, Look, First, Second, Move, ListOp, Op, QueueOp, RunOp, RunPoll}
+use Rattle.executor_model.proofs.Types.{Plain, Urgent, Look, First, Second, Move, ListOp, Op, RunOp, RunPoll}
 use Rattle.executor_model.proofs.Types.{TickOrRun, SleeperOp, Source, Common, Own, Steal, StealOp, Then, TickOp, Hint}
-use Rattle.executor_model.specs.ActsOfRuns.{asleep, counted_by, found, kept_by, look_own_by, next_place, queue_at, run_by}
+use Rattle.executor_model.specs.ActsOfRuns.{asleep, counted_by, found, kept_by, look_own_by, next_place, put_refused, queue_at, run_by}
 use Rattle.executor_model.specs.ActsOfRuns.{search_common_by, search_own_by, steal_by, steal_length_by, steal_put_by}
 use Rattle.executor_model.specs.World.{World, Ticker, Awake, Asleep, Left, Done, own_of, put_own, run_of}
 use Rattle.executor_model.specs.{Acts.mark_in, ActsOfSleepers.found_by, ActsOfRuns.steal_take_by, ActsOfRuns.stolen}
 use Rattle.executor_model.specs.{ActsOfRuns.walk, Doing.act, Doing.list_act, Doing.steal_act, Weights.weigh}
 use Rattle.executor_model.proofs.OwnQueues.Using.{Mild, mild-none}
 use Rattle.executor_model.proofs.OwnQueues.RunsDone.{Deed, keeps, takes, lacks, shares, grows, wakes, lists, deed-act, poll_in}
-use Rattle.executor_model.proofs.OwnQueues.RunsMoving.{coat-common, coat-more, coat-stolen}
+use Rattle.executor_model.proofs.OwnQueues.RunsMoving.{coat-common, coat-more, coat-refused, coat-stolen}
 use Rattle.executor_model.proofs.OwnQueues.UsingWorlds.{idle-coat, Idle, idle, is_past}
 use Rattle.executor_model.proofs.{Steps.Lists.weigh-append, OwnQueues.RunsAside.coat}
 
@@ -85,10 +85,19 @@ module _ (v : Op → ℕ) (m : Mild v) (x : RunPoll) (n : ℕ) (c : Part v x n) 
   part-take from t [] k w = part-stolen t w
   part-take from t (f ∷ rest) k w = omega (arith, c.put from t k f)
 
+  part-refused : (t : Then) (w : World) (f : ℕ) → weigh v (put_refused t w x f).next ≡ n
+  part-refused (Then.Walk at left) w f = omega (
+    arith,
+    mild-none v m (Op.List ListOp.UnlockRead) refl,
+    mild-none v m (Op.Move Move.DropRunnable f) refl,
+    c.search,
+  )
+  part-refused t w f = omega (arith, mild-none v m (Op.Move Move.DropRunnable f) refl, part-stolen t w)
+
   part-put : (from : Source) (t : Then) (b : Bool) (p k f : ℕ) (w : World) →
       weigh v (steal_put_by b p w (record { poll = x; from = from; then = t }) k f).next ≡ n
   part-put from t true p k f w = part-more from t k (kept_by p w x.run f)
-  part-put from t false p k f w = omega (arith, mild-none v m (Op.Queue (QueueOp.Append f)) refl, part-stolen t w)
+  part-put from t false p k f w = part-refused t w f
 
   pub part-walk : (qs : List ℕ) (at left : ℕ) → weigh v (walk x qs at left) ≡ n
   part-walk qs at zero = omega (arith, mild-none v m (Op.List ListOp.UnlockRead) refl, c.copy)
@@ -156,6 +165,9 @@ first-taken w q f rest e =
 
 pub idle-stolen : (t : Then) (w : World) (x : RunPoll) → Idle w (stolen t w x).world
 idle-stolen t w x = idle-coat w (stolen t w x).world (coat-stolen t w x)
+
+pub idle-refused : (t : Then) (w : World) (x : RunPoll) (f : ℕ) → Idle w (put_refused t w x f).world
+idle-refused t w x f = idle-coat w (put_refused t w x f).world (coat-refused t w x f)
 
 pub idle-more : (n : ℕ) (w : World) (s : Steal) → Idle w (steal_by n w s).world
 idle-more n w s = idle-coat w (steal_by n w s).world (coat-more n w s)

@@ -12,7 +12,7 @@ use Rattle.executor_model.specs.Acts.{take_by, copy_awaiter_by, end_register_by,
 use Rattle.executor_model.specs.ActsOfSleepers.{copy_sleeper_by, sleep_again_by, sleep_anew_by, fall_asleep_by, sleep_listed_by}
 use Rattle.executor_model.specs.ActsOfSleepers.{pend_as, look_tick_by, sleeper_goes}
 use Rattle.executor_model.specs.Trace.{Trace, has, is_accepted}
-use Rattle.executor_model.specs.World.{World, Ticker, Awake, Asleep, Left, place_of, awaiter_of, task}
+use Rattle.executor_model.specs.World.{World, Ticker, Awake, Asleep, Left, awaiter_of, task}
 use Rattle.executor_model.specs.{Acts.register_by, Acts.reply_of, CallsMean.HasAccepted, Carried.awaiter_ops, Doing.act}
 use Rattle.executor_model.specs.{Doing.search_by_who, OutputOnce.is_output_given, Weights.weigh}
 use Rattle.executor_model.proofs.Promises.CallPromises.{made_of, misfit, ready_of, serves, taking_of, yes_of, polls, polls_by}

@@ -13,7 +13,7 @@ use Rattle.executor_model.specs.ActsOfSleepers.{copy_sleeper_by, sleep_again_by,
 use Rattle.executor_model.specs.Acts.{look_again_by, look_by, polled, register_by, reply_of, take_by}
 use Rattle.executor_model.specs.ActsOfSleepers.{make_tick_by, pend_as, look_tick_by, sleeper_goes}
 use Rattle.executor_model.specs.Doing.{act, search_by_who}
-use Rattle.executor_model.specs.World.{World, Ticker, Awake, Asleep, Left, awaiter_of, log, place_of, task}
+use Rattle.executor_model.specs.World.{World, Ticker, Awake, Asleep, Left, awaiter_of, log, task}
 use Rattle.executor_model.specs.{CallsMean.is_reply, Carried.awaiter_ops, Steps.accepts, Steps.react, Weights.weigh}
 use Rattle.executor_model.proofs.Promises.CallPromises.{polls_run, asks, copies, leaves, makes_run, makes_tick, misfit}
 use Rattle.executor_model.proofs.Steps.RunsNext.{BlindToSearches, common-unseen, look-unseen, own-unseen, steal-unseen}

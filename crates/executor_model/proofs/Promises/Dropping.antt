@@ -64,7 +64,7 @@ Begins w old d = (p : ℕ) × ((f : ℕ) × ((old ≡ Op.User (UserOp.BeginDrop 
 
 leaves-effect : (w : World) (old : List Op) (d : Done) (g : ℕ) → Effect w old d →
     (weigh (leaves_of g) d.next ≤ weigh (leaves_of g) old) ⊎ Begins w old d
-leaves-effect w old d g (passes s) =
+leaves-effect w old d g (passes s c) =
     inl (⊎_elim (λ x. omega (arith, x)) (λ x. omega (arith, x.1)) (s g none no_extra).stays.leaves)
 leaves-effect w old _ g (turns d m p f v rest i j k s a e) =
     let own : weigh (leaves_of g) (move_by true m p v f).next ≡ 0 =

@@ -2,7 +2,7 @@
 -- Nothing that is done, but the beginning of a poll of a run that has ended, leads to the answer that a run is finished.
 use Rattle.std.proofs.Common.{◌≡◌, ℕ, List, [], ◌∷◌, length, refl, ap}
 use Rattle.std.specs.Prelude.{Option, Some, None}
-use Rattle.executor_model.proofs.Types.{By, Call, Reply, Event, Hold, Op, Polled, RunPoll, UserOp, Waker, Hint, UserEnd, Answer}
+use Rattle.executor_model.proofs.Types.{By, Call, Reply, Event, Hold, Op, RunPoll, UserOp, Waker, Hint, UserEnd, Answer}
 use Rattle.executor_model.specs.Steps.{begun, drop_run, future_of, kept, poll_run, react, with_future}
 use Rattle.executor_model.specs.World.{World, Stage, New, Listed, Ended, Done, log, run_of}
 use Rattle.executor_model.specs.{Doing.act, Weights.weigh}

@@ -35,7 +35,7 @@ use Rattle.executor_model.proofs.{Table.LeavingExecutions.Placed, Table.Spawning
 -- the limit stays
 
 limit-effect : (w : World) (old : List Op) (d : Done) → Effect w old d → d.world.limit ≡ w.limit
-limit-effect w old d (passes s) = (s 0 none no_extra).stays.limit
+limit-effect w old d (passes s c) = (s 0 none no_extra).stays.limit
 limit-effect w old _ (turns d m p f v more i j k s a e) =
     ap (λ (x : World). x.limit) a ∙ (ap (λ (x : World). x.limit) (told-world (is_last_waker m (task v f)) (is_told m (task v f)) m p v f)
     ∙ (s 0 none no_extra).stays.limit)

@@ -8,13 +8,13 @@ use Rattle.executor_model.specs.World.{World, Ticker, Awake, Asleep, Left, Stage
 use Rattle.executor_model.specs.ActsOfRuns.{asleep, call_by_reference, counted_by, found, kept_by, look_own_by, make_room_by}
 use Rattle.executor_model.specs.ActsOfRuns.{make_run_by, next_place, queue_at, reschedule_by, run_by, search_common_by}
 use Rattle.executor_model.specs.ActsOfRuns.{search_own, search_own_by, steal_by, steal_length_by, steal_put_by, steal_take_by}
-use Rattle.executor_model.specs.ActsOfRuns.{stolen, wake_own, walk}
+use Rattle.executor_model.specs.ActsOfRuns.{put_refused, stolen, wake_own, walk}
 use Rattle.executor_model.specs.{Weights.weigh, World.run_of, World.task, ActsOfSleepers.found_by, Doing.list_act}
 use Rattle.executor_model.specs.{Doing.run_act, Doing.steal_act, Steps.drop_run, Steps.poll_run}
 use Rattle.executor_model.proofs.Quiet.Calls.{calling_of, Steady, steady-and, steady-log, steady-log_if, steady-same, Answering}
 use Rattle.executor_model.proofs.Steps.RunsMoves.{Moves, moves-common, moves-length, moves-list, moves-look, moves-make_room}
 use Rattle.executor_model.proofs.Quiet.Calls.{Calls, answers, before, calls-turn, inside, none-owed, single, then}
-use Rattle.executor_model.proofs.Steps.RunsMoves.{moves-own, moves-own_length, moves-put_back, moves-reschedule, moves-take}
+use Rattle.executor_model.proofs.Steps.RunsMoves.{moves-own, moves-own_length, moves-refused, moves-reschedule, moves-take}
 use Rattle.task_moves.specs.Moves as moves
 
 -- what follows answers the call
@@ -111,6 +111,11 @@ steady-moves w old d m = steady-same w d.world m.same.trace
 moved : (w : World) (o : Op) (d : Done) → calling_of o ≡ 1 → Moves w (o ∷ []) d → Answering d.next → Calls w o d
 moved w o d z m a = answers w o d z (steady-moves w (o ∷ []) d m) a
 
+one-refused : (t : Then) (w : World) (x : RunPoll) (f : ℕ) → Answering (put_refused t w x f).next
+one-refused (Then.Walk at left) w x f =
+    then (Op.List ListOp.UnlockRead ∷ Op.Move Move.DropRunnable f ∷ []) (Op.Tick (TickOp.Search (asleep x))) refl refl
+one-refused t w x f = before (Op.Move Move.DropRunnable f ∷ []) _ refl (one-stolen t w x)
+
 calls-put : (b : Bool) (p : ℕ) (w : World) (s : Steal) (more f : ℕ) →
     Calls w (Op.Steal (StealOp.Put s more f)) (steal_put_by b p w s more f)
 calls-put true p w s more f =
@@ -118,8 +123,7 @@ calls-put true p w s more f =
     answers w _ _ refl (steady-and w v _ (steady-log w v (Event.Kept p f s.poll.run) refl (λ q. refl) (λ q. refl))
     (steady-moves v (Op.Steal (StealOp.OwnLength s 0) ∷ []) _ (moves-own_length more 0 v s))) (one-more more v s)
 calls-put false p w s more f =
-    moved w _ _ refl (moves-put_back w s more f)
-    (before (Op.Queue (QueueOp.Append f) ∷ []) _ refl (one-stolen s.then w s.poll))
+    moved w _ _ refl (moves-refused s.then w s.poll s.from more f) (one-refused s.then w s.poll f)
 
 pub calls-steal : (p : ℕ) (o : StealOp) (w : World) → Calls w (Op.Steal o) (steal_act p o w)
 calls-steal p (StealOp.Length s) w = moved w _ _ refl (moves-length _ w s) (one-length _ w s)

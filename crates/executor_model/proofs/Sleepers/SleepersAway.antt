@@ -238,15 +238,18 @@ away-length zero w s = away-stays w _ (stays-stolen s.then w s.poll)
     (stolen-unseen owes_of no-owes-searching s.then w s.poll) (wakes_up-stolen s.then w s.poll)
 away-length (suc n) w s = away w _ refl refl refl
 
+away-refused : (t : Then) (w : World) (x : RunPoll) (f : ℕ) → Away w (runs.put_refused t w x f)
+away-refused (Then.Walk at left) w x f = away w _ refl refl refl
+away-refused t w x f = away-stays w (runs.put_refused t w x f) (stays-stolen t w x)
+    (omega (arith, stolen-unseen owes_of no-owes-searching t w x)) (wakes_up-stolen t w x)
+
 away-put : (b : Bool) (p : ℕ) (w : World) (s : Steal) (more f : ℕ) → Away w (runs.steal_put_by b p w s more f)
 away-put true p w s more f =
     let v = runs.kept_by p w s.poll.run f in
     let m = stays-more more v s in
     away-run w (runs.steal_by more v s) m.sleepers_seen m.queue (more-unseen owes_of no-owes-searching more v s)
     (wakes_up-more more v s)
-away-put false p w s more f =
-    away-stays w (runs.steal_put_by false p w s more f) (stays-stolen s.then w s.poll)
-    (omega (arith, stolen-unseen owes_of no-owes-searching s.then w s.poll)) (wakes_up-stolen s.then w s.poll)
+away-put false p w s more f = away-refused s.then w s.poll f
 
 away-steal : (p : ℕ) (o : StealOp) (w : World) → Away w (steal_act p o w)
 away-steal p (StealOp.Length s) w = away-length _ w s

@@ -16,7 +16,7 @@ use Rattle.executor_model.specs.ActsOfSleepers.{look_tick_by, copy_sleeper_by, s
 use Rattle.executor_model.specs.ActsOfSleepers.{sleep_again_by, fall_asleep_by, wake_up_by, given_back, tell_and_return}
 use Rattle.executor_model.specs.ActsOfRuns.{counted_by, found, kept_by, make_room_by, make_run_by, registered, return_room}
 use Rattle.executor_model.specs.ActsOfRuns.{search_common_by, search_own_by, steal_by, steal_length_by, steal_put_by}
-use Rattle.executor_model.specs.ActsOfRuns.{steal_take_by, stolen}
+use Rattle.executor_model.specs.ActsOfRuns.{put_refused, steal_take_by, stolen}
 use Rattle.executor_model.specs.Doing.{act, list_act, search_by_who, sleeper_act, steal_act, tick_act}
 use Rattle.executor_model.specs.Steps.{accepts, begun, future_of, react, with_future, kept}
 use Rattle.executor_model.specs.SleepersTold.{tells_of, tells_steal, tells_then, tells_look}
@@ -354,10 +354,15 @@ module _ (mark : Mark) where
   tells-take [] w s more = tells-stolen s.then w s.poll
   tells-take (f ∷ rest) w s more = omega arith
 
+  tells-refused : (t : Then) (w : World) (x : RunPoll) (f : ℕ) →
+      tells_then t ≤ weigh (tells_of mark) (put_refused t w x f).next
+  tells-refused (Then.Walk at left) w x f = omega arith
+  tells-refused t w x f = omega (arith, tells-stolen t w x)
+
   tells-put : (b : Bool) (p : ℕ) (w : World) (s : Steal) (more f : ℕ) →
       tells_then s.then ≤ weigh (tells_of mark) (steal_put_by b p w s more f).next
   tells-put true p w s more f = tells-more more (kept_by p w s.poll.run f) s
-  tells-put false p w s more f = omega (arith, tells-stolen s.then w s.poll)
+  tells-put false p w s more f = tells-refused s.then w s.poll f
 
   tells-steal : (p : ℕ) (o : StealOp) (w : World) → tells_steal o ≤ weigh (tells_of mark) (steal_act p o w).next
   tells-steal p (StealOp.Length s) w = tells-length _ w s

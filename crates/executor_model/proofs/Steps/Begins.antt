@@ -14,7 +14,7 @@ use Rattle.executor_model.specs.Weights.{weigh, weigh_all, past, waker_past}
 use Rattle.executor_model.specs.Rows.{borrowing_of, leaking_of, polls_of, past_of, Row}
 use Rattle.executor_model.specs.{Sound.Sound, Sound.Pend, Sound.with_ops, Good.Fits, Steps.begun}
 use Rattle.executor_model.proofs.Steps.Lists.{same_is, past_is, phase-push, wakers_past-used, weigh_all-below}
-use Rattle.executor_model.proofs.OneFuture.Effects.Effect.{passes}
+use Rattle.executor_model.proofs.OneFuture.Effects.{passed}
 use Rattle.executor_model.proofs.OneFuture.EffectsCalls.{by_call, goes-begun}
 use Rattle.executor_model.proofs.Steps.RunsPlain.{plain-list, plain-run, plain-steal}
 use Rattle.executor_model.proofs.{Counts.SoundAll.sound-effect, Counts.Fitting.Grows, Steps.Growing.KeepsHere}
@@ -239,7 +239,7 @@ sound-begun w p ss others here = by_call _
     (not-static w.is_static st) z
     (omega (arith, z, polls-borrow-all g others))))
     (λ c d le on st un g. sound-effect w [] (begun p (log w (Event.CallBegun p c)) here c)
-    (passes (goes-begun p w here c d (λ e. open_executor w c e on))) g _)
+    (passed (goes-begun p w here c d (λ e. open_executor w c e on))) g _)
 
 -- and that what is to do speaks of futures that are there
 pub begins : (w : World) (p : ℕ) (ss : List (List Op)) (o : Option Op) (here : Option Waker) (c : Call) →

@@ -7,7 +7,7 @@ use Rattle.executor_parts.specs.Marks.{first_of, turn_after}
 use Rattle.executor_model.proofs.Types.{ClosingOp, Event, HandleOp, Hint, Hold, Look, First, Second, Mark, Plain, Urgent, Move}
 use Rattle.executor_model.proofs.Types.{Moved, Op, Polled, QueueOp, RunOp, RunPoll, SleeperOp, Sleeping, Steal, StealOp}
 use Rattle.executor_model.proofs.Types.{TableOp, TickOp, TickOrRun, UserOp, Waker, Task, Outside, WakerOp}
-use Rattle.executor_model.specs.Doing.{act, search_by_who, tick_act}
+use Rattle.executor_model.specs.Doing.{act, search_by_who}
 use Rattle.executor_model.specs.World.{World, Ticker, Awake, Asleep, Left, log, log_if, own_of, put, put_own, task}
 use Rattle.executor_model.proofs.Steps.Parts.Tells.{woken, last_waker, leaked, looked, handle_polled, output_given}
 use Rattle.executor_model.proofs.Steps.Parts.Tells.{output_dropped, drop_ended, accepted, future_dropped, next_dropped}
@@ -15,7 +15,7 @@ use Rattle.executor_model.proofs.Steps.RunsMoves.{Same, moves-common, moves-leng
 use Rattle.executor_model.proofs.Steps.RunsMoves.{moves-own_length, moves-reschedule, moves-return_room, moves-take, same-found}
 use Rattle.executor_model.proofs.Steps.Parts.{PartsOf, Tells, stay-same, told, enters, lists, places, turns}
 use Rattle.executor_model.proofs.Steps.Parts.Tells.{awaiter_called, sleeper_called, own_called, runnable_kept, ended}
-use Rattle.executor_model.proofs.Steps.RunsMoves.{same-stolen}
+use Rattle.executor_model.proofs.Steps.RunsMoves.{moves-refused}
 use Rattle.executor_model.specs.Acts as acts
 use Rattle.executor_model.specs.ActsOfRuns as runs
 use Rattle.executor_model.specs.ActsOfSleepers as sleepers
@@ -228,7 +228,7 @@ module _ (R : World → World → Type 0) (p : ℕ) (o : Op) (l : PartsOf R p o)
       let v = put_own w s.poll.run (own_of w s.poll.run ++ f ∷ []) in
       let x = runs.kept_by p w s.poll.run f in
       l.both w x _ (l.both w v x (l.aside w v refl) (l.tells v _ t)) (by-same x _ (moves-own_length more more x s).same)
-  by-put false w s more f t = by-same w _ (same-stolen s.then w s.poll)
+  by-put false w s more f t = by-same w _ (moves-refused s.then w s.poll s.from more f).same
 
 pub by-act : (R : World → World → Type 0) (p : ℕ) (h : Hint) (o : Op) (w : World) → PartsOf R p o → R w (act p h o w).world
 by-act R p h (Op.Move m f) w l = by-move R p _ l _ m w f (told m f)

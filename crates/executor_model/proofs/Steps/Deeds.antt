@@ -4,7 +4,7 @@ pub use Rattle.executor_model.proofs.Quiet.Calls.{is_end}
 use Rattle.std.proofs.Common.{◌≡◌, ◌≢◌, ℕ, [], ◌∷◌, ◌++◌, Bool, true, false, ◌||◌, refl, sym, ap, ◌∙◌, append-nil, arith}
 use Rattle.std.{proofs.lemmas.Bool.Decides.nat_tests, proofs.lemmas.List.append_assoc, specs.Prelude.Option}
 use Rattle.executor_model.proofs.Types.{Call, Event, Op, Waker, Hint, UserEnd}
-use Rattle.executor_model.specs.Steps.{kept, begun, react}
+use Rattle.executor_model.specs.Steps.{begun, react}
 use Rattle.executor_model.specs.{World.World, Doing.act, Trace.Trace, Trace.has, Deeds.doer, Deeds.is_by}
 use Rattle.executor_model.proofs.Steps.Tests.{left-false, or-false, right-false}
 use Rattle.executor_model.proofs.Steps.Parts.{Parts, Stay, Tells, Begins, Answers, by-begun, by-react}

@@ -5,7 +5,7 @@ pub use Rattle.executor_model.proofs.Steps.Parts.{lists}
 use Rattle.std.proofs.Common.{◌≡◌, ℕ, List, Bool, true, false, refl, ap, ◌∙◌}
 use Rattle.std.specs.Prelude.{Option}
 use Rattle.executor_model.proofs.Types.{Move, Call, Event, Op, Waker, Hint, UserEnd}
-use Rattle.executor_model.specs.{Acts.move_by, Steps.accepts, Steps.begun, Steps.kept, Steps.react, World.World, Doing.act}
+use Rattle.executor_model.specs.{Acts.move_by, Steps.accepts, Steps.begun, Steps.react, World.World, Doing.act}
 use Rattle.executor_model.proofs.Steps.ByParts.{by-act, by-move}
 use Rattle.executor_model.proofs.Steps.Parts.{Parts, Stay, by-begun, by-react, told}
 

@@ -4,7 +4,7 @@ pub use Rattle.executor_model.proofs.Steps.Parts.{enters as lists}
 use Rattle.std.proofs.Common.{◌≡◌, ℕ, List, length, Bool, true, false, refl, sym, ap, ◌∙◌}
 use Rattle.std.{proofs.Math.ListN.length-set, specs.Prelude.Option}
 use Rattle.executor_model.proofs.Types.{Mark, State, Call, Event, Op, Waker, Hint, UserEnd}
-use Rattle.executor_model.specs.{Steps.accepts, Steps.begun, Steps.kept, Steps.react, World.World, World.put, Doing.act}
+use Rattle.executor_model.specs.{Steps.accepts, Steps.begun, Steps.react, World.World, World.put, Doing.act}
 use Rattle.executor_model.proofs.Steps.ByParts.{by-act}
 use Rattle.executor_model.proofs.Steps.Parts.{Parts, Stay, by-begun, by-react}
 

@@ -1,7 +1,7 @@
 -- For the_table_is_kept.
 -- Which things that are done lead to user code of a future, or to its way back: no others do.
 pub use Rattle.executor_model.proofs.Table.LeakCounts.{leads_near}
-use Rattle.std.proofs.Common.{◌≡◌, ℕ, false, refl, arith, ◌||◌, ◌⊎◌, ⊎_elim, subst, sym}
+use Rattle.std.proofs.Common.{◌≡◌, ℕ, false, refl, arith, ◌||◌, ⊎_elim, subst, sym}
 use Rattle.std.specs.Prelude.{Option}
 use Rattle.executor_model.proofs.Types.{Call, ClosingOp, Op, Waker, Hint}
 use Rattle.executor_model.specs.{Steps.begun, World.World, Doing.act, Weights.weigh}

@@ -1,8 +1,7 @@
 -- For all laws.
 -- What stands in the executor's two queues together, and what is kept of each, where the queue of one mark changes.
-use Rattle.std.proofs.Common.{◌≡◌, ◌≢◌, ◌⊎◌, inl, inr, ◌∙◌, ℕ, suc, ◌+◌, ◌≤◌, List, [], ◌∷◌, ◌++◌, length, drop, Bool, true}
+use Rattle.std.proofs.Common.{◌≡◌, ◌≢◌, ◌⊎◌, inl, inr, ℕ, suc, ◌+◌, ◌≤◌, List, [], ◌∷◌, ◌++◌, length, drop, Bool, true}
 use Rattle.std.proofs.Common.{false, ◌||◌, refl, arith, length-append}
-use Rattle.std.specs.Prelude.{Option}
 use Rattle.queue_steps.specs.ClosableQueue.{ClosableQueue, appended, taken, shut}
 use Rattle.executor_parts.specs.Marks.{other}
 use Rattle.executor_model.proofs.Types.{Mark, Plain, Urgent}

@@ -5,10 +5,10 @@ use Rattle.std.proofs.Common.{◌≡◌, ℕ, zero, suc, ◌+◌, ◌<◌, List,
 use Rattle.std.proofs.Common.{refl, ap, ◌∙◌, ◌%◌, arith}
 use Rattle.queue_steps.specs.ClosableQueue.{taken}
 use Rattle.executor_parts.specs.Sleepers.{Sleepers}
-use Rattle.executor_model.proofs.Types.{First, Second, Look, Mark, Reply, ListOp, Op, QueueOp, RunOp, RunPoll, Section}
+use Rattle.executor_model.proofs.Types.{First, Second, Look, Mark, Reply, ListOp, Op, RunOp, RunPoll, Section}
 use Rattle.executor_model.proofs.Types.{TickOrRun, SleeperOp, Sleeping, Source, Common, Own, Steal, StealOp, Then, TickOp}
 use Rattle.executor_model.specs.World.{put_queue, queue_of, World, Ticker, Awake, Asleep, Left, Stage, New, Listed, Ended, Run}
-use Rattle.executor_model.specs.ActsOfRuns.{behind, lock_read, return_room, run_by, counted_by, counted_to, found, make_run_by}
+use Rattle.executor_model.specs.ActsOfRuns.{lock_read, put_refused, return_room, run_by, counted_by, counted_to, found, make_run_by}
 use Rattle.executor_model.specs.ActsOfRuns.{registered, walk, next_place, queue_at, search_own_by, search_common_by}
 use Rattle.executor_model.specs.ActsOfRuns.{look_own_by, source_of, stolen, steal_length_by, steal_by, steal_take_by}
 use Rattle.executor_model.specs.World.{Lock, Done, own_of, put_own, run_of}
@@ -259,12 +259,17 @@ moves-take (Own r) (f ∷ rest) w x t more e = record {
   lent = λ z. absurd (omega (arith, z));
 }
 
--- one that finds no place is scheduled
-pub moves-put_back : (w : World) (s : Steal) (more f : ℕ) → Moves w (Op.Steal (StealOp.Put s more f) ∷ [])
-    (behind (Op.Queue (QueueOp.Append f) ∷ []) (stolen s.then w s.poll))
-moves-put_back w s more f = record {
-  same = same-stolen s.then w s.poll;
-  moved = λ g. omega (arith, queued-stolen g s.then w s.poll, waiting-stolen g s.then w s.poll);
+-- one that finds no place is dropped
+pub moves-refused : (t : Then) (w : World) (x : RunPoll) (from : Source) (more f : ℕ) →
+    Moves w (Op.Steal (StealOp.Put (record { poll = x; from = from; then = t }) more f) ∷ []) (put_refused t w x f)
+moves-refused (Then.Walk at left) w x from more f = record {
+  same = same-here w _ _ _ _;
+  moved = λ g. omega arith;
+  lent = λ z. absurd (omega (arith, z));
+}
+moves-refused t w x from more f = record {
+  same = same-stolen t w x;
+  moved = λ g. omega (arith, queued-stolen g t w x, waiting-stolen g t w x);
   lent = λ z. absurd (omega (arith, z));
 }
 

@@ -2,8 +2,8 @@
 -- What each thing to do, and the beginning of a call, adds to the trace.
 use Rattle.std.proofs.Common.{◌≡◌, ◌∙◌, ℕ, [], ◌∷◌, ◌++◌, Bool, true, false, refl, sym, ap, append-nil}
 use Rattle.std.{proofs.lemmas.List.append_assoc, specs.Prelude.Option}
-use Rattle.executor_model.proofs.Types.{Move, Call, Event, Op, Steal, StealOp, Waker, Hint, UserEnd}
-use Rattle.executor_model.specs.Steps.{accepts, begun, kept, react}
+use Rattle.executor_model.proofs.Types.{Move, Call, Event, Op, StealOp, Waker, Hint, UserEnd}
+use Rattle.executor_model.specs.Steps.{accepts, begun, react}
 use Rattle.executor_model.specs.{Doing.act, World.World, Trace.Trace, Trace.has}
 use Rattle.executor_model.proofs.Steps.Parts.{Parts, Stay, Tells, Begins, Answers, by-begun, by-react}
 use Rattle.executor_model.proofs.Steps.Parts.Tells.{began, runnable_kept, ended}

@@ -9,7 +9,8 @@ use Rattle.executor_model.proofs.OneFuture.Effects.Effect.{drops_next, leaks, le
 use Rattle.executor_model.proofs.OneFuture.EffectsWays.{Effects, effects-way}
 use Rattle.executor_model.proofs.OneFuture.EffectsWays.Effects.{does, pends, readies, closes}
 use Rattle.executor_model.proofs.{Types.Kind, Types.Event, Types.Op, Types.Step, OneFuture.Effects.Effect}
-use Rattle.executor_model.proofs.{OneFuture.Extras.no_extra, OneFuture.Passes.GoesBy, OneFuture.Stories.length-without}
+use Rattle.executor_model.proofs.{OneFuture.Extras.no_extra, OneFuture.Passes.ShiftsBy, OneFuture.Passes.shifts}
+use Rattle.executor_model.proofs.OneFuture.Stories.{length-without}
 use Rattle.executor_model.proofs.{OneFuture.Stories.no-longer, OneFuture.Views.none, Steps.Lift.good-start, Steps.Ways.along}
 
 -- the table, and those that the drop of the executor has taken out of it
@@ -21,7 +22,7 @@ abbrev pub KeepsBound : World → World → Type 0
 KeepsBound w v = Bound w → Bound v
 
 -- where each future has as many entries as before
-bound-goes : (w v : World) (old next : List Op) → GoesBy w old (done v next) → KeepsBound w v
+bound-goes : (w v : World) (old next : List Op) → ShiftsBy w old (done v next) → KeepsBound w v
 bound-goes w v old next s h =
     let l : v.limit ≡ w.limit = (s 0 none no_extra).stays.limit in
     let t : length v.table ≤ length w.table =
@@ -35,9 +36,9 @@ bound-log_if true w e h = record { table = h.table; leaving = h.leaving }
 bound-log_if false w e h = h
 
 bound-effect : (w : World) (old : List Op) (d : Done) → Effect w old d → KeepsBound w d.world
-bound-effect w old d (passes s) h = bound-goes w d.world old d.next s h
+bound-effect w old d (passes s c) h = bound-goes w d.world old d.next s h
 bound-effect w old _ (turns d m p f v more i j k s a e) h =
-    let x : Bound v = bound-goes w v old (Op.Move m f ∷ more) s h in
+    let x : Bound v = bound-goes w v old (Op.Move m f ∷ more) (λ g r y. shifts _ _ (s g r y)) h in
     let t : World = log_if (is_told m (task v f)) v (told_as m p f) in
     let z : Bound t = bound-log_if (is_told m (task v f)) v (told_as m p f) x in
     let u : World = log_if (is_last_waker m (task v f)) t (Event.LastWaker p f) in

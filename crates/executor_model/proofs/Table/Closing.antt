@@ -56,7 +56,7 @@ ousts-closing [] (x ∷ ws) = refl
 ousts-closing (x ∷ ls) ws = refl
 
 ousts-effect : (w : World) (old : List Op) (d : Done) → Effect w old d → weigh ousting_of d.next ≤ weigh ousting_of old
-ousts-effect w old d (passes s) = omega (arith, (s 0 none no_extra).passes.ousting)
+ousts-effect w old d (passes s c) = omega (arith, (s 0 none no_extra).passes.ousting)
 ousts-effect w old _ (turns d m p f v rest i j k s a e) =
     let own : weigh ousting_of (move_by true m p v f).next ≡ 0 =
     aside-owed ousting_of ousts-aside f _ (moves.after m (task v f)).owed in

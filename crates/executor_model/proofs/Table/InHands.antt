@@ -20,7 +20,8 @@ use Rattle.executor_model.proofs.OneFuture.Effects.{Effect, turned-keeps}
 use Rattle.executor_model.proofs.OneFuture.Effects.Effect.{drops_next, leaks, leaks_out}
 use Rattle.executor_model.proofs.OneFuture.EffectsWays.{Effects, each-run, view}
 use Rattle.executor_model.proofs.OneFuture.EffectsWays.Effects.{does, pends, readies, closes}
-use Rattle.executor_model.proofs.{Types.Step, OneFuture.Passes.Goes, Steps.Lift.good, OneFuture.Telling.detached-from}
+use Rattle.executor_model.proofs.{Types.Step, OneFuture.Passes.Shifts, OneFuture.Passes.shifts, Steps.Lift.good}
+use Rattle.executor_model.proofs.OneFuture.Telling.{detached-from}
 
 pub record InHands (x : Seen) : Type 0 where
   pub held : x.number < x.tasks → x.state.completed ≡ false → x.state.closed ≡ false →
@@ -29,7 +30,7 @@ pub record InHands (x : Seen) : Type 0 where
   pub gone : x.story.detached ≡ true → x.state.handle ≡ false
   pub known : x.tasks ≤ x.number → x.story.detached ≡ false
 
-hands-passes : (x y : Seen) → Goes x y → InHands x → InHands y
+hands-passes : (x y : Seen) → Shifts x y → InHands x → InHands y
 hands-passes x y s h = grind arith
 
 hands-loose : (x : Seen) (p q : Pend) (a b : Extra) → Alike p q a b → InHands (record x { pend = p; extra = a }) →
@@ -110,10 +111,10 @@ hands-leaked : (d : Done) (p f g : ℕ) (r : Pend) (y : Extra) → HasAsked d.wo
 hands-leaked d p f g r y a h = leaked-keeps InHands (λ x a h. grind arith) d.world p f g r y a h
 
 hands-effect : (w : World) (old : List Op) (d : Done) → Effect w old d → KeepsHands w old d
-hands-effect w old d (passes s) g r y b h = hands-passes _ _ (s g r y) h
+hands-effect w old d (passes s c) g r y b h = hands-passes _ _ (s g r y) h
 hands-effect w old _ (turns d m p f v more i j n s a e) g r y b h =
     turned-keeps Sure InHands (λ m x. stands_alone m ≡ true) hands-moved hands-loose (λ x y z. sound-passes x y z.passes)
-    (λ x y z b. hands-passes x y z) w old d m p f v more i (λ q u. j) s a e g r y b h
+    (λ x y z b. hands-passes x y (shifts x y z)) w old d m p f v more i (λ q u. j) s a e g r y b h
 hands-effect w old d (refuses f e) g r y b h = grind arith
 hands-effect w old d (enters mark p e) g r y b h = hands-enters mark p w g r y b h
 hands-effect w old d (unlists f e) g r y b h = grind arith

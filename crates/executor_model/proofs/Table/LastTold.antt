@@ -19,7 +19,8 @@ use Rattle.executor_model.proofs.OneFuture.Effects.Effect.{drops_next, leaks, le
 use Rattle.executor_model.proofs.OneFuture.EffectsWays.Effects.{does, pends, readies, closes}
 use Rattle.executor_model.proofs.OneFuture.Extras.{closing_of, extra, no_extra}
 use Rattle.executor_model.proofs.{OneFuture.Effects.Effect, OneFuture.Effects.Wakes, OneFuture.EffectsWays.Effects}
-use Rattle.executor_model.proofs.{OneFuture.EffectsWays.effects-way, OneFuture.Passes.GoesBy, OneFuture.Views.none}
+use Rattle.executor_model.proofs.{OneFuture.EffectsWays.effects-way, OneFuture.Passes.ShiftsBy, OneFuture.Passes.shifts}
+use Rattle.executor_model.proofs.OneFuture.Views.{none}
 use Rattle.executor_model.proofs.{Promises.OutsideCalls.way-more, Steps.Lift.good, Steps.Lift.split, Steps.Ways.Made}
 use Rattle.executor_model.proofs.{Steps.Ways.Way, Steps.Ways.made, Steps.Ways.Way.acted, Steps.Ways.Way.called}
 use Rattle.executor_model.proofs.{Steps.Ways.Way.reacted, Table.LeavingExecutions.Placed, Table.LeavingExecutions.placed}
@@ -178,7 +179,7 @@ moved-why m p w f true a o e more t = ⊎_elim
 
 -- where nothing but a move of a task is done, none is closed
 
-goes-open : (w : World) (old : List Op) (d : Done) (g : ℕ) → GoesBy w old d → IsOpen w g → IsOpen d.world g
+goes-open : (w : World) (old : List Op) (d : Done) (g : ℕ) → ShiftsBy w old d → IsOpen w g → IsOpen d.world g
 goes-open w old d g s o =
     let q = (s g none no_extra).passes in (
       q.completed ∙ o.0,
@@ -232,9 +233,10 @@ shut-turn w v old m p f g true z (inr k) o e =
     let i : f ≡ g = grind (arith, nat_tests) in (m, k.1 ∙ ap (λ (n : ℕ). Op.Move m n ∷ []) i)
 
 shut-effect : (w : World) (old : List Op) (d : Done) (g : ℕ) → Effect w old d → IsOpen w g → IsShut d.world g → Moves old g
-shut-effect w old d g (passes s) o u = absurd (no-shut (task d.world g) (goes-open w old d g s o) u)
+shut-effect w old d g (passes s c) o u = absurd (no-shut (task d.world g) (goes-open w old d g s o) u)
 shut-effect w old _ g (turns d m p f v more i j k s a e) o u =
-    shut-turn w v old m p f g (eqb g f) refl k (goes-open w old (record { world = v; next = Op.Move m f ∷ more }) g s o)
+    shut-turn w v old m p f g (eqb g f) refl k
+    (goes-open w old (record { world = v; next = Op.Move m f ∷ more }) g (λ h r y. shifts _ _ (s h r y)) o)
     (subst (λ (x : World). IsShut x g) a u)
 shut-effect w old d g (refuses f e) o u = absurd (no-shut (task w g) o u)
 shut-effect w old d g (enters mark p e) o u =

@@ -36,7 +36,7 @@ static-moved m p w f =
     ap (λ (v : World). v.is_static) (told-world (is_last_waker m (task w f)) (is_told m (task w f)) m p w f)
 
 static-effect : (w : World) (old : List Op) (d : Done) → Effect w old d → Becomes w old d
-static-effect w old d (passes s) = inl (s 0 none no_extra).passes.is_static
+static-effect w old d (passes s c) = inl (s 0 none no_extra).passes.is_static
 static-effect w old d (turns e m p f v more i j k s a b) =
     inl (ap (λ (u : World). u.is_static) a ∙ (static-moved m p v f ∙ (s 0 none no_extra).passes.is_static))
 static-effect w old d (refuses f e) = inl refl

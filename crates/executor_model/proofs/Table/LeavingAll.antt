@@ -2,12 +2,14 @@
 -- and closing_drops_each_future_once.
 -- What holds of each future and its place in the table (proofs/Table/Leaving) is kept by each effect, and so by each thing that
 -- is done.
-use Rattle.std.proofs.Common.{◌≡◌, ℕ, ◌+◌, ◌<◌, List, [], ◌∷◌, ◌++◌, length, true, false, ◌&&◌, not, refl, ap, arith}
+use Rattle.std.proofs.Common.{◌≡◌, ℕ, ◌+◌, ◌<◌, List, [], ◌∷◌, ◌++◌, length, true, false, not, ltb, refl, ap, ⊎_elim}
+use Rattle.std.proofs.Common.{arith}
 use Rattle.std.{proofs.lemmas.List.length-append, specs.Prelude.nat_lt, specs.Prelude.slice_set}
 use Rattle.executor_model.proofs.Types.{Mark, Move, Call, Reply, Answer, Event, ClosingOp, Hold, Op, QueueOp, TableOp, UserOp}
 use Rattle.executor_model.specs.Acts.{takes_more, append_by, begin_drop, closing_ops, enter_by, leave_by, stands_alone}
 use Rattle.executor_model.specs.World.{World, Done, done, log, among, queue_of, mark_of}
-use Rattle.executor_model.specs.{Acts.leak_out_by, Acts.leaked, Weights.same, Sound.Pend, Sound.times, Sound.with_ops}
+use Rattle.executor_model.specs.{Acts.leak_out_by, Acts.leaked, ActsOfRuns.free_places, Weights.same, Sound.Pend, Sound.times}
+use Rattle.executor_model.specs.Sound.{with_ops}
 use Rattle.executor_model.proofs.OneFuture.Effects.Effect.{passes, turns, refuses, enters, unlists, drops, takes_out}
 use Rattle.executor_model.proofs.Steps.Lists.{fresh_is, read_push, same_is, times-append, without_one}
 use Rattle.executor_model.proofs.OneFuture.Stories.{length-except, story, story-push, times-except}
@@ -18,6 +20,7 @@ use Rattle.executor_model.proofs.OneFuture.Effects.{Effect, turned-keeps}
 use Rattle.executor_model.proofs.OneFuture.Effects.Effect.{drops_next, leaks, leaks_out}
 use Rattle.executor_model.proofs.OneFuture.MoveViews.{HasAsked, leaked-keeps, leaks_out-keeps}
 use Rattle.executor_model.proofs.{Steps.QueuesByMark.is_any_shut, OneFuture.Views.seen, OneFuture.Passing.goes-end}
+use Rattle.executor_model.proofs.{OneFuture.Passes.ShutsBy, OneFuture.RunsPassing.IsPutBack, Types.StealOp}
 
 leaves-refuses : (w : World) (mark : Mark) (f : ℕ) → is_any_shut w.queues ≡ true →
     KeepsLeaves w (Op.Queue (QueueOp.Append f) ∷ []) (append_by false w mark f)
@@ -64,20 +67,26 @@ leaves-leaked : (d : Done) (p f g : ℕ) (r : Pend) (y : Extra) → HasAsked d.w
     Entered (seen (leaked p f d).world g r y)
 leaves-leaked d p f g r y a h = leaked-keeps Entered (λ x a h. grind arith) d.world p f g r y a h
 
--- what it needs beside: room for a Runnable, or one of the queues closed; and room for a future
+-- what it needs beside: room for a Runnable, or one of the queues closed; room for a future; and a place for what a steal found
 abbrev pub NeedsPlaces : World → Op → Type 0
 NeedsPlaces w (Op.Queue (QueueOp.Append f)) = takes_more (queue_of w (mark_of w f)) w.limit ≡ false →
     is_any_shut w.queues ≡ true
 NeedsPlaces w (Op.Table (TableOp.Enter mark)) = not (nat_lt (length w.table) w.limit) ≡ false → w.gone ≡ false → (g : ℕ) →
     length (story g w.trace).standing < w.limit
+NeedsPlaces w (Op.Steal (StealOp.Put s more f)) = ltb 0 (free_places w s.poll.run) ≡ true
 NeedsPlaces w _ = Unit {0}
 
 pub leaves-effect : (w : World) (old : List Op) (d : Done) → ((o : Op) → old ≡ o ∷ [] → NeedsPlaces w o) →
     Effect w old d → KeepsLeaves w old d
-leaves-effect w old d n (passes s) g r y b h = entered-passes _ _ (s g r y).passes (s g r y).stays h
+leaves-effect w old d n (passes s c) g r y b h = ⊎_elim
+    (λ (z : ShutsBy w old d). entered-passes _ _ (s g r y).passes (s g r y).stays (z g r y) h)
+    (λ (z : IsPutBack w old).
+    let full : ltb 0 (free_places w z.0.poll.run) ≡ false = z.1.1.1.1 in
+    let free : ltb 0 (free_places w z.0.poll.run) ≡ true = n (Op.Steal (StealOp.Put z.0 z.1.0 z.1.1.0)) z.1.1.1.0 in
+    absurd (cc)) c
 leaves-effect w old _ n (turns d m p f v more i j k s a e) g r y b h =
     turned-keeps Base Entered (λ m x. stands_alone m ≡ true) entered-moved entered-loose
-    (λ x y z. base-passes x y z.passes) (λ x y z c. entered-passes x y z.passes z.stays) w old d m p f v more i
+    (λ x y z. base-passes x y z.passes) (λ x y z c. entered-passes x y z.passes z.stays z.shuts) w old d m p f v more i
     (λ q u. j) s a e g r y b h
 leaves-effect w old d n (refuses f e) g r y b h = leaves-refuses w (mark_of w f) f
     (n (Op.Queue (QueueOp.Append f)) refl e) g r y b h
@@ -110,4 +119,4 @@ leaves-closes p w g r y n z b h = grind (arith, story-push)
 pub leaves-end : (w : World) (p : ℕ) (a : Reply) (held : Hold) (g : ℕ) (r : Pend) (y : Extra) →
     Leaves w g (with_ops g (Op.End a held ∷ []) r) (with_extra g (Op.End a held ∷ []) y) →
     Leaves (log w (Event.CallEnded p a)) g (with_ops g [] r) (with_extra g [] y)
-leaves-end w p a held g r y h = let s = goes-end p w a held g r y in entered-passes _ _ s.passes s.stays h
+leaves-end w p a held g r y h = let s = goes-end p w a held g r y in entered-passes _ _ s.passes s.stays s.shuts h

@@ -4,11 +4,12 @@
 use Rattle.std.proofs.Common.{◌≡◌, ℕ, zero, suc, ◌+◌, ◌<◌, ◌≤◌, List, [], ◌∷◌, ◌++◌, length, set, Bool, true, false, ◌&&◌, not}
 use Rattle.std.proofs.Common.{refl, subst, inl, ⊎_elim, arith}
 use Rattle.std.{proofs.lemmas.Bool.Decides.nat_tests, specs.Prelude.reverse, specs.Prelude.nat_lt}
-use Rattle.executor_model.proofs.Types.{Mark, Kind, Reply, Event, Hold, Op, Move, QueueOp, TableOp, Step}
+use Rattle.executor_model.proofs.Types.{Mark, Kind, Reply, Event, Hold, Op, Move, QueueOp, StealOp, TableOp, Step}
 use Rattle.executor_model.specs.World.{World, Done, done, log, among, queue_of, mark_of}
 use Rattle.executor_model.specs.Sound.{Pend, pend, queued, times}
 use Rattle.executor_model.specs.Steps.{Machine, stack, idle, run, start, mine, top}
-use Rattle.executor_model.specs.{Weights.same, Good.Good, Rows.waiting_of, Rows.drops_of, Rows.leaves_of}
+use Rattle.executor_model.specs.{Weights.same, Good.Good, OwnQueues.filling_of, Rows.waiting_of, Rows.drops_of}
+use Rattle.executor_model.specs.Rows.{leaves_of}
 use Rattle.executor_model.proofs.Table.LeavingAll.{NeedsPlaces, leaves-effect, leaves-pends, leaves-readies, leaves-closes}
 use Rattle.executor_model.proofs.Steps.QueuesByMark.{any-shut, times-one}
 use Rattle.executor_model.proofs.Steps.Lift.{split, unsettled, good-start}
@@ -18,6 +19,8 @@ use Rattle.executor_model.proofs.OneFuture.Extras.{closing_of, no_extra, extra}
 use Rattle.executor_model.proofs.Table.Leaving.{Base, based, Entered, Leaves}
 use Rattle.executor_model.proofs.OneFuture.EffectsWays.{Effects, effects-way, ended, lifted, view_with, view-start}
 use Rattle.executor_model.proofs.OneFuture.EffectsWays.Effects.{does, pends, readies, closes}
+use Rattle.executor_model.proofs.OwnQueues.OwnExecutions.{Owning, owning-ends, owning-moves, owning-start}
+use Rattle.executor_model.proofs.OwnQueues.OwnRooms.{has-free}
 use Rattle.executor_model.proofs.Table.Borrowing.{bare_all, Tidy, bare-moved, none-uses, drop-uses-all}
 use Rattle.executor_model.proofs.Table.TidyingGroups.{NeedsNoEntry, tidy-act, tidy-react, tidy-begun}
 use Rattle.executor_model.proofs.{Steps.Cases.by_bool, OneFuture.Views.none, OneFuture.Views.seen, Steps.Ways.Way}
@@ -26,6 +29,7 @@ use Rattle.executor_model.proofs.{Steps.Ways.along, OneFuture.Telling.same-stand
 pub record Placed (s : Machine) : Type 0 where
   pub leaves : (g : ℕ) → Leaves s.world g (pend g s.parties) (extra g s.parties)
   pub bare : bare_all s.parties ≡ 0
+  pub owning : Owning s
 
 -- a Runnable on its way finds a place in either queue
 
@@ -72,6 +76,8 @@ needs-places s p (Op.Queue (QueueOp.Append f)) rest l e good h =
 needs-places s p (Op.Table (TableOp.Enter mark)) rest l e good h =
     λ b n g. let x : length s.world.table < s.world.limit = grind (arith, nat_tests) in
     omega (arith, x, has-entries s n h g)
+needs-places s p (Op.Steal (StealOp.Put x more f)) rest l e good h = has-free s x more f (h.owning.roomy x.poll.run)
+    (omega (arith, split (filling_of x.poll.run) s.parties p (Op.Steal (StealOp.Put x more f) ∷ []) rest l e))
 needs-places s p _ rest l e good h = tt
 
 -- a Runnable that is dropped is one of a future that has no entry any more
@@ -128,6 +134,7 @@ placed-moves s p old rest d good l e way h = record {
       (leaves-way s p old rest d good l e h (effects-way s p old rest d good l e way))
       (λ g. based s.world g (pend g s.parties) (extra g s.parties) (good.sound g)) h.leaves;
   bare = bare-moved s.parties p old rest d.next l e (tidy-way s p old rest d l e h way) h.bare;
+  owning = owning-moves s p old rest d good l e way h.owning;
 }
 
 pub placed-ends : (s : Machine) (p : ℕ) (a : Reply) (held : Hold) (below : List Op) → p < length s.parties →
@@ -136,6 +143,7 @@ pub placed-ends : (s : Machine) (p : ℕ) (a : Reply) (held : Hold) (below : Lis
 placed-ends s p a held below l e h = record {
   leaves = ended Entered s p a held below l e (leaves-end s.world p a held) h.leaves;
   bare = bare-moved s.parties p (Op.End a held ∷ []) below [] l e (record { keeps = λ x. refl }) h.bare;
+  owning = owning-ends s p a held below l e h.owning;
 }
 
 bare-idle : (n : ℕ) → bare_all (idle n) ≡ 0
@@ -143,7 +151,11 @@ bare-idle zero = refl
 bare-idle (suc n) = omega (arith, bare-idle n)
 
 pub placed-start : (limit : ℕ) (kind : Kind) (n : ℕ) → Placed (start limit kind n)
-placed-start limit kind n = record { leaves = λ g. view-start Entered limit kind n g (none_placed limit kind g); bare = bare-idle n }
+placed-start limit kind n = record {
+  leaves = λ g. view-start Entered limit kind n g (none_placed limit kind g);
+  bare = bare-idle n;
+  owning = owning-start limit kind n;
+}
   where
     none_placed : (limit : ℕ) (kind : Kind) (g : ℕ) → Entered (seen (start limit kind 0).world g none no_extra)
     none_placed limit kind g = grind (arith, story-none)

@@ -7,7 +7,7 @@ use Rattle.std.{specs.Prelude.Some, specs.Prelude.nat_le, proofs.lemmas.Bool.Dec
 use Rattle.task_moves.specs.Moves.{moved}
 use Rattle.executor_model.specs.{Acts.stands_alone, Sound.Pend, Sound.times}
 use Rattle.executor_model.proofs.OneFuture.Extras.{Extra, plus_extra}
-use Rattle.executor_model.proofs.OneFuture.Passes.{Passes, Stays}
+use Rattle.executor_model.proofs.OneFuture.Passes.{Passes, Shuts, Stays}
 use Rattle.executor_model.proofs.OneFuture.Views.{Seen, before, after, extra_owed, lasts, of_owed, plus, tells_if}
 use Rattle.executor_model.proofs.Steps.Marks.{IsOpen, IsUnheld, idle, is-open, last-handle, last-one, unheld, unmarked}
 use Rattle.executor_model.proofs.{Types.Moved, Types.Move, Table.Leaving.Base, Table.Leaving.Entered, OneFuture.MoveViews.Alike}
@@ -16,8 +16,8 @@ use Rattle.task_moves.specs.Moves as moves
 pub base-passes : (x y : Seen) → Passes x y → Base x → Base y
 base-passes x y s h = grind arith
 
-pub entered-passes : (x y : Seen) → Passes x y → Stays x y → Entered x → Entered y
-entered-passes x y s q h = grind arith
+pub entered-passes : (x y : Seen) → Passes x y → Stays x y → Shuts x y → Entered x → Entered y
+entered-passes x y s q u h = grind arith
 
 pub entered-loose : (x : Seen) (p q : Pend) (a b : Extra) → Alike p q a b → Entered (record x { pend = p; extra = a }) →
     Entered (record x { pend = q; extra = b })

@@ -3,10 +3,10 @@
 -- What a run does uses the executor only where it is held.
 use Rattle.std.proofs.Common.{◌≡◌, ℕ, zero, suc, List, [], ◌∷◌, ◌++◌, Bool, true, false, eqb, reverse, refl, ap, ◌+◌, ◌%◌}
 use Rattle.std.{proofs.Common.length, proofs.Common.arith, proofs.lemmas.List.reverse-append}
-use Rattle.executor_model.proofs.Types.{Look, First, Second, Reply, Event, Hold, ListOp, Op, Polled, QueueOp, RunOp, RunPoll}
+use Rattle.executor_model.proofs.Types.{Look, First, Second, Move, Reply, Event, Hold, ListOp, Op, Polled, RunOp, RunPoll}
 use Rattle.executor_model.proofs.Types.{Section, TickOrRun, SleeperOp, Own, Steal, StealOp, Then, Waker, Task, Outside, Hint}
 use Rattle.executor_model.specs.World.{World, Ticker, Awake, Asleep, Left, Stage, New, Listed, Ended, own_of, put_own, run_of}
-use Rattle.executor_model.specs.ActsOfRuns.{run_by, counted_by, found, make_run_by, walk, next_place, queue_at, search_own_by}
+use Rattle.executor_model.specs.ActsOfRuns.{put_refused, run_by, counted_by, found, make_run_by, walk, next_place, queue_at, search_own_by}
 use Rattle.executor_model.specs.ActsOfRuns.{search_common_by, look_own_by, stolen, steal_length_by, steal_by, kept_by}
 use Rattle.executor_model.specs.ActsOfRuns.{steal_put_by, steal_take_by, make_room_by, call_by_reference, reschedule_by}
 use Rattle.executor_model.specs.Doing.{list_act, run_act, steal_act}
@@ -94,10 +94,13 @@ held-take : (q : List ℕ) (w : World) (s : Steal) (more : ℕ) → IsHeld (stea
 held-take [] w s more = held-stolen s.then w s.poll
 held-take (f ∷ rest) w s more = refl
 
+held-refused : (t : Then) (w : World) (x : RunPoll) (f : ℕ) → IsHeld (put_refused t w x f).next
+held-refused (Then.Walk at left) w x f = refl
+held-refused t w x f = held-after (Op.Move Move.DropRunnable f ∷ []) (stolen t w x).next refl (held-stolen t w x)
+
 held-put : (b : Bool) (p : ℕ) (w : World) (s : Steal) (more f : ℕ) → IsHeld (steal_put_by b p w s more f).next
 held-put true p w s more f = held-more more (kept_by p w s.poll.run f) s
-held-put false p w s more f =
-    held-after (Op.Queue (QueueOp.Append f) ∷ []) (stolen s.then w s.poll).next refl (held-stolen s.then w s.poll)
+held-put false p w s more f = held-refused s.then w s.poll f
 
 pub tidy-steal : (p : ℕ) (o : StealOp) (w : World) → Tidy (Op.Steal o ∷ []) (steal_act p o w).next
 tidy-steal p (StealOp.Length s) w = tidy-held _ _ (held-length _ w s)

@@ -67,7 +67,7 @@ abbrev pub LeadsNear : List Op → Type 0
 LeadsNear old = (o : Op) × ((old ≡ o ∷ []) × (leads_near o ≡ true))
 
 pub falls-effect : (w : World) (old : List Op) (d : Done) (g : ℕ) → Effect w old d → (fallen d.world g ≡ fallen w g) ⊎ LeadsNear old
-falls-effect w old d g (passes s) = inl (⊎_elim
+falls-effect w old d g (passes s c) = inl (⊎_elim
     (λ x. ap (λ (s : Story). s.fallen) x) (λ x. ap (λ (s : Story). s.fallen) x.1) (s g none no_extra).stays.story)
 falls-effect w old _ g (turns d m p f v more i j k s a e) = inl (
     ap (λ (u : World). fallen u g) a ∙ (last-falls (is_last_waker m (task v f)) (log_if (is_told m (task v f)) v (told_as m p f)) p f g

@@ -7,7 +7,7 @@ use Rattle.executor_model.proofs.Types.{Look, First, Second, Move, Reply, Event,
 use Rattle.executor_model.proofs.Types.{QueueOp, RunOp, RunPoll, Section, SleeperOp, Sleeping, Source, Common, Own, Steal}
 use Rattle.executor_model.proofs.Types.{StealOp, TableOp, Then, TickOp, TickOrRun, UserOp, Waker, Task, Outside, WakerOp, Hint}
 use Rattle.executor_model.specs.ActsOfRuns.{call_by_reference, counted_by, found, kept_by, look_own_by, make_room_by}
-use Rattle.executor_model.specs.ActsOfRuns.{make_run_by, next_place, queue_at, registered, reschedule_by, run_by}
+use Rattle.executor_model.specs.ActsOfRuns.{make_run_by, next_place, put_refused, queue_at, registered, reschedule_by, run_by}
 use Rattle.executor_model.specs.ActsOfRuns.{search_common_by, search_own_by, steal_by, steal_length_by, steal_put_by}
 use Rattle.executor_model.specs.ActsOfSleepers.{call_of, copy_sleeper_by, exchange_by, fall_asleep_by, found_by, hand_out_by}
 use Rattle.executor_model.specs.ActsOfSleepers.{leave_sleepers_by, make_tick_by, polled_as, look_tick_by, sleep_again_by}
@@ -213,13 +213,18 @@ module _ (k : ℕ) (a : Waker) where
   steals-first [] w s more r h = has-stolen s.then w s.poll r h
   steals-first (f ∷ rest) w s more r h = (first-out s.from w rest h, (r, tt))
 
+  has-refused : (t : Then) (w : World) (x : RunPoll) (f : ℕ) → Right k a x.poll x.waker → Stored k a w →
+      Ends k a (put_refused t w x f)
+  has-refused (Then.Walk at left) w x f r h = (h, (tt, (tt, (r, tt))))
+  has-refused t w x f r h = let e = has-stolen t w x r h in (e.0, (tt, e.1))
+
   steals-put : (b : Bool) (p : ℕ) (w : World) (s : Steal) (more f : ℕ) → Right k a s.poll.poll s.poll.waker →
       Stored k a w → Ends k a (steal_put_by b p w s more f)
   steals-put true p w s more f r h =
       steals-more more (kept_by p w s.poll.run f) s r
       (stored-log k a (put_own w s.poll.run (own_of w s.poll.run ++ f ∷ [])) (Event.Kept p f s.poll.run)
       (same-store w _ refl refl refl h) tt)
-  steals-put false p w s more f r h = let e = has-stolen s.then w s.poll r h in (e.0, (tt, e.1))
+  steals-put false p w s more f r h = has-refused s.then w s.poll f r h
 
   steals : (p : ℕ) (o : StealOp) (w : World) → Keeps w (Op.Steal o) (steal_act p o w)
   steals p (StealOp.Length s) w h r = steals-length _ w s r h

@@ -1,8 +1,9 @@
 //! A future that leaves its waker, and what its test sees of it.
 use async_task::{Future, Nobody, Poll, Wake};
 use local_executor::{LocalExWaker, LocalExecutor};
-use std::alloc::{AllocError, Global};
+use std::alloc::Global;
 use std::cell::{Cell, RefCell};
+use std::process::Abort;
 use std::rc::Rc;
 use std::sync::Wait;
 
@@ -17,9 +18,12 @@ pub struct Door<R: Wait + Copy + Drop> {
     pub polls: Cell<u64>,
 }
 
+/// A door that a visitor and its test have.
+type Shared<R> = Rc<Door<R>, Global>;
+
 /// Leaves a copy of its waker at the door with its first poll, and is never ready.
 #[derive(Drop)]
-pub struct Visitor<R: Wait + Copy + Drop>(pub Rc<Door<R>, Global>);
+pub struct Visitor<R: Wait + Copy + Drop>(pub Shared<R>);
 
 impl<R: Wait + Copy + Drop> Future<LocalExWaker<Nobody, R>> for Visitor<R> {
     type Output = u64;
@@ -41,8 +45,10 @@ impl<R: Wait + Copy + Drop> Door<R> {
     }
 }
 
-/// A door where nobody was.
-pub fn new_door<R: Wait + Copy + Drop>(alloc: Global) -> Result<Rc<Door<R>, Global>, AllocError> {
+/// A door where nobody was, for its test and for a visitor.
+pub fn new_door<R: Abort + Wait + Copy + Drop>(rt: &R, alloc: Global) -> (Shared<R>, Shared<R>) {
     let (waker, polls) = (RefCell::new(None), Cell::new(0));
-    Ok(Rc::new(alloc, Door { waker, polls })?)
+    let door = Rc::new(alloc, Door { waker, polls }).expect(rt, "memory");
+    let other = door.clone().expect(rt, "memory");
+    (door, other)
 }

@@ -33,12 +33,11 @@ use Rattle.solo_laws.specs.Numbered.{IsNumbered}
 use Rattle.solo_laws.specs.Road.{wakes}
 use Rattle.solo_laws.specs.Tabled.{Stands, named}
 use Rattle.solo_laws.proofs.Following.Bases as bases
-use Rattle.solo_laws.proofs.Following.Bases.{Slept}
 use Rattle.solo_laws.proofs.Following.Both.{handled_still}
 use Rattle.solo_laws.proofs.Following.Calling.{cancel_still}
 use Rattle.solo_laws.proofs.Following.Frames.{becomes_still, put_still, tell_still}
 use Rattle.solo_laws.proofs.Following.GettingUp.{numbered_kept}
-use Rattle.solo_laws.proofs.Following.Resleeping.{Lies, after, as_before, of_still, ended_lies, dropped_lies, lost_lies, next_lies}
+use Rattle.solo_laws.proofs.Following.Resleeping.{Lies, Sleeps, after, as_before, of_still, ended_lies, dropped_lies, lost_lies, next_lies}
 use Rattle.solo_laws.proofs.Following.Resleeping.{scheduled_if_sleeps, scheduled_sleeps, let_go_sleeps, calls_sleeps, lets_go_sleeps}
 use Rattle.solo_laws.proofs.Following.Resleeping.{given_sleeps, closed_sleeps, pends_sleeps, takes_sleeps, leaks_sleeps}
 use Rattle.solo_laws.proofs.Following.Using.{put_lying}
@@ -118,30 +117,30 @@ module _ {T X : Type 0} (c : Choice) where
       after c (becomes_lies f (abstract.end_pending (task f q)).task q) (next_lies c by one z)
 
 module _ {F T X : Type 0} (its : ℕ → Lent) (c : Choice) (s : Solo F T X) (p : Plain T (SoloWaker X)) where
-  as_slept : Slept s s.sleepers
-  as_slept = (bases.same s).5
+  as_slept : Sleeps s s
+  as_slept = ((bases.same s).5, refl)
 
-  same_slept : (z y : Solo F T X) → z ≡ y → Slept s y.sleepers → Slept s z.sleepers
-  same_slept z y is slept = subst (λ (z : Solo F T X). Slept s z.sleepers) (sym is) slept
+  same_slept : (z y : Solo F T X) → z ≡ y → Sleeps s y → Sleeps s z
+  same_slept z y is slept = subst (Sleeps s) (sym is) slept
 
-  copies_slept : (w : SoloWaker X) → Slept s (alike.copies w s).sleepers
+  copies_slept : (w : SoloWaker X) → Sleeps s (alike.copies w s)
   copies_slept (OfTask t) = as_slept
   copies_slept (Outside w) = as_slept
 
   polled_slept : (b g : Bool) (f : ℕ) (w : SoloWaker X)
-      → Slept s (choose b (choose g (alike.registered (named its f) w (alike.copies w s)) s) (solo.polled (named its f) w s)).sleepers
+      → Sleeps s (choose b (choose g (alike.registered (named its f) w (alike.copies w s)) s) (solo.polled (named its f) w s))
   polled_slept true true f w =
       let y = alike.copies w s in
       lets_go_sleeps s (alike.replaced_by (solo.poll_answer (named its f) w y)) (solo.polled (named its f) w y) (copies_slept w)
   polled_slept true false f w = as_slept
   polled_slept false g f w = as_slept
 
-  cancelled_slept : (t : Task) → Slept s (alike.cancelled t s).sleepers
+  cancelled_slept : (t : Task) → Sleeps s (alike.cancelled t s)
   cancelled_slept t =
       calls_sleeps s (solo.cancel_answer t s).awaiter (solo.cancelled t s)
       (scheduled_if_sleeps s (is_some (asked cells.cancel_queues None t s.cells)) t (turns.turned cells.cancelled t s) as_slept)
 
-  detached_slept : (t : Task) (z : Solo F T X) → Slept s z.sleepers → Slept s (solo.detached t z).sleepers
+  detached_slept : (t : Task) (z : Solo F T X) → Sleeps s z → Sleeps s (solo.detached t z)
   detached_slept t z slept =
       scheduled_if_sleeps s (is_some (asked cells.detach_queues None t z.cells)) t (turns.turned cells.detached t z) slept
 
@@ -165,7 +164,7 @@ module _ {F T X : Type 0} (its : ℕ → Lent) (c : Choice) (s : Solo F T X) (p 
     within q is = after c (as_before c p out refl) is
 
   abbrev pub Kept : Call T (SoloWaker X) → Solo F T X → Type 0
-  Kept call z = Slept s z.sleepers × Lies c p (does wakes c call p)
+  Kept call z = Sleeps s z × Lies c p (does wakes c call p)
 
   pub keeps : (call : Call T (SoloWaker X)) (shown : List (Event T (SoloWaker X))) (z : Solo F T X) → Makes its c s p call shown z
       → Kept call z
@@ -245,4 +244,4 @@ module _ {F T X : Type 0} (its : ℕ → Lent) (c : Choice) (s : Solo F T X) (p 
       → Stands its z (does wakes c call p) → IsNumbered number z.sleepers (does wakes c call p).lying
   makes_numbered number call shown z makes n many stands =
       let it = keeps call shown z makes in
-      numbered_kept c (named its) number s z p (does wakes c call p) None n it.0 it.1.whos (it.1.waits many) stands.0
+      numbered_kept c (named its) number s z p (does wakes c call p) None n it.0.0 it.1.whos (it.1.waits many) stands.0

@@ -18,12 +18,12 @@ use Rattle.solo_laws.proofs.Following.Owns.{first_queue, none_numbered, numbers,
 abbrev queue_if : Bool → Own → Option (List Task) → Option (List Task)
 queue_if b q rest = cond b (Some q.queue) rest
 
-there : (qs : List Own) (m : ℕ) (d : Own) → m < length qs → slice_get qs m ≡ Some (slice_index_or qs m d)
+pub there : (qs : List Own) (m : ℕ) (d : Own) → m < length qs → slice_get qs m ≡ Some (slice_index_or qs m d)
 there [] m d below = absurd (omega (arith, below))
 there (q ∷ qs) zero d below = refl
 there (q ∷ qs) (suc m) d below = there qs m d (omega (arith, below))
 
-in_of : (qs : List Own) (m : ℕ) (b : Own) → slice_get qs m ≡ Some b → is_in b.number (numbers qs) ≡ true
+pub in_of : (qs : List Own) (m : ℕ) (b : Own) → slice_get qs m ≡ Some b → is_in b.number (numbers qs) ≡ true
 in_of [] m b is = absurd cc
 in_of (q ∷ qs) zero b is =
     ap (λ c. cond c true (is_in b.number (numbers qs)))
@@ -176,7 +176,7 @@ swaps (suc i) (suc j) d (q ∷ qs) before below is =
 
 -- a run's queue is looked at from now on
 module _ (r : ℕ) (o : own.OwnQueuesValue) (is : apart (numbers o.queues) ≡ true) where
-  placed : (at : ℕ) (qs : List Own) → own.place_of r qs ≡ Some at → at < length qs
+  pub placed : (at : ℕ) (qs : List Own) → own.place_of r qs ≡ Some at → at < length qs
   placed at [] here = absurd cc
   placed at (d ∷ qs) here = (position-Some (λ q. q.number == r) (d ∷ qs) at d here).0
 

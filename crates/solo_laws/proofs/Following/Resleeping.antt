@@ -118,8 +118,9 @@ module _ {T X : Type 0} (c : Choice) where
           which false = of_still (becomes_still c (takes.tell wakes c) (tell_still c) f (abstract.release (task f p)) p)
 
 module _ {F T X : Type 0} (old : Solo F T X) where
-  abbrev Sleeps : Solo F T X → Type 0
-  Sleeps s = Slept old s.sleepers
+  -- and the runs' own queues are as they were
+  abbrev pub Sleeps : Solo F T X → Type 0
+  Sleeps s = Slept old s.sleepers × (s.runs ≡ old.runs)
 
   pub told_sleeps : (s : Solo F T X) → Sleeps s → Sleeps (turns.told s)
   told_sleeps s b =
@@ -129,10 +130,11 @@ module _ {F T X : Type 0} (old : Solo F T X) where
       (turns.handed_by (last_waker s.sleepers.wakers) (record on { sleepers = without_last s.sleepers })) on
       (handed (last_waker s.sleepers.wakers) (record on { sleepers = without_last s.sleepers }) shorter) b)
     where
-      shorter : Slept old (without_last s.sleepers)
+      shorter : Sleeps (record s { sleepers = without_last s.sleepers })
       shorter =
-          let both = take_twice (length s.sleepers.wakers - 1) b.0.0 old.sleepers.wakers in
-          ((both.0, ap (take (length s.sleepers.wakers - 1)) b.0.1 ∙ both.1), b.1, b.2, b.3)
+          let slept = b.0 in
+          let both = take_twice (length s.sleepers.wakers - 1) slept.0.0 old.sleepers.wakers in
+          (((both.0, ap (take (length s.sleepers.wakers - 1)) slept.0.1 ∙ both.1), slept.1, slept.2, slept.3), b.1)
 
       handed : (w : Option (SoloWaker X)) (s : Solo F T X) → Sleeps s → Sleeps (turns.handed_by w s)
       handed (Some (OfTask t)) s b =

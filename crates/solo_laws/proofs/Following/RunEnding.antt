@@ -17,11 +17,13 @@ use Rattle.plain_scheduler.specs.Calls.{Call, Ends, Pends, does}
 use Rattle.solo_laws.specs.Numbered.{IsNumbered}
 use Rattle.solo_laws.specs.Road.{awaiters, drops, lents, wakes}
 use Rattle.solo_laws.specs.RunGoing.{Dropping, IsEnding, Losing, Polling, RunsOn, Stage, code_at, drop_ends, in_try, loss_ends, poll_ends}
-use Rattle.solo_laws.specs.Tabled.{Stands}
+use Rattle.solo_laws.specs.RunResting.{EachListed}
+use Rattle.solo_laws.specs.Tabled.{Stands, goes_on}
 use Rattle.solo_laws.proofs.Following.Counted.{other_events}
 use Rattle.solo_laws.proofs.Following.Leaving.{heads, tails}
 use Rattle.solo_laws.proofs.Following.RunGoing.{Reached, runs_on_alike}
-use Rattle.solo_laws.proofs.Following.RunPolling.{same_hands}
+use Rattle.solo_laws.proofs.Following.Listed.{has_own}
+use Rattle.solo_laws.proofs.Following.RunPolling.{going_there, same_hands}
 
 module _ {A : Type 0} where
   none_longer : (ys : List A) (y : A) → [] ≡ ys ++ y ∷ [] → ⊥
@@ -162,9 +164,10 @@ module _ {F T X : Type 0} (its : ℕ → Lent) (number : Who → ℕ) (c : Choic
   -- where it is an answer the run goes on
   pub goes_alike : (runner : Runner) → runner.number ≡ r → (shown others : List (Event T (SoloWaker X))) (now : Who → ℕ)
       (y z : Solo F T X) → Stands its y a → a.events ≡ p.events ++ (shown ++ Answers Yes ∷ []) → IsNumbered number y.sleepers a.lying
-      → length a.lying ≤ c.tells → RunsOn its number c runner w y (record a { events = p.events ++ shown }) others now z
+      → EachListed y.runs → has_own r y.runs ≡ true → length a.lying ≤ c.tells
+      → RunsOn its number c runner w y (record a { events = p.events ++ shown }) others now z
       → Reached its p (shown ++ others) now z b
-  goes_alike runner same shown others now y z stands seen numbered few on = by how
+  goes_alike runner same shown others now y z stands seen numbered listed has few on = by how
     where
       seen_so : a.events ≡ (p.events ++ shown) ++ Answers Yes ∷ []
       seen_so = seen ∙ sym (append_assoc p.events shown (Answers Yes ∷ []))
@@ -175,8 +178,11 @@ module _ {F T X : Type 0} (its : ℕ → Lent) (number : Who → ℕ) (c : Choic
       mid_both : Stands its y mid
       mid_both = other_events its c y a (p.events ++ shown) stands
 
+      goes : goes_on runner.number mid ≡ true
+      goes = going_there its y mid mid_both runner.number (ap (λ n. has_own n y.runs) same ∙ has)
+
       next : Reached its mid others now z (takes.next wakes c (Run runner.number w) mid)
-      next = runs_on_alike its number c runner w y mid mid_both numbered few others now z on
+      next = runs_on_alike its number c runner w y mid mid_both numbered listed few goes others now z on
 
       by : EndsAs c r w a b → Reached its p (shown ++ others) now z b
       by (stays_in stage' q events e not_so last one two) =

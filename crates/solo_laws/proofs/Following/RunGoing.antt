@@ -16,7 +16,9 @@ use Rattle.plain_scheduler.specs.Calls.{Call}
 use Rattle.solo_laws.specs.Courses.{wakes as wakes_it}
 use Rattle.solo_laws.specs.Numbered.{IsNumbered}
 use Rattle.solo_laws.specs.Road.{HasLife, IsNamed, wakes}
-use Rattle.solo_laws.specs.RunGoing.{RunsOn, Searches, gives_way, looks_on, rests, robs_another, takes_common, takes_own}
+use Rattle.solo_laws.specs.RunGoing.{RunsOn, Searches, gives_way, is_refused, lies_refused, looks_on, rests, robs_another}
+use Rattle.solo_laws.specs.RunGoing.{takes_common, takes_own}
+use Rattle.solo_laws.specs.RunResting.{EachListed}
 use Rattle.solo_laws.specs.RunTaking.{woken_by}
 use Rattle.solo_laws.specs.Shown.{rings}
 use Rattle.solo_laws.specs.Tabled.{Stands, goes_on, named}
@@ -24,6 +26,7 @@ use Rattle.solo_laws.proofs.Following.Both.{wakes_alike}
 use Rattle.solo_laws.proofs.Following.Counted.{runs_both, runs_give_way, runs_is, taken_none}
 use Rattle.solo_laws.proofs.Following.Keeping.{makes_numbered}
 use Rattle.solo_laws.proofs.Following.RunPolling.{same_hands}
+use Rattle.solo_laws.proofs.Following.RunRefusing.{runs_lie_refused, runs_refused}
 use Rattle.solo_laws.proofs.Following.RunResting.{runs_rest}
 use Rattle.solo_laws.proofs.Following.RunSearching.{runs_take_common}
 use Rattle.solo_laws.proofs.Following.RunTaking.{runs_take_own}
@@ -35,7 +38,7 @@ module _ {F T X : Type 0} (its : ℕ → Lent) where
   Reached p shown now z q = (Stands its z q × (q.events ≡ p.events ++ shown)) × IsNumbered now z.sleepers q.lying
 
   module _ (number : Who → ℕ) (c : Choice) (runner : Runner) (w : SoloWaker X) (s : Solo F T X) (p : Plain T (SoloWaker X))
-      (both : Stands its s p) (n : IsNumbered number s.sleepers p.lying) (many : length p.lying ≤ c.tells) where
+      (both : Stands its s p) (n : IsNumbered number s.sleepers p.lying) (all : EachListed s.runs) (many : length p.lying ≤ c.tells) where
     abbrev r : ℕ
     r = runner.number
 
@@ -60,10 +63,17 @@ module _ {F T X : Type 0} (its : ℕ → Lent) where
         runs_take_kept its number s polled polled_both n c runner w p.inside start task refl going first found turn finds robs moves keeps
         many life in
         ((it.stands, it.seen), it.numbered)
-    searches_alike going shown now z (rests first second listed missed turn granted room names more life) =
+    searches_alike going shown now z (rests first second missed turn granted room names more life) =
         let it =
-        runs_rest its number s polled polled_both n c r w p.inside first second refl going listed missed turn granted room names more
-        life in
+        runs_rest its number s polled polled_both n all c r w p.inside first second refl going missed turn granted room names more life in
+        ((it.stands, it.seen), it.numbered)
+    searches_alike going shown now z (is_refused start missed turn refused) =
+        let it = runs_refused its number s polled polled_both n all c r w p.inside start refl going missed turn refused in
+        ((it.stands, it.seen), it.numbered)
+    searches_alike going shown now z (lies_refused first second missed turn refused room names again more life) =
+        let it =
+        (runs_lie_refused its number s polled polled_both n all c r w p.inside first second refl going missed turn refused room names again
+        more life).refused in
         ((it.stands, it.seen), it.numbered)
 
     -- whoever sleeps has its number still
@@ -101,13 +111,13 @@ module _ {F T X : Type 0} (its : ℕ → Lent) where
             (rings (solo.wake_answer (named its t.number) s).sleeper ++ Answers Done ∷ []) (solo.woken (named its t.number) s)
             (wakes_it t.number it.0 life) n many (wakes_alike its s u u_both c t.number it.0 many life)))
 
-    pub runs_on_alike : (shown : List (Event T (SoloWaker X))) (now : Who → ℕ) (z : Solo F T X)
+    pub runs_on_alike : goes_on r p ≡ true → (shown : List (Event T (SoloWaker X))) (now : Who → ℕ) (z : Solo F T X)
         → RunsOn its number c runner w s p shown now z → Reached p shown now z (takes.next wakes c (Run r w) p)
-    runs_on_alike shown now z (looks_on shown' now' z' less going how) =
+    runs_on_alike going shown now z (looks_on shown' now' z' less how) =
         subst
         (λ b. Reached p shown' now' z' (if b then takes.take wakes c (Run r w) p else takes.gives_way wakes c r w p)) (sym less)
         (searches_alike going shown' now' z' how)
-    runs_on_alike shown now z (gives_way enough names life) = (
+    runs_on_alike going shown now z (gives_way enough names life) = (
       runs_give_way its s p both c r w enough names many life,
       subst
           (λ b. IsNumbered number (woken_by w s).sleepers

@@ -1,6 +1,6 @@
 -- A run is polled, or dropped: its own future is polled, or dropped, first.
-use Rattle.std.proofs.Common.{◌≡◌, ℕ, not, if◌then◌else◌, Bool, true, false, List, [], ◌∷◌, length, Option, Some, None}
-use Rattle.std.proofs.Common.{slice_get, append-nil, refl, sym, ap, subst, ◌∙◌}
+use Rattle.std.proofs.Common.{◌≡◌, ℕ, not, if◌then◌else◌, Bool, true, false, List, [], ◌∷◌, length, filter, Option, Some, None}
+use Rattle.std.proofs.Common.{is_some, slice_get, append-nil, refl, sym, ap, subst, ◌∙◌}
 use Rattle.solo.specs.declared.names.SoloWaker.{SoloWaker}
 use Rattle.solo.specs.declared.owed.Lent.{Lent}
 use Rattle.solo.specs.declared.runs.Runner.{Runner}
@@ -9,12 +9,13 @@ use Rattle.solo.specs.Runs as runs
 use Rattle.plain_scheduler.specs.State.{Answer, Answers, Choice, Code, Done, DropOwn, Finished, Plain, PollOwn, Ready, Running}
 use Rattle.plain_scheduler.specs.State.{Who}
 use Rattle.plain_scheduler.specs.Lists.{or}
-use Rattle.plain_scheduler.specs.Moves.{answers, enters}
+use Rattle.plain_scheduler.specs.Moves.{answers, enters, is_kept}
 use Rattle.plain_scheduler.specs.Calls as calls
 use Rattle.solo_laws.specs.Numbered.{IsNumbered}
 use Rattle.solo_laws.specs.Road.{awaiters, drops, is_in, lents, wakes}
 use Rattle.solo_laws.specs.Running.{OversAreDropped, OversArePolled, OwnsAreReady, Reaches, RunsAreDropped, RunsArePolled}
-use Rattle.solo_laws.specs.Tabled.{Stands, goes_on, named}
+use Rattle.solo_laws.specs.Tabled.{Stands, goes_on, named, own_of}
+use Rattle.solo_laws.proofs.Following.Listed.{has_own}
 use Rattle.solo_laws.proofs.Following.Inside.{same_inside}
 use Rattle.solo_laws.proofs.Following.Listing.{listed_apart, listed_made, listed_queue}
 use Rattle.solo_laws.proofs.Following.Losing.{sees}
@@ -40,6 +41,14 @@ module _ {F T X : Type 0} (its : ℕ → Lent) (s : Solo F T X) (p : Plain T (So
     handed its c s p p.events now
         (λ f has. both.1.lent f (sym (ap (is_in f) lent) ∙ has)) (λ f has. both.1.dropping f (sym (ap (is_in f) dropped) ∙ has)) both.1,
   )
+
+  -- a run that has its own queue goes on
+  pub going_there : (r : ℕ) → has_own r s.runs ≡ true → goes_on r p ≡ true
+  going_there r has = by (goes_on r p) (sym (ap (λ q. is_some q) (both.1.queues r)) ∙ has)
+    where
+      by : (b : Bool) → is_some (own_of its b (filter (is_kept r) p.due)) ≡ true → b ≡ true
+      by true has = refl
+      by false has = absurd cc
 
   -- others look at a run's own queue
   begun_both : (runner : Runner) → Stands its (runs.begun runner s) p

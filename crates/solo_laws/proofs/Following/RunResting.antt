@@ -194,7 +194,7 @@ module _ {F T X : Type 0} (its : ℕ → Lent) (number : Who → ℕ) (s : Solo 
                   (all_visited s.runs.listed (start % s.runs.listed) at (within at s.runs.listed below) below)
                   (ap (λ n. n == r) place_is ∙ other))
 
-  so : Standing its c (ARun r) w number (solo.popped s) p
+  pub so : Standing its c (ARun r) w number (solo.popped s) p
   so =
       let none = searched_none in
       record {
@@ -262,14 +262,14 @@ module _ {F T X : Type 0} (its : ℕ → Lent) (number : Who → ℕ) (s : Solo 
           keeper (Some k) some =
               absurd (no_first (is_kept k) d ds (ap (is_run k) some ∙ equal k k refl) (sym (ap (filter (is_kept k)) is) ∙ kept k))
 
-  takes_none : takes.take wakes c (Run r w) p ≡ takes.rests wakes c c.refusal (ARun r) w p
+  pub takes_none : takes.take wakes c (Run r w) p ≡ takes.rests wakes c c.refusal (ARun r) w p
   takes_none =
       ap (λ ds. or (find (chosen (looks c (Run r w)) ds) ds)
       (λ d. takes.takes wakes c (Run r w) d (record p { due = without (chosen (looks c (Run r w)) ds) ds }))
       (takes.nothing wakes c (Run r w) p)) none_due
 
   -- what it has searched is as it was; so it falls asleep as a tick does
-  first_same : steals.sought r start s ≡ solo.popped s
+  pub first_same : steals.sought r start s ≡ solo.popped s
   first_same = searched_dry r start s dry in_parts.1
 
   module _ (ticker : Ticker) where
@@ -279,13 +279,13 @@ module _ {F T X : Type 0} (its : ℕ → Lent) (number : Who → ℕ) (s : Solo 
     abbrev z : Solo F T X
     z = slept_once ticker w s
 
-    z_is : slept_from r start ticker w s ≡ z
+    pub z_is : slept_from r start ticker w s ≡ z
     z_is = ap (λ y. ticks.slept ticker w (copies w y)) first_same
 
-    out_is : sleep_answer r start ticker w s ≡ out
+    pub out_is : sleep_answer r start ticker w s ≡ out
     out_is = ap (λ y. ticks.slept_answer ticker w (copies w y)) first_same
 
-    again_same : looks_again out.look ≡ true → steals.sought r later z ≡ solo.popped z
+    pub again_same : looks_again out.look ≡ true → steals.sought r later z ≡ solo.popped z
     again_same again =
         let it = quiet ticker w (copies w (solo.popped s)) again in
         searched_dry r later z
@@ -314,9 +314,9 @@ module _ {F T X : Type 0} (its : ℕ → Lent) (number : Who → ℕ) (s : Solo 
         by true is = ap (λ y. ticks.slept_answer out.ticker w (copies w y)) (again_same is)
 
 module _ {F T X : Type 0} (its : ℕ → Lent) (number : Who → ℕ) (s : Solo F T X) (p : Plain T (SoloWaker X)) (both : Stands its s p)
-    (n : IsNumbered number s.sleepers p.lying) where
+    (n : IsNumbered number s.sleepers p.lying) (listed : EachListed s.runs) where
   pub runs_rest : RunsRest its number s p
-  runs_rest c r w rest start later is going listed missed turn granted room names many life =
+  runs_rest c r w rest start later is going missed turn granted room names many life =
       let q : Plain T (SoloWaker X) = record p { inside = rest } in
       let who = ARun r in
       let both' : Stands its s q =

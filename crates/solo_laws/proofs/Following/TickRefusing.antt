@@ -120,6 +120,33 @@ module _ {F T X : Type 0} (its : ℕ → Lent) (number : Who → ℕ) (s : Solo 
           clash (ap (λ (out : Ticked F X). looks_again out.look)
           (resting.answer_is its c who w number (solo.popped s) p so names fewer life l is_q old has)) again
 
+    abbrev pub Refused : Option (Lying (SoloWaker X)) → Plain T (SoloWaker X) → Type 0
+    Refused o q =
+        let ticker = or o (λ l. slept_under (number who)) (Awake ticks.its_room) in
+        LiesRefused its number s p who (or o (λ l. number) (numbered_by who (next_number s.sleepers) number))
+        (slept_answer ticker w s) (solo.popped (slept_once ticker w s)) q
+
+    abbrev laid_by : Option (Lying (SoloWaker X)) → Plain T (SoloWaker X)
+    laid_by o =
+        or o (λ l. or l.waker (λ old. takes.lain_again wakes c who w old q) (takes.lain wakes c who w q)) (takes.lain wakes c who w q)
+
+    -- one that finds nothing lies, and is refused the copy for its second look
+    pub lies_refused : (o : Option (Lying (SoloWaker X))) → find (lies who) p.lying ≡ o
+        → (o ≡ None → nat_lt s.sleepers.count s.sleepers.rooms ≡ true)
+        → looks_again (slept_answer (or o (λ l. slept_under (number who)) (Awake ticks.its_room)) w s).look ≡ true
+        → Refused o (answers NoMemory (laid_by o))
+    lies_refused None is room again =
+        subst
+        (λ sl. LiesRefused its number s p who (numbered_by who (next_number sl) number)
+        (slept_answer (Awake ticks.its_room) w s) (solo.popped (slept_once (Awake ticks.its_room) w s)) (answers NoMemory (laid_by None)))
+        (copies_sleepers w (solo.popped s)) (anew is (room refl))
+    lies_refused (Some l) is room again = waker l.waker refl
+      where
+        waker : (a : Option (SoloWaker X)) → l.waker ≡ a
+            → Refused (Some l) (answers NoMemory (or a (λ old. takes.lain_again wakes c who w old q) (takes.lain wakes c who w q)))
+        waker None has = called l is has
+        waker (Some old) has = absurd (never l is old has again)
+
 module _ {F T X : Type 0} (its : ℕ → Lent) (number : Who → ℕ) (s : Solo F T X) (p : Plain T (SoloWaker X)) (both : Stands its s p)
     (n : IsNumbered number s.sleepers p.lying) where
   pub ticks_unmade : TicksAreUnmade its number s p
@@ -159,46 +186,10 @@ module _ {F T X : Type 0} (its : ℕ → Lent) (number : Who → ℕ) (s : Solo 
       (sym (poll_is c t w none turn ∙ ap (λ r. takes.rests wakes c r (ATick t) w p) refused))
       (refuses its number s p c number (solo.popped s) p (at.follows, at.tabled) at.numbered refl)
 
-  abbrev Refused : ℕ → SoloWaker X → Option (Lying (SoloWaker X)) → Plain T (SoloWaker X) → Type 0
-  Refused t w o q =
-      let ticker = or o (λ l. slept_under (number (ATick t))) (Awake ticks.its_room) in
-      LiesRefused its number s p (ATick t) (or o (λ l. number) (numbered_by (ATick t) (next_number s.sleepers) number))
-      (slept_answer ticker w s) (solo.popped (slept_once ticker w s)) q
-
-  abbrev laid_by : Choice → ℕ → SoloWaker X → Option (Lying (SoloWaker X)) → Plain T (SoloWaker X)
-  laid_by c t w o =
-      let q = copied wakes w p in
-      or o (λ l. or l.waker (λ old. takes.lain_again wakes c (ATick t) w old q) (takes.lain wakes c (ATick t) w q))
-      (takes.lain wakes c (ATick t) w q)
-
   pub ticks_lie_refused : TicksLieRefused its number s p
   ticks_lie_refused c t w none turn refused room names again many life =
-      subst (λ q. Refused t w (find (lies (ATick t)) p.lying) q)
+      let at = so c t w none turn in
+      let lives = trying.lives (named its) c s p turn both.0 2 life in
+      subst (λ q. Refused its number s p c (ATick t) w at names many lives (find (lies (ATick t)) p.lying) q)
       (sym (poll_is c t w none turn ∙ ap (λ r. takes.rests wakes c r (ATick t) w p) refused))
-      (each (find (lies (ATick t)) p.lying) refl room again)
-    where
-      at : Standing its c (ATick t) w number (solo.popped s) p
-      at = so c t w none turn
-
-      lives : HasLife 2 (solo.popped s).lines
-      lives = trying.lives (named its) c s p turn both.0 2 life
-
-      each : (o : Option (Lying (SoloWaker X))) → find (lies (ATick t)) p.lying ≡ o
-          → (o ≡ None → nat_lt s.sleepers.count s.sleepers.rooms ≡ true)
-          → looks_again (slept_answer (or o (λ l. slept_under (number (ATick t))) (Awake ticks.its_room)) w s).look ≡ true
-          → Refused t w o (answers NoMemory (laid_by c t w o))
-      each None is room again =
-          subst
-          (λ sl. LiesRefused its number s p (ATick t) (numbered_by (ATick t) (next_number sl) number)
-          (slept_answer (Awake ticks.its_room) w s) (solo.popped (slept_once (Awake ticks.its_room) w s))
-          (answers NoMemory (laid_by c t w None)))
-          (copies_sleepers w (solo.popped s))
-          (anew its number s p c (ATick t) w at names many lives is (room refl))
-      each (Some l) is room again = waker l.waker refl
-        where
-          waker : (a : Option (SoloWaker X)) → l.waker ≡ a
-              → Refused t w (Some l)
-              (answers NoMemory (or a (λ old. takes.lain_again wakes c (ATick t) w old (copied wakes w p))
-              (takes.lain wakes c (ATick t) w (copied wakes w p))))
-          waker None has = called its number s p c (ATick t) w at names many lives l is has
-          waker (Some old) has = absurd (never its number s p c (ATick t) w at names many lives l is old has again)
+      (lies_refused its number s p c (ATick t) w at names many lives (find (lies (ATick t)) p.lying) refl room again)

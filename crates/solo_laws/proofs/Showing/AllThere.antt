@@ -110,20 +110,20 @@ module _ {F T X : Type 0} (its : ℕ → Lent) where
       any_call c (plain.Call.PollTick t w) p refl
   acts_kept number c s p now z call shown (makes_run granted few) = any_call c plain.Call.NewRun p refl
   acts_kept number c s p now z call shown (makes_no_run refused) = any_call c plain.Call.NewRun p refl
-  acts_kept number c s p now z call shown (run_polled runner w going) = any_call c (plain.Call.PollRun runner.number w) p refl
+  acts_kept number c s p now z call shown (run_polled runner w going free) = any_call c (plain.Call.PollRun runner.number w) p refl
   acts_kept number c s p now z call shown (over_polled r w over) = any_call c (plain.Call.PollRun r w) p refl
   acts_kept number c s p now z call shown (own_ready r w v rest is) =
       λ has. giving c p (PollOwn r w) rest is v (none_left c p (PollOwn r w) rest (λ g. refl) is nobody has)
-  acts_kept number c s p now z call shown (run_looks runner w rest shown' now' z' is going how) = run_kept c p runner.number w rest is
+  acts_kept number c s p now z call shown (run_looks runner w rest shown' now' z' is how) = run_kept c p runner.number w rest is
   acts_kept number c s p now z call shown (run_goes_on stage runner w rest call' first others now' y z' is ends how on) =
       ends_kept c p stage (Run runner.number w) rest call' is ends
   acts_kept number c s p now z call shown (run_drops stage r w rest call' first f z' is ends how) =
       ends_kept c p stage (Run r w) rest call' is ends
   acts_kept number c s p now z call shown (run_loses stage r w rest call' first v z' is ends how) =
       ends_kept c p stage (Run r w) rest call' is ends
-  acts_kept number c s p now z call shown (run_dropped r going) = any_call c (plain.Call.DropRun r) p refl
+  acts_kept number c s p now z call shown (run_dropped r going free) = any_call c (plain.Call.DropRun r) p refl
   acts_kept number c s p now z call shown (over_dropped r over) = any_call c (plain.Call.DropRun r) p refl
-  acts_kept number c s p now z call shown (run_leaves runner answer rest is going life) =
+  acts_kept number c s p now z call shown (run_leaves runner answer rest is life) =
       λ has. ending c p (DropOwn runner.number answer) rest is
       (goes_kept c runner.number (record p { inside = rest }) nobody
       (none_left c p (DropOwn runner.number answer) rest (λ g. refl) is nobody has))

@@ -1,28 +1,34 @@
 -- Both stand alike after each list of calls, and what is seen is what was shown.
-use Rattle.std.proofs.Common.{◌≡◌, ℕ, ◌≤◌, List, [], ◌∷◌, ◌++◌, length, append-nil, refl, sym, ap, subst}
+use Rattle.std.proofs.Common.{◌≡◌, ℕ, ◌≤◌, not, Bool, true, false, List, [], ◌∷◌, ◌++◌, length, append-nil, refl, sym, ap, subst}
 use Rattle.solo.specs.declared.names.SoloWaker.{SoloWaker}
 use Rattle.solo.specs.declared.owed.Lent.{Lent}
 use Rattle.solo.specs.declared.names.Kind.{Kind}
 use Rattle.solo.specs.declared.solo.Solo.{Solo}
-use Rattle.solo.specs.Solo.{IsNew}
+use Rattle.solo.specs.Solo.{IsNew, counts}
 use Rattle.plain_scheduler.specs.State.{Answers, Drops, Event, Loses, Who, Choice, Plain, Yes}
 use Rattle.plain_scheduler.specs.Calls as plain
 use Rattle.plain_scheduler.specs.Calls.{Call, does, course}
+use Rattle.solo_laws.specs.Busy.{busy_in}
 use Rattle.solo_laws.specs.Courses.{Makes, spawns, refuses, takes, looks, wakes, uses, releases, copies, polls, cancels, detaches}
 use Rattle.solo_laws.specs.Courses.{drops_handle, leaks, pends, gives, ends_given, ends_closed, loses, Acts, makes, makes_tick, tick_takes}
 use Rattle.solo_laws.specs.Courses.{makes_run, makes_no_run, tick_rests, makes_no_tick, tick_refused, tick_lies_refused, tick_leaves, Leads}
 use Rattle.solo_laws.specs.Courses.{over_dropped, over_polled, own_ready, run_dropped, run_drops, run_goes_on, run_leaves}
 use Rattle.solo_laws.specs.Courses.{run_looks, run_loses, run_polled}
 use Rattle.solo_laws.specs.Courses.{stays, leads}
+use Rattle.solo_laws.specs.Led.{IsLed}
 use Rattle.solo_laws.specs.Numbered.{IsNumbered}
 use Rattle.solo_laws.specs.Road.{awaiters, drops, lents, wakes as wakes_of}
 use Rattle.solo_laws.specs.RunGoing.{in_try}
+use Rattle.solo_laws.specs.RunResting.{EachListed}
 use Rattle.solo_laws.specs.Tabled.{Stands}
 use Rattle.solo_laws.proofs.Following.Both as both
 use Rattle.solo_laws.proofs.Following.Begun.{takes_alike, pends_both, gives_both}
 use Rattle.solo_laws.proofs.Following.Drops.{given_drops_alike, closed_drops_alike, given_drops_shown, closed_drops_shown}
 use Rattle.solo_laws.proofs.Following.Leaking.{leaks_alike, leaks_shown}
+use Rattle.solo_laws.proofs.Following.Beginning.{both_begin}
+use Rattle.solo_laws.proofs.Following.Listed.{Listed, each_listed, has_own}
 use Rattle.solo_laws.proofs.Following.Losing.{loses_alike}
+use Rattle.solo_laws.proofs.Following.Polled.{Apart, busy, polled}
 use Rattle.solo_laws.proofs.Following.Refusing.{refuses_alike, empty_alike}
 use Rattle.solo_laws.proofs.Following.Spawning.{spawns_alike}
 use Rattle.solo_laws.proofs.Following.Keeping.{keeps, makes_numbered}
@@ -34,7 +40,9 @@ use Rattle.solo_laws.proofs.Following.Running.{runs_begin, runs_unmade}
 use Rattle.solo_laws.proofs.Following.RunLeaving.{runs_leave}
 use Rattle.solo_laws.proofs.Following.RunEnding.{goes_alike, stays_alike, tried_both}
 use Rattle.solo_laws.proofs.Following.RunGoing.{Reached, searches_alike}
-use Rattle.solo_laws.proofs.Following.RunPolling.{overs_dropped, overs_polled, owns_ready, runs_dropped, runs_polled, same_hands}
+use Rattle.solo_laws.proofs.Following.RunPolling.{going_there, overs_dropped, overs_polled, owns_ready, runs_dropped, runs_polled}
+use Rattle.solo_laws.proofs.Following.RunPolling.{same_hands}
+use Rattle.solo_laws.proofs.Showing.StillListed.{acts_apart, acts_listed, one_in, stage_codes}
 use Rattle.solo_laws.proofs.Showing.Telling.{step}
 use Rattle.solo_laws.proofs.Showing.Calling as calling
 use Rattle.solo_laws.proofs.Showing.Polling.{handles_shown}
@@ -112,74 +120,113 @@ module _ {F T X : Type 0} (its : ℕ → Lent) where
 
   pub acts_alike : (number : Who → ℕ) (c : Choice) (s : Solo F T X) (p : Plain T (SoloWaker X)) (now : Who → ℕ) (z : Solo F T X)
       (call : Call T (SoloWaker X)) (shown : List (Event T (SoloWaker X))) → Stands its s p → IsNumbered number s.sleepers p.lying
-      → length p.lying ≤ c.tells → Acts its number c s p call shown now z → Both c call p shown now z
-  acts_alike number c s p now z call shown so n many (makes call' shown' z' how) =
+      → Listed (polled p) (busy p) s.runs → length p.lying ≤ c.tells → Acts its number c s p call shown now z → Both c call p shown now z
+  acts_alike number c s p now z call shown so n l many (makes call' shown' z' how) =
       let it = makes_alike c s z' p call' shown' so many how in
       (it, makes_numbered its c s p number call' shown' z' how n many it.0)
-  acts_alike number c s p now z call shown so n many (makes_tick granted) =
+  acts_alike number c s p now z call shown so n l many (makes_tick granted) =
       let it = ticks_begin its number s p so n c granted in ((it.stands, it.seen), it.numbered)
-  acts_alike number c s p now z call shown so n many (tick_takes t w task found first life) =
+  acts_alike number c s p now z call shown so n l many (tick_takes t w task found first life) =
       let it = ticks_take its number s p so n c t w task found first many life in ((it.stands, it.seen), it.numbered)
-  acts_alike number c s p now z call shown so n many (tick_rests t w none first granted room names more life) =
+  acts_alike number c s p now z call shown so n l many (tick_rests t w none first granted room names more life) =
       let it = ticks_rest its number s p so n c t w none first granted room names more life in ((it.stands, it.seen), it.numbered)
-  acts_alike number c s p now z call shown so n many (makes_run granted few) =
+  acts_alike number c s p now z call shown so n l many (makes_run granted few) =
       let it = (runs_begin its number s p so n c granted few).0 in ((it.stands, it.seen), it.numbered)
-  acts_alike number c s p now z call shown so n many (makes_no_run refused) =
+  acts_alike number c s p now z call shown so n l many (makes_no_run refused) =
       let it = runs_unmade its number s p so n c refused in ((it.stands, it.seen), it.numbered)
-  acts_alike number c s p now z call shown so n many (run_polled runner w going) =
+  acts_alike number c s p now z call shown so n l many (run_polled runner w going free) =
       let it = runs_polled its number s p so n c runner w going in ((it.stands, it.seen), it.numbered)
-  acts_alike number c s p now z call shown so n many (over_polled r w over) =
+  acts_alike number c s p now z call shown so n l many (over_polled r w over) =
       let it = overs_polled its number s p so n c r w over in ((it.stands, it.seen), it.numbered)
-  acts_alike number c s p now z call shown so n many (own_ready r w v rest stands_in) =
+  acts_alike number c s p now z call shown so n l many (own_ready r w v rest stands_in) =
       let it = owns_ready its number s p so n c r w v rest stands_in in ((it.stands, it.seen), it.numbered)
-  acts_alike number c s p now z call shown so n many (run_looks runner w rest shown' now' z' is going how) =
+  acts_alike number c s p now z call shown so n l many (run_looks runner w rest shown' now' z' is how) =
+      let r = runner.number in
+      let all = each_listed (polled p) (busy p) s.runs l in
+      let going = going_there its s p so r (l.held r (one_in r (busy_in rest) (busy_in p.inside) (ap (λ cs. busy_in cs) is))) in
       let out = record p { inside = rest } in
       let left : Stands its s out =
       same_hands its s p so c rest (sym (ap (λ cs. lents cs) is)) (sym (ap (λ cs. drops cs) is)) (sym (ap (λ cs. awaiters cs) is)) in
       subst (λ cs. Reached its p shown' now' z' (plain.innermost wakes_of c cs (plain.pends wakes_of c) p)) (sym is)
-      (searches_alike its number c runner w s out left n many going shown' now' z' how)
-  acts_alike number c s p now z call shown so n many (run_goes_on stage runner w rest call' first others now' y z' is ends how on) =
+      (searches_alike its number c runner w s out left n all many going shown' now' z' how)
+  acts_alike number c s p now z call shown so n l many (run_goes_on stage runner w rest call' first others now' y z' is ends how on) =
       let tried = in_try stage rest p in
       let t = tried_both its number c s p so n many stage runner.number w rest call' is ends in
       let it = makes_alike c s y tried call' (first ++ Answers Yes ∷ []) t many how in
       let numbered = makes_numbered its c s tried number call' (first ++ Answers Yes ∷ []) y how n many it.0 in
-      let few = subst (λ k. k ≤ c.tells) (sym (keeps its c s tried call' (first ++ Answers Yes ∷ []) y how).1.long) many in
+      let kept = keeps its c s tried call' (first ++ Answers Yes ∷ []) y how in
+      let few = subst (λ k. k ≤ c.tells) (sym kept.1.long) many in
+      let listed = subst EachListed (sym kept.0.1) (each_listed (polled p) (busy p) s.runs l) in
+      let r = runner.number in
+      let held =
+      l.held r (one_in r (busy_in rest) (busy_in p.inside) (stage_codes (λ r. r ∷ []) r w rest p.inside stage is)) in
+      let has = subst (λ o. has_own r o ≡ true) (sym kept.0.1) held in
       goes_alike its number c s p so n many stage runner.number w rest call' is ends runner refl first others now' y z' it.0 it.1 numbered
-      few on
-  acts_alike number c s p now z call shown so n many (run_drops stage r w rest call' first f z' is ends how) =
+      listed has few on
+  acts_alike number c s p now z call shown so n l many (run_drops stage r w rest call' first f z' is ends how) =
       let tried = in_try stage rest p in
       let t = tried_both its number c s p so n many stage r w rest call' is ends in
       let it = makes_alike c s z' tried call' (first ++ Drops f ∷ []) t many how in
       let numbered = makes_numbered its c s tried number call' (first ++ Drops f ∷ []) z' how n many it.0 in
       stays_alike its number c s p so n many stage r w rest call' is ends first (Drops f) z' refl it.0 it.1 numbered
-  acts_alike number c s p now z call shown so n many (run_loses stage r w rest call' first v z' is ends how) =
+  acts_alike number c s p now z call shown so n l many (run_loses stage r w rest call' first v z' is ends how) =
       let tried = in_try stage rest p in
       let t = tried_both its number c s p so n many stage r w rest call' is ends in
       let it = makes_alike c s z' tried call' (first ++ Loses v ∷ []) t many how in
       let numbered = makes_numbered its c s tried number call' (first ++ Loses v ∷ []) z' how n many it.0 in
       stays_alike its number c s p so n many stage r w rest call' is ends first (Loses v) z' refl it.0 it.1 numbered
-  acts_alike number c s p now z call shown so n many (run_dropped r going) =
+  acts_alike number c s p now z call shown so n l many (run_dropped r going free) =
       let it = runs_dropped its number s p so n c r going in ((it.stands, it.seen), it.numbered)
-  acts_alike number c s p now z call shown so n many (over_dropped r over) =
+  acts_alike number c s p now z call shown so n l many (over_dropped r over) =
       let it = overs_dropped its number s p so n c r over in ((it.stands, it.seen), it.numbered)
-  acts_alike number c s p now z call shown so n many (run_leaves runner answer rest stands_in going life) =
+  acts_alike number c s p now z call shown so n l many (run_leaves runner answer rest stands_in life) =
+      let r = runner.number in
+      let going =
+      going_there its s p so r (l.held r (one_in r (busy_in rest) (busy_in p.inside) (ap (λ cs. busy_in cs) stands_in))) in
       let it = runs_leave its number s p so n c runner answer rest stands_in going many life in ((it.stands, it.seen), it.numbered)
-  acts_alike number c s p now z call shown so n many (makes_no_tick refused) =
+  acts_alike number c s p now z call shown so n l many (makes_no_tick refused) =
       let it = ticks_unmade its number s p so n c refused in ((it.stands, it.seen), it.numbered)
-  acts_alike number c s p now z call shown so n many (tick_refused t w none first refused) =
+  acts_alike number c s p now z call shown so n l many (tick_refused t w none first refused) =
       let it = ticks_refused its number s p so n c t w none first refused in ((it.stands, it.seen), it.numbered)
-  acts_alike number c s p now z call shown so n many (tick_lies_refused t w none first refused room names again more life) =
+  acts_alike number c s p now z call shown so n l many (tick_lies_refused t w none first refused room names again more life) =
       let it = (ticks_lie_refused its number s p so n c t w none first refused room names again more life).refused in
       ((it.stands, it.seen), it.numbered)
-  acts_alike number c s p now z call shown so n many (tick_leaves t life) =
+  acts_alike number c s p now z call shown so n l many (tick_leaves t life) =
       let it = ticks_leave its number s p so n c t many life in ((it.stands, it.seen), it.numbered)
 
+  -- what is known of both wherever a call has ended
+  pub record Known (number : Who → ℕ) (s : Solo F T X) (p : Plain T (SoloWaker X)) : Type 0 where
+    pub stands : Stands its s p
+    pub numbered : IsNumbered number s.sleepers p.lying
+    pub listed : Listed (polled p) (busy p) s.runs
+    pub once : Apart (busy_in p.inside)
+
+  pub new_known : (number : Who → ℕ) (limit : ℕ) (kind : Kind) (is_static : Bool) (s : Solo F T X) → IsNew limit kind s
+      → counts kind ≡ not is_static → Known number s (plain.new limit is_static)
+  new_known number limit kind is_static s is counted = record {
+    stands = both_begin its limit kind is_static s is counted;
+    numbered = new_numbered number limit kind s is;
+    listed =
+        subst (Listed (λ r. false) (λ r. false)) (sym is.runs)
+        (record { late = λ at q here late. absurd cc; made = λ r is. absurd cc; held = λ r is. absurd cc });
+    once = refl;
+  }
+
   pub leads_alike : (list : List (Choice × Call T (SoloWaker X))) (number last : Who → ℕ) (s z : Solo F T X) (p : Plain T (SoloWaker X))
-      (shown : List (Event T (SoloWaker X))) → Stands its s p → IsNumbered number s.sleepers p.lying
-      → Leads its list number s p shown last z
-      → Stands its z (course wakes_of list p) × ((course wakes_of list p).events ≡ p.events ++ shown)
-  leads_alike list number last s z p shown so n (stays number' s' p') = (so, sym (append-nil p.events))
-  leads_alike list number last s z p shown so n (leads c call rest before now later s' y z' p' first others many acts how) =
-      let one = acts_alike before c s' p' now y call first so n many acts in
-      let all = leads_alike rest now later y z' (does wakes_of c call p') others one.0.0 one.1 how in
+      (shown : List (Event T (SoloWaker X))) → Known number s p → Leads its list number s p shown last z
+      → Known last z (course wakes_of list p) × ((course wakes_of list p).events ≡ p.events ++ shown)
+  leads_alike list number last s z p shown known (stays number' s' p') = (known, sym (append-nil p.events))
+  leads_alike list number last s z p shown known (leads c call rest before now later s' y z' p' first others many acts how) =
+      let one = acts_alike before c s' p' now y call first known.stands known.numbered known.listed many acts in
+      let listed = acts_listed its before c s' p' known.once now y call first known.stands known.numbered known.listed acts in
+      let once = acts_apart its before c s' p' now y call first known.stands known.numbered known.once acts in
+      let next : Known now y (does wakes_of c call p') = record { stands = one.0.0; numbered = one.1; listed = listed; once = once } in
+      let all = leads_alike rest now later y z' (does wakes_of c call p') others next how in
       (all.0, step p'.events first others one.0.1 all.1)
+
+  -- where a list of calls leads to both
+  pub led_known : (number : Who → ℕ) (s : Solo F T X) (p : Plain T (SoloWaker X)) → IsLed its number s p → Known number s p
+  led_known number s p led =
+      subst (Known number s) (sym led.course_is)
+      (leads_alike led.calls led.before number led.first s (plain.new led.limit led.is_static) led.shown
+      (new_known led.before led.limit led.kind led.is_static led.first led.is_new led.counted) led.leads).0

@@ -68,8 +68,7 @@ impl<F: 'static, T: 'static, W: 'static> Task<F, T, W> {
     /// It has to call the awaiter before anything else, where this is owed.
     #[inline(always)]
     pub(crate) fn owing(self, owed: Owed) -> Result<Self, OwingTask<F, T, W>>
-        ensures calls { is_ok result ≡ not (is_some owed.awaiter) }
-        ensures same { MatchResult result (λ t. t ≡ self.entry) (λ t. t.task ≡ self.entry) }
+        ensures { (is_ok result ≡ not (is_some owed.awaiter)) × MatchResult result (λ t. t ≡ self.entry) (λ t. t.task ≡ self.entry) }
     {
         match owed.awaiter {
             Some(_) => Err(OwingTask { task: self }),

@@ -43,9 +43,7 @@ impl<F: 'static, T: 'static, W: 'static> PastRun<F, T, W> {
 
     #[inline(always)]
     pub(crate) fn open(self) -> (&'static Cell<F, T, W>, Pass<F, T, W>)
-        ensures cell { result.0.now ≡ self.entry.cell.now }
-        ensures seat { IsSeatOf result.0.now.board.shared result.1 }
-        ensures has { Has Leaving result.1 }
+        ensures { (result.0.now ≡ self.entry.cell.now) × IsSeatOf result.0.now.board.shared result.1 × Has Leaving result.1 }
     {
         let PastRun { cell, claim } = self;
         (cell, claim.into_seat())
@@ -54,8 +52,7 @@ impl<F: 'static, T: 'static, W: 'static> PastRun<F, T, W> {
     /// It has to call the awaiter before, where this is owed.
     #[inline(always)]
     pub(crate) fn owing(self, owed: Owed) -> Result<Self, OwingRun<F, T, W>>
-        ensures calls { is_ok result ≡ not (is_some owed.awaiter) }
-        ensures same { MatchResult result (λ r. r ≡ self.entry) (λ r. r.run ≡ self.entry) }
+        ensures { (is_ok result ≡ not (is_some owed.awaiter)) × MatchResult result (λ r. r ≡ self.entry) (λ r. r.run ≡ self.entry) }
     {
         match owed.awaiter {
             Some(_) => Err(OwingRun { run: self }),

@@ -55,12 +55,10 @@ fn take_answer<F: 'static, T: 'static, W: 'static>(
 ) -> Polled<F, T, W>
     requires seat { IsSeatOf cell.now.board.shared pass }
     requires has { HasOutput owed.answer pass }
-    ensures gives { is_some result.output ≡ is_given owed.answer }
-    ensures calls { is_ok result.task ≡ not (is_some owed.awaiter) }
-    ensures shows { MatchOption result.output
-        (MatchResult result.task (λ t. IsClaimOf pass t.claim) (λ t. IsClaimOf pass t.task.claim))
-        (λ _. ⊤) }
-    ensures same { IsHandleOf cell.now result.task }
+    ensures { (is_some result.output ≡ is_given owed.answer) × (is_ok result.task ≡ not (is_some owed.awaiter))
+        × MatchOption result.output
+        (MatchResult result.task (λ t. IsClaimOf pass t.claim) (λ t. IsClaimOf pass t.task.claim)) (λ _. ⊤)
+        × IsHandleOf cell.now result.task }
 {
     if gives_output(owed) {
         let output = Given::of(take_output(cell.board(), &mut pass));

@@ -1,0 +1,415 @@
+-- A lone poll of a run, with the ends of all the code that it comes to from its first take on: it takes on until it has taken 200 and lets
+-- others go first, or nothing is due.
+use Rattle.std.proofs.Common.{◌≡◌, ℕ, zero, suc, ◌+◌, ◌≤◌, ◌++◌, Bool, true, false, List, [], ◌∷◌, length}
+use Rattle.task_moves.specs.declared.moves.owed.Move.{Move}
+use Rattle.task_moves.specs.declared.moves.owed.Move.TheVariants as move
+use Rattle.executor_model.specs.declared.event.Answer.TheVariants as answer
+use Rattle.executor_model.specs.declared.op.HandleOp.TheVariants as handle_op
+use Rattle.executor_model.specs.declared.op.Op.{Op}
+use Rattle.executor_model.specs.declared.op.Op.TheVariants as op
+use Rattle.executor_model.specs.declared.op.TableOp.TheVariants as table_op
+use Rattle.executor_model.specs.declared.op.UserOp.TheVariants as user_op
+use Rattle.executor_model.specs.declared.op.Waker.{Waker}
+use Rattle.executor_model.specs.declared.step.UserEnd.{UserEnd}
+use Rattle.executor_model.specs.declared.step.UserEnd.TheVariants as end
+use Rattle.executor_model.specs.Acts.{is_last_waker}
+use Rattle.executor_model.specs.Quiet.{IsQuiet}
+use Rattle.executor_model.specs.World.{World, Done, done, task}
+use Rattle.executor_model.specs.World as world
+use Rattle.plain_scheduler.specs.Lists.{on as on_option}
+use Rattle.plain_scheduler.specs.Calls as plain_calls
+use Rattle.machine_roads.specs.View.{Output, wakes}
+use Rattle.machine_roads.specs.Road.{Follows, waking_in}
+use Rattle.machine_roads.specs.Alone.{alone, is_resting, Has}
+use Rattle.machine_roads.specs.Dropped.{Drops, IsEnding, answered, loses, rest_of, without_run}
+use Rattle.machine_roads.specs.Forgotten.{IsForgotten, IsLastPoll, unawaited, without_awaiter}
+use Rattle.machine_roads.proofs.Forgetting.{Forgets, forgets_by, forgets_with, forgotten_by}
+use Rattle.machine_roads.proofs.Lists.{cons_is}
+use Rattle.machine_roads.proofs.Puts.{put_at, put_by}
+use Rattle.machine_roads.proofs.Standing.{Answered, Behind, InDrop, InPoll, IsGoing, IsTaken, Stands, StandsSo, Stays, StaysSo}
+use Rattle.machine_roads.proofs.Unseen.{stands_in}
+use Rattle.std.proofs.Common.{Option, Some, None, slice_get, refl, sym, ap, subst, ◌∙◌, arith}
+use Rattle.executor_model.specs.declared.op.RunPoll.{RunPoll}
+use Rattle.executor_model.specs.Steps.{Machine, accepts, react}
+use Rattle.executor_model.proofs.Steps.Reached.{Reached}
+use Rattle.plain_scheduler.specs.State.{Choice, Closed, Code, Drop, End, Future, Lose, Plain, Poll, Run, Taker}
+use Rattle.plain_scheduler.specs.Lists.{any}
+use Rattle.plain_scheduler.specs.Moves.{is_due, task as plain_task}
+use Rattle.plain_scheduler.specs.Calls.{does, Ends, EndsWith, Pends}
+use Rattle.plain_scheduler.specs.Takes as plain_takes
+use Rattle.machine_roads.specs.Lone.{GoesOn, ended, ends as ends_with, idle, is_end, over}
+use Rattle.machine_roads.specs.Searching.{goes_on_by}
+use Rattle.machine_roads.specs.Stopped.{IsInPoll}
+use Rattle.machine_roads.proofs.LoneRuns.{InCode, Inside, IsBefore, Rests, Whole, before, goes_on_of}
+use Rattle.machine_roads.proofs.Passing.{GoesBy, passed, stood, telling}
+use Rattle.machine_roads.proofs.Pending.{gives_so, pends_by}
+use Rattle.machine_roads.proofs.RunEnding.{dropped_by, drops_with, loses_with, lost_by}
+use Rattle.machine_roads.proofs.RunsOn.{After, Between, between_stays, ends, goes_on as runs_on, idles, takes}
+use Rattle.machine_roads.proofs.RunsStay.{RunsStay}
+use Rattle.machine_roads.proofs.Tying.{LeadsSo}
+
+-- the same but for the code in which it stands
+between_inside : (r : ℕ) (last : Bool) (t : ℕ) (q : Plain Output Waker) (codes : List (Code Output Waker)) → Between r last t q
+    → Between r last t (record q { inside = codes })
+between_inside r last t q codes so =
+    record { taken = so.taken; most = so.most; early = so.early; going = so.going; left = so.left }
+
+-- it rests there, and more is so of that
+again : (p : ℕ) (new : Machine) (R S : Done → Type 0) (y : InCode p R new) → S (done y.machine.world (y.first ∷ y.rest))
+    → InCode p S new
+again p new R S y so = record {
+  machine = y.machine;
+  first = y.first;
+  rest = y.rest;
+  end = y.end;
+  steps = y.steps;
+  reached = y.reached;
+  there = y.there;
+  is = y.is;
+  so = so;
+  accepted = y.accepted;
+  made = y.made;
+  follow = y.follow;
+}
+
+module _ (p : ℕ) (new : Machine) (later : new.world.gone ≡ false) (at_last : Reached new) (quiet : IsQuiet new.world.trace)
+    (c : Choice) (codes : List (Code Output Waker)) (x : RunPoll) where
+  abbrev pub taker : Taker Waker
+  taker = Run x.run x.waker
+
+  abbrev pub Result : Plain Output Waker → Type 0
+  Result r = GoesOn x.run x.waker codes new.world r
+
+  least : (n m : ℕ) → m ≡ n → n ≤ m
+  least n m is = omega (arith, is)
+
+  -- one code more has ended
+  once_more : (d : Choice) (e : plain_calls.Call Output Waker) (r : Plain Output Waker) → is_end e ≡ true → d.tells ≡ length r.lying
+      → Result (does wakes d e r) → Result r
+  once_more d e r it told (ended z es inside follows) =
+      ended z (ends_with d e r z it (least (length r.lying) d.tells told) es) inside follows
+  once_more d e r it told (idle z b f es of none is) =
+      idle z b f (ends_with d e r z it (least (length r.lying) d.tells told) es) of none is
+
+  -- from the end of user code on
+  goes_on : (R S : Done → Type 0) (y : InCode p R new)
+      → LeadsSo p (done (react p y.first y.end y.machine.world).world ((react p y.first y.end y.machine.world).next ++ y.rest)) S
+      → Rests p S new
+  goes_on R S y leads = goes_on_of Has IsBefore before p R S new later at_last quiet y leads
+
+  -- behind what it took it goes on so, one more taken
+  abbrev pub GoesOnTo : ℕ → Type 0
+  GoesOnTo t =
+      (l : Bool) (b r : Plain Output Waker) → b.inside ≡ codes → Between x.run l t r
+      → Rests p (λ e. StandsSo taker (goes_on_by x l) [] b e r) new → Result r
+
+  module _ (t : ℕ) (last : Bool) (on : GoesOnTo (suc t)) where
+    abbrev final : Op
+    final = goes_on_by x last
+
+    abbrev Now : Plain Output Waker → Type 0
+    Now r = Between x.run last t r
+
+    -- it has taken the next one, has let others go first, or nothing is due
+    pub from_after : (e : plain_calls.Call Output Waker) → is_end e ≡ true → (r b : Plain Output Waker) → b.inside ≡ codes
+        → Rests p (λ d. After p x [] b (length r.lying) t d (λ d. does wakes d e r)) new → Result r
+    from_after e it r b same (Whole so) = by so
+      where
+        by : After p x [] b (length r.lying) t (done new.world []) (λ d. does wakes d e r) → Result r
+        by (takes d l stands now) =
+            let d1 = telling (length r.lying) d in
+            once_more d1 e r it refl (on l b (does wakes d1 e r) same now (Whole stands))
+        by (ends d next follows inside) =
+            let d1 = telling (length r.lying) d in
+            once_more d1 e r it refl (ended (does wakes d1 e r) (over (does wakes d1 e r)) (inside ∙ same) follows)
+        by (idles b0 none is) = idle r b0 e (over r) it none is
+    from_after e it r b same (Inside y) = by y.so
+      where
+        by : After p x [] b (length r.lying) t (done y.machine.world (y.first ∷ y.rest)) (λ d. does wakes d e r) → Result r
+        by (takes d l stands now) =
+            let d1 = telling (length r.lying) d in
+            once_more d1 e r it refl
+            (on l b (does wakes d1 e r) same now
+            (Inside (again p new (λ d. After p x [] b (length r.lying) t d (λ d. does wakes d e r))
+            (λ d. StandsSo taker (goes_on_by x l) [] b d (does wakes d1 e r)) y stands)))
+        by (ends d next follows inside) = absurd cc
+        by (idles b0 none is) = idle r b0 e (over r) it none is
+
+    -- or more user code has come before that
+    data Left (So : Plain Output Waker → Done → Type 0) (b : Plain Output Waker) (n : ℕ) (will : Choice → Plain Output Waker) (e : Done)
+        : Type 0 where
+      goes : After p x [] b n t e will → Left So b n will e
+      still : So (will (telling n c)) e → Now (will (telling n c)) → Left So b n will e
+
+    left_by : (So : Plain Output Waker → Done → Type 0) (b : Plain Output Waker) (n : ℕ) (will : Choice → Plain Output Waker) (e : Done)
+        → is_resting e.next ≡ true → Now b → GoesBy p taker final [] b n e will (λ z. So z e) → Left So b n will e
+    left_by So b n will e rests now (passed so) = goes (runs_on p x [] b n t e will refl rests c last now so)
+    left_by So b n will e rests now (stood so stays) =
+        still (so c) (between_stays x.run last t b (will (telling n c)) (stays c) now)
+
+    from_left : (So : Plain Output Waker → Done → Type 0) (e : plain_calls.Call Output Waker) → is_end e ≡ true
+        → (r b : Plain Output Waker) → b.inside ≡ codes
+        → ((z : Plain Output Waker) → Now z → Rests p (λ d. So z d) new → Result z)
+        → Rests p (λ d. Left So b (length r.lying) (λ d. does wakes d e r) d) new → Result r
+    from_left So e it r b same more (Whole so) = by so
+      where
+        by : Left So b (length r.lying) (λ d. does wakes d e r) (done new.world []) → Result r
+        by (goes so) = from_after e it r b same (Whole so)
+        by (still so now) =
+            let d1 = telling (length r.lying) c in
+            once_more d1 e r it refl (more (does wakes d1 e r) now (Whole so))
+    from_left So e it r b same more (Inside y) = by y.so
+      where
+        R : Done → Type 0
+        R d = Left So b (length r.lying) (λ d. does wakes d e r) d
+
+        by : Left So b (length r.lying) (λ d. does wakes d e r) (done y.machine.world (y.first ∷ y.rest)) → Result r
+        by (goes so) =
+            from_after e it r b same
+            (Inside (again p new R (λ d. After p x [] b (length r.lying) t d (λ d. does wakes d e r)) y so))
+        by (still so now) =
+            let d1 = telling (length r.lying) c in
+            once_more d1 e r it refl (more (does wakes d1 e r) now (Inside (again p new R (λ d. So (does wakes d1 e r) d) y so)))
+
+    -- the drop of an output ends
+    from_loss : (f : ℕ) (b r : Plain Output Waker) → b.inside ≡ codes → Now r → Rests p (λ e. Drops taker final [] f b e r) new → Result r
+    from_loss f b r same now (Whole (answered next inside follows)) = ended r (over r) (inside ∙ same) follows
+    from_loss f b r same now (Whole (loses awaiter next inside ending)) = absurd cc
+    from_loss f b r same now (Inside y) = by y.so
+      where
+        by : Drops taker final [] f b (done y.machine.world (y.first ∷ y.rest)) r → Result r
+        by (answered next inside follows) = absurd cc
+        by (loses awaiter next inside ending) =
+            let m = y.machine in
+            let os = rest_of (task m.world f).awaiter f final ++ [] in
+            let both = cons_is y.first (op.User (user_op.DropOutput f)) y.rest os next in
+            let r0 : Plain Output Waker = record r { inside = codes } in
+            let r1 : Plain Output Waker = record r { inside = Lose awaiter (Some taker) ∷ codes } in
+            let n = length r.lying in
+            let c1 = telling n c in
+            let is : r1 ≡ r =
+            ap (λ (codes : List (Code Output Waker)). record r { inside = codes })
+            (ap (λ (codes : List (Code Output Waker)). Lose awaiter (Some taker) ∷ codes) (sym same) ∙ sym inside) in
+            let ending0 : IsEnding m.world f awaiter r0 =
+            record {
+              known = ending.known;
+              over = ending.over;
+              still = ending.still;
+              counted = ending.counted;
+              stored = ending.stored;
+              awaited = ending.awaited;
+              follows =
+                  stands_in codes (without_run f m.world) r ending.follows
+                  (sym (ap (λ codes. waking_in codes) inside ∙ ap (λ codes. waking_in codes) same));
+            } in
+            let S : Done → Type 0 = λ e. After p x [] r0 n t e (λ d. does wakes d Ends r1) in
+            let leads : LeadsSo p (done m.world os) S =
+            λ hints all rests.
+            runs_on p x [] r0 n t (alone p hints (done m.world os)) (loses_with taker awaiter r0) refl rests c last
+            (between_inside x.run last t r codes now)
+            (lost_by taker final p f [] m.world r0 awaiter c1 ending0 (least n n refl) hints all rests) in
+            let here : LeadsSo p (done (react p y.first y.end m.world).world ((react p y.first y.end m.world).next ++ y.rest)) S =
+            subst (λ o. LeadsSo p (done (react p o y.end m.world).world ((react p o y.end m.world).next ++ y.rest)) S) (sym both.0)
+            (subst (λ os. LeadsSo p (done m.world os) S) (sym both.1) leads) in
+            subst Result is (from_after Ends refl r1 r0 refl (goes_on (λ e. Drops taker final [] f b e r) S y here))
+
+    -- so does the drop of a future
+    from_drop : (R : Done → Type 0) (y : InCode p R new) (f : ℕ) (mv : Move) (why : End Output) → IsGoing y.machine.world f mv why
+        → y.first ∷ y.rest ≡ op.User (user_op.Drop f) ∷ op.Table (table_op.LeaveTable f) ∷ op.Move mv f ∷ final ∷ []
+        → (r : Plain Output Waker) → r.inside ≡ Drop f why taker ∷ codes → Now r → Follows y.machine.world r → Result r
+    from_drop R y f mv why going next r inside now follows =
+        let m = y.machine in
+        let os = op.Table (table_op.LeaveTable f) ∷ op.Move mv f ∷ final ∷ [] in
+        let both = cons_is y.first (op.User (user_op.Drop f)) y.rest os next in
+        let r0 : Plain Output Waker = record r { inside = codes } in
+        let r1 : Plain Output Waker = record r { inside = Drop f why taker ∷ codes } in
+        let n = length r.lying in
+        let is : r1 ≡ r = ap (λ (codes : List (Code Output Waker)). record r { inside = codes }) (sym inside) in
+        let So : Plain Output Waker → Done → Type 0 = λ z d. Drops taker final [] f r0 d z in
+        let S : Done → Type 0 = λ e. Left So r0 n (λ d. does wakes d Ends r1) e in
+        let leads : LeadsSo p (done m.world os) S =
+        λ hints all rests.
+        left_by So r0 n (drops_with taker f why r0) (alone p hints (done m.world os)) rests (between_inside x.run last t r codes now)
+        (dropped_by p [] m.world r0 refl (stands_in codes m.world r follows (sym (ap (λ codes. waking_in codes) inside))) taker final
+        f mv why going.known going.entered going.ends (telling n c) (least n n refl) hints all rests) in
+        let here : LeadsSo p (done (react p y.first y.end m.world).world ((react p y.first y.end m.world).next ++ y.rest)) S =
+        subst (λ o. LeadsSo p (done (react p o y.end m.world).world ((react p o y.end m.world).next ++ y.rest)) S) (sym both.0)
+        (subst (λ os. LeadsSo p (done m.world os) S) (sym both.1) leads) in
+        subst Result is
+        (from_left So Ends refl r1 r0 refl (λ z now rests. from_loss f r0 z refl now rests) (goes_on R S y here))
+
+    -- so does the drop of a future that nobody could wake any more
+    from_forgotten : (f : ℕ) (b r : Plain Output Waker) → b.inside ≡ codes → Now b → Rests p (λ e. Forgets taker final [] f b e r) new
+        → Result r
+    from_forgotten f b r same now (Whole so) =
+        let no : [] ≡ op.User (user_op.Drop f) ∷ op.Table (table_op.LeaveTable f) ∷ op.Handle (handle_op.LetGo f) ∷ final ∷ [] =
+        so.stops.left in
+        absurd cc
+    from_forgotten f b r same now (Inside y) =
+        let m = y.machine in
+        let os = op.Table (table_op.LeaveTable f) ∷ op.Handle (handle_op.LetGo f) ∷ final ∷ [] in
+        let both = cons_is y.first (op.User (user_op.Drop f)) y.rest os y.so.stops.left in
+        let r0 : Plain Output Waker = record r { inside = codes } in
+        let r1 : Plain Output Waker = record r { inside = Drop f Closed taker ∷ codes } in
+        let n = length r.lying in
+        let is : r1 ≡ r =
+        ap (λ (codes : List (Code Output Waker)). record r { inside = codes })
+        (ap (λ (codes : List (Code Output Waker)). Drop f Closed taker ∷ codes) (sym same) ∙ sym y.so.stops.inside) in
+        let it_is = y.so.stops.forgotten in
+        let forgotten0 : IsForgotten m.world f r0 =
+        record {
+          known = it_is.known;
+          entered = it_is.entered;
+          spent = it_is.spent;
+          unheld = it_is.unheld;
+          finished = it_is.finished;
+          closed = it_is.closed;
+          awaited = it_is.awaited;
+          follows =
+              subst (Follows (without_awaiter f m.world)) (unawaited_in f r) (stands_in codes (without_awaiter f m.world) (unawaited f r)
+              it_is.follows
+              (sym (ap (λ codes. waking_in codes) (put_by (λ p. p.inside) f (record (plain_task f r) { awaiter = None }) r (λ fs. refl))
+              ∙ (ap (λ codes. waking_in codes) y.so.stops.inside ∙ ap (λ codes. waking_in codes) same))));
+        } in
+        let S : Done → Type 0 = λ e. After p x [] r0 n t e (λ d. does wakes d Ends r1) in
+        let leads : LeadsSo p (done m.world os) S =
+        λ hints all rests.
+        runs_on p x [] r0 n t (alone p hints (done m.world os)) (forgets_with taker f r0) refl rests c last
+        (between_inside x.run last t r codes (between_stays x.run last t b r y.so.stay now))
+        (forgotten_by taker final p f [] m.world r0 (telling n c) forgotten0 (least n n refl) hints all rests) in
+        let here : LeadsSo p (done (react p y.first y.end m.world).world ((react p y.first y.end m.world).next ++ y.rest)) S =
+        subst (λ o. LeadsSo p (done (react p o y.end m.world).world ((react p o y.end m.world).next ++ y.rest)) S) (sym both.0)
+        (subst (λ os. LeadsSo p (done m.world os) S) (sym both.1) leads) in
+        subst Result is (from_after Ends refl r1 r0 refl (goes_on (λ e. Forgets taker final [] f b e r) S y here))
+      where
+        unawaited_in : (f : ℕ) (r : Plain Output Waker)
+            → record (unawaited f r) { inside = codes } ≡ unawaited f (record r { inside = codes })
+        unawaited_in f r = by (slice_get r.futures f)
+          where
+            by : (o : Option (Future Output Waker))
+                → record (on_option o (λ x q. put_at f (record (plain_task f r) { awaiter = None }) x q) r) { inside = codes }
+                ≡ on_option o (λ x q. put_at f (record (plain_task f r) { awaiter = None }) x q) (record r { inside = codes })
+            by None = refl
+            by (Some x) = refl
+
+    -- behind a poll
+    at_end : (inside : List (Code Output Waker)) (w : World) (os : List Op) (now : List (Code Output Waker))
+        → Stays taker final [] inside w os now → os ≡ [] → now ≡ inside
+    at_end inside w os now Answered none = refl
+    at_end inside w os now (InDrop f mv why going) none = absurd cc
+
+    in_drop : (R : Done → Type 0) (y : InCode p R new) (r : Plain Output Waker) → Now r → Follows y.machine.world r → (os : List Op)
+        (is : List (Code Output Waker)) → Stays taker final [] codes y.machine.world os is → y.first ∷ y.rest ≡ os → r.inside ≡ is
+        → Result r
+    in_drop R y r now follows os is Answered next inside = absurd cc
+    in_drop R y r now follows os is (InDrop f mv why going) next inside = from_drop R y f mv why going next r inside now follows
+
+    from_stays : (b r : Plain Output Waker) → b.inside ≡ codes → Now r → Rests p (λ e. StaysSo taker final [] b e r) new → Result r
+    from_stays b r same now (Whole so) =
+        ended r (over r) (at_end b.inside new.world [] r.inside so.stays refl ∙ same) so.follows
+    from_stays b r same now (Inside y) =
+        in_drop (λ e. StaysSo taker final [] b e r) y r now y.so.follows (y.first ∷ y.rest) r.inside
+        (subst (λ codes. Stays taker final [] codes y.machine.world (y.first ∷ y.rest) r.inside) same y.so.stays) refl refl
+
+    -- in a poll
+    from_poll : (R : Done → Type 0) (y : InCode p R new) (f : ℕ) → IsTaken y.machine.world f
+        → y.first ∷ y.rest ≡ op.User (user_op.Poll f) ∷ final ∷ []
+        → (r : Plain Output Waker) → r.inside ≡ Poll f taker ∷ codes → Now r → Follows y.machine.world r → Result r
+    from_poll R y f taken next r inside now follows =
+        subst Result is (by y.end refl (ap (λ o. accepts o y.end) (sym both.0) ∙ y.accepted))
+      where
+        both : (y.first ≡ op.User (user_op.Poll f)) × (y.rest ≡ final ∷ [])
+        both = cons_is y.first (op.User (user_op.Poll f)) y.rest (final ∷ []) next
+
+        r0 : Plain Output Waker
+        r0 = record r { inside = codes }
+
+        r1 : Plain Output Waker
+        r1 = record r { inside = Poll f taker ∷ codes }
+
+        is : r1 ≡ r
+        is = ap (λ (codes : List (Code Output Waker)). record r { inside = codes }) (sym inside)
+
+        follows0 : Follows y.machine.world r0
+        follows0 = stands_in codes y.machine.world r follows (sym (ap (λ codes. waking_in codes) inside))
+
+        now0 : Now r0
+        now0 = between_inside x.run last t r codes now
+
+        n : ℕ
+        n = length r.lying
+
+        c1 : Choice
+        c1 = telling n c
+
+        here : (e : UserEnd) (S : Done → Type 0) → y.end ≡ e
+            → LeadsSo p (done (react p (op.User (user_op.Poll f)) e y.machine.world).world
+            ((react p (op.User (user_op.Poll f)) e y.machine.world).next ++ (final ∷ []))) S
+            → LeadsSo p (done (react p y.first y.end y.machine.world).world ((react p y.first y.end y.machine.world).next ++ y.rest)) S
+        here e S at leads =
+            subst (λ e. LeadsSo p (done (react p y.first e y.machine.world).world ((react p y.first e y.machine.world).next ++ y.rest)) S)
+            (sym at)
+            (subst (λ o. LeadsSo p (done (react p o e y.machine.world).world ((react p o e y.machine.world).next ++ y.rest)) S)
+            (sym both.0)
+            (subst
+            (λ os. LeadsSo p (done (react p (op.User (user_op.Poll f)) e y.machine.world).world
+            ((react p (op.User (user_op.Poll f)) e y.machine.world).next ++ os)) S)
+            (sym both.1) leads))
+
+        by : (e : UserEnd) → y.end ≡ e → accepts (op.User (user_op.Poll f)) e ≡ true → Result r1
+        by (end.Polled answer.Pending) at ok = pends (is_last_waker move.EndPending (world.task y.machine.world f)) refl
+          where
+            pends : (b : Bool) → is_last_waker move.EndPending (world.task y.machine.world f) ≡ b → Result r1
+            pends false reached =
+                let So : Plain Output Waker → Done → Type 0 = λ z d. StaysSo taker final [] r0 d z in
+                let S : Done → Type 0 = λ e. Left So r0 n (λ d. does wakes d Pends r1) e in
+                let in_poll : IsInPoll y.machine.world f =
+                record { known = taken.known; polled = taken.polled; entered = taken.entered; reached = reached } in
+                from_left So Pends refl r1 r0 refl (λ z now rests. from_stays r0 z refl now rests)
+                (goes_on R S y (here (end.Polled answer.Pending) S at
+                (λ hints all rests.
+                left_by So r0 n (λ d. does wakes d Pends r1) _ rests now0
+                (pends_by p [] y.machine.world r0 refl follows0 taker final f in_poll c1 (least n n refl) hints all rests))))
+            pends true last_one =
+                let S : Done → Type 0 = λ e. Forgets taker final [] f r0 e (does wakes c1 Pends r1) in
+                let last_poll : IsLastPoll y.machine.world f =
+                record { known = taken.known; polled = taken.polled; entered = taken.entered; last = last_one } in
+                once_more c1 Pends r1 refl refl
+                (from_forgotten f r0 (does wakes c1 Pends r1) refl now0
+                (goes_on R S y (here (end.Polled answer.Pending) S at
+                (λ hints all rests. forgets_by p [] y.machine.world r0 refl follows0 taker final f last_poll c1 hints all rests))))
+        by (end.Polled answer.Ready) at ok =
+            let S : Done → Type 0 = λ e. StaysSo taker final [] r0 e (does wakes c1 (EndsWith tt) r1) in
+            let new_one = does wakes c1 (EndsWith tt) r1 in
+            once_more c1 (EndsWith tt) r1 refl refl
+            (from_stays r0 new_one refl
+            (between_stays x.run last t r0 new_one (record { runs = refl; kept = λ k. refl }) now0)
+            (goes_on R S y (here (end.Polled answer.Ready) S at
+            (λ hints all rests. (gives_so p [] y.machine.world r0 refl follows0 taker final f c1 hints all rests).0 taken))))
+        by e at ok = absurd cc
+
+    -- from where it rests first
+    stands_at_end : (inside : List (Code Output Waker)) (w : World) (os : List Op) (now : List (Code Output Waker))
+        → Stands taker final [] inside w os now → os ≡ [] → now ≡ inside
+    stands_at_end inside w os now (InPoll f taken) none = absurd cc
+    stands_at_end inside w os now (Behind xs ys stays) none = at_end inside w os now stays none
+
+    in_code : (R : Done → Type 0) (y : InCode p R new) (r : Plain Output Waker) → Now r → Follows y.machine.world r
+        → (os : List Op) (is : List (Code Output Waker)) → Stands taker final [] codes y.machine.world os is → y.first ∷ y.rest ≡ os
+        → r.inside ≡ is → Result r
+    in_code R y r now follows os is (InPoll f taken) next inside = from_poll R y f taken next r inside now follows
+    in_code R y r now follows os is (Behind xs ys stays) next inside = in_drop R y r now follows os is stays next inside
+
+    pub from_take : (b r : Plain Output Waker) → b.inside ≡ codes → Now r → Rests p (λ e. StandsSo taker final [] b e r) new → Result r
+    from_take b r same now (Whole so) =
+        ended r (over r) (stands_at_end b.inside new.world [] r.inside so.stands refl ∙ same) so.follows
+    from_take b r same now (Inside y) =
+        in_code (λ e. StandsSo taker final [] b e r) y r now y.so.follows (y.first ∷ y.rest) r.inside
+        (subst (λ codes. Stands taker final [] codes y.machine.world (y.first ∷ y.rest) r.inside) same y.so.stands) refl refl
+
+  -- so many more it may take
+  pub takes_on : (n t : ℕ) → t + n ≡ 200 → GoesOnTo t
+  takes_on zero t few l b r same now rests =
+      from_take t l (λ l b r same more rests. absurd (omega (arith, few, more.most))) b r same now rests
+  takes_on (suc n) t few l b r same now rests =
+      from_take t l (takes_on n (suc t) (omega (arith, few))) b r same now rests

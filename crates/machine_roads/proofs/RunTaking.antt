@@ -1,0 +1,419 @@
+-- What a run does with a future that it has found: it gets up, tells, steals more at every 64th, counts, and the future's run begins.
+use Rattle.std.proofs.Common.{◌≡◌, ℕ, zero, suc, ◌+◌, ◌≤◌, ◌==◌, ◌++◌, nat_lt, not, Bool, true, false, List, [], ◌∷◌, length}
+use Rattle.std.proofs.Common.{slice_get, slice_set, drop, take, if◌then◌else◌, append-nil, refl, sym}
+use Rattle.std.proofs.Common.{ap, subst, ◌∙◌, arith}
+use Rattle.executor_parts.specs.declared.mark.Mark.{Mark}
+use Rattle.executor_parts.specs.declared.mark.Mark.TheVariants.{Plain as PlainMark, Urgent}
+use Rattle.executor_parts.specs.Marks.{other}
+use Rattle.task_moves.specs.declared.moves.owed.Move.TheVariants as move
+use Rattle.task_moves.specs.AbstractTask as abstract
+use Rattle.executor_model.specs.declared.op.Op.{Op}
+use Rattle.executor_model.specs.declared.op.Op.TheVariants as op
+use Rattle.executor_model.specs.declared.op.RunOp.TheVariants as run_op
+use Rattle.executor_model.specs.declared.op.RunPoll.{RunPoll}
+use Rattle.executor_model.specs.declared.op.SleeperOp.TheVariants as sleeper_op
+use Rattle.executor_model.specs.declared.op.Source.TheVariants.{Common}
+use Rattle.executor_model.specs.declared.op.Then.TheVariants as then
+use Rattle.executor_model.specs.declared.op.TickOp.TheVariants as tick_op
+use Rattle.executor_model.specs.declared.op.TickOrRun.{TickOrRun}
+use Rattle.executor_model.specs.declared.op.TickOrRun.TheVariants as tick_or_run
+use Rattle.executor_model.specs.declared.op.Waker.{Waker}
+use Rattle.executor_model.specs.ActsOfRuns.{asleep, counted_by, counted_to, found, run_by, run_found}
+use Rattle.executor_model.specs.ActsOfSleepers.{found_by}
+use Rattle.executor_model.specs.SleepersAgree.{sleeps}
+use Rattle.executor_model.specs.World.{Asleep, Awake, Done, Left, Run, Ticker, World, place_of, put_run, run_of}
+use Rattle.plain_scheduler.specs.State.{ARun, Choice, Closed, Due, Plain, Poll, Polls, Running, Run as ByRun, Taker}
+use Rattle.plain_scheduler.specs.Lists.{each, or, repeat}
+use Rattle.plain_scheduler.specs.Moves.{enters, is_common, is_kept, keeps, put, see, task, tell, up}
+use Rattle.plain_scheduler.specs.Moves as plain
+use Rattle.plain_scheduler.specs.Takes as plain_takes
+use Rattle.machine_roads.specs.View.{Output, wakes}
+use Rattle.machine_roads.specs.Road.{Follows, futures_in}
+use Rattle.machine_roads.specs.Alone.{is_resting}
+use Rattle.machine_roads.specs.Searching.{IsLast}
+use Rattle.machine_roads.proofs.Adding.{Adds, AreBare, bare_none, risen_adds, with_both, with_due}
+use Rattle.machine_roads.proofs.Aside.{tell_inside, up_inside}
+use Rattle.machine_roads.proofs.Changing.{futures_append}
+use Rattle.machine_roads.proofs.Due.{marks_apart}
+use Rattle.machine_roads.proofs.Exchanging.{loudly}
+use Rattle.machine_roads.proofs.Keeping.{HasPlaces, IsBeside, Kept, Lined}
+use Rattle.machine_roads.proofs.Keeping.{common_away, common_beside, kept_due, keeps_is, lined_so, many_kept}
+use Rattle.machine_roads.proofs.Leaving.{gets_up}
+use Rattle.machine_roads.proofs.Lists.{same_of}
+use Rattle.machine_roads.proofs.Moved.{Then}
+use Rattle.machine_roads.proofs.Numbers.{put_view}
+use Rattle.machine_roads.proofs.Puts.{put_by}
+use Rattle.machine_roads.proofs.Runs.{changed, counted_alike, counted_last, one_more, runs_is, same_place}
+use Rattle.machine_roads.proofs.Standing.{Stands, StandsSo}
+use Rattle.machine_roads.proofs.Stealing.{steals}
+use Rattle.machine_roads.proofs.Stepping.{Way, next}
+use Rattle.machine_roads.proofs.Trying.{runs}
+use Rattle.machine_roads.proofs.Unseen.{ran}
+
+-- so many marks, and then these
+abbrev pub marks_of : ℕ → Mark → List Mark → List Mark
+marks_of n m ms = elim n [ zero ↦ ms | suc (k → rest) ↦ m ∷ rest ]
+
+-- a run keeps what is common of this mark
+abbrev pub keeping : ℕ → Mark → List Due → List Due
+keeping r m ds = kept_due r (is_common m) ds
+
+pub each_marks : (r n : ℕ) (m : Mark) (ms : List Mark) (q : Plain Output Waker)
+    → each (marks_of n m ms) (λ mark. keeps r (is_common mark)) q
+    ≡ each ms (λ mark. keeps r (is_common mark)) (with_due (repeat n (keeping r m) q.due) q)
+each_marks r zero m ms q = refl
+each_marks r (suc n) m ms q =
+    ap (each (marks_of n m ms) (λ mark. keeps r (is_common mark))) (keeps_is r (is_common m) q)
+    ∙ each_marks r n m ms (with_due (keeping r m q.due) q)
+
+-- of two lists that are alike class by class a run keeps alike
+module _ (r : ℕ) (m : Mark) (n : ℕ) where
+  abbrev keep : List Due → List Due
+  keep ds = repeat n (keeping r m) ds
+
+  marks_beside : IsBeside r (is_common m) (is_common (other m))
+  marks_beside = record { apart = marks_apart m; back = λ d. refl }
+
+  -- from what is kept, each class
+  lined_by : (ds es dk ek : List Due) → Lined ds es → Kept r (is_common m) n ds dk → Kept r (is_common m) n es ek → Lined dk ek
+  lined_by ds es dk ek same one two = record {
+    common = λ k. mark m k;
+    kept = λ k. keeper k (k == r) refl;
+  }
+    where
+      its : futures_in (is_common m) dk ≡ futures_in (is_common m) ek
+      its = one.left ∙ (ap (drop n) (same.common m) ∙ sym two.left)
+
+      others : futures_in (is_common (other m)) dk ≡ futures_in (is_common (other m)) ek
+      others =
+          one.beside (is_common (other m)) marks_beside ∙ (same.common (other m) ∙ sym (two.beside (is_common (other m)) marks_beside))
+
+      mark : (m k : Mark) → futures_in (is_common k) dk ≡ futures_in (is_common k) ek
+      mark j k = by m k its others
+        where
+          by : (m k : Mark) → futures_in (is_common m) dk ≡ futures_in (is_common m) ek
+              → futures_in (is_common (other m)) dk ≡ futures_in (is_common (other m)) ek
+              → futures_in (is_common k) dk ≡ futures_in (is_common k) ek
+          by PlainMark PlainMark its others = its
+          by PlainMark Urgent its others = others
+          by Urgent PlainMark its others = others
+          by Urgent Urgent its others = its
+
+      keeper : (k : ℕ) (b : Bool) → (k == r) ≡ b → futures_in (is_kept k) dk ≡ futures_in (is_kept k) ek
+      keeper k true here =
+          subst (λ k. futures_in (is_kept k) dk ≡ futures_in (is_kept k) ek) (sym (same_of k r here))
+          (one.come
+          ∙ (ap (λ fs. fs ++ take n (futures_in (is_common m) ds)) (same.kept r)
+          ∙ (ap (λ fs. futures_in (is_kept r) es ++ take n fs) (same.common m) ∙ sym two.come)))
+      keeper k false apart =
+          one.beside (is_kept k) (common_beside r m k apart)
+          ∙ (same.kept k ∙ sym (two.beside (is_kept k) (common_beside r m k apart)))
+
+  pub lined_more : (ds es : List Due) → Lined ds es → n ≤ length (futures_in (is_common m) ds) → HasPlaces r n ds
+      → Lined (keep ds) (keep es)
+  lined_more ds es same there few =
+      lined_by ds es (keep ds) (keep es) same (many_kept r (is_common m) (common_away r m) n ds there few)
+      (many_kept r (is_common m) (common_away r m) n es (subst (λ fs. n ≤ length fs) (same.common m) there)
+      (λ some. subst (λ fs. length fs + n ≤ 512) (same.kept r) (few some)))
+
+  -- and whether others are added before or behind that
+  pub lined_added : (ds more : List Due) → AreBare more → n ≤ length (futures_in (is_common m) ds) → HasPlaces r n ds
+      → Lined (keep ds ++ more) (keep (ds ++ more))
+  lined_added ds more bare there few =
+      let C : List ℕ = futures_in (is_common m) ds in
+      let one = many_kept r (is_common m) (common_away r m) n ds there few in
+      let mine : futures_in (is_kept r) (ds ++ more) ≡ futures_in (is_kept r) ds =
+      futures_append (is_kept r) ds more
+      ∙ (ap (λ fs. futures_in (is_kept r) ds ++ fs) (bare_none r more bare) ∙ append-nil (futures_in (is_kept r) ds)) in
+      let two =
+      many_kept r (is_common m) (common_away r m) n (ds ++ more)
+      (subst (λ fs. n ≤ length fs) (sym (futures_append (is_common m) ds more)) (longer n C (futures_in (is_common m) more) there))
+      (λ some. subst (λ fs. length fs + n ≤ 512) (sym mine) (few some)) in
+      lined_by (ds ++ more) (ds ++ more) (keep ds ++ more) (keep (ds ++ more)) (record { common = λ k. refl; kept = λ k. refl })
+      (record {
+        left =
+            futures_append (is_common m) (keep ds) more
+            ∙ (ap (λ fs. fs ++ futures_in (is_common m) more) one.left
+            ∙ (sym (drop_front n C (futures_in (is_common m) more) there) ∙ ap (drop n) (sym (futures_append (is_common m) ds more))));
+        come =
+            futures_append (is_kept r) (keep ds) more
+            ∙ (ap (λ fs. futures_in (is_kept r) (keep ds) ++ fs) (bare_none r more bare)
+            ∙ (append-nil (futures_in (is_kept r) (keep ds))
+            ∙ (one.come
+            ∙ (ap (λ fs. fs ++ take n C) (sym mine)
+            ∙ ap (λ fs. futures_in (is_kept r) (ds ++ more) ++ fs)
+            (sym (take_front n C (futures_in (is_common m) more) there) ∙ ap (take n) (sym (futures_append (is_common m) ds more)))))));
+        beside = λ u x.
+            futures_append u (keep ds) more
+            ∙ (ap (λ fs. fs ++ futures_in u more) (one.beside u x) ∙ sym (futures_append u ds more));
+      })
+      two
+    where
+      longer : (n : ℕ) (xs ys : List ℕ) → n ≤ length xs → n ≤ length (xs ++ ys)
+      longer zero xs ys there = omega arith
+      longer (suc n) [] ys there = absurd (omega (arith, there))
+      longer (suc n) (x ∷ xs) ys there = let more = longer n xs ys (omega (arith, there)) in omega (arith, more)
+
+      drop_front : (n : ℕ) (xs ys : List ℕ) → n ≤ length xs → drop n (xs ++ ys) ≡ drop n xs ++ ys
+      drop_front zero xs ys there = refl
+      drop_front (suc n) [] ys there = absurd (omega (arith, there))
+      drop_front (suc n) (x ∷ xs) ys there = drop_front n xs ys (omega (arith, there))
+
+      take_front : (n : ℕ) (xs ys : List ℕ) → n ≤ length xs → take n (xs ++ ys) ≡ take n xs
+      take_front zero xs ys there = refl
+      take_front (suc n) [] ys there = absurd (omega (arith, there))
+      take_front (suc n) (x ∷ xs) ys there = ap (λ zs. x ∷ zs) (take_front n xs ys (omega (arith, there)))
+
+-- the begin of a future's run is nothing to the runs
+run_runs : (c : Choice) (f : ℕ) (by : Taker Waker) (q : Plain Output Waker) → (plain_takes.run wakes c f by q).runs ≡ q.runs
+run_runs c f by q = cases (task f q).closed
+  where
+    cases : (b : Bool)
+        → (if b then plain_takes.dropping wakes c f Closed by q
+        else enters (Poll f by) (see (Polls f) (put f (abstract.begin_run (task f q)) q))).runs ≡ q.runs
+    cases true = refl
+    cases false = put_by (λ p. p.runs) f (abstract.begin_run (task f q)) q (λ fs. refl)
+
+module _ (p : ℕ) (below : List Op) (under : is_resting below ≡ true) (end : Done) (rests : is_resting end.next ≡ true) (c : Choice)
+    (x : RunPoll) where
+  abbrev r : ℕ
+  r = x.run
+
+  abbrev it : TickOrRun
+  it = tick_or_run.Run x.run
+
+  abbrev pub taker : Taker Waker
+  taker = ByRun x.run x.waker
+
+  abbrev fits : Plain Output Waker → Type 0
+  fits q = length q.lying ≤ c.tells
+
+  -- what it goes on with: after 200 it calls its own waker
+  abbrev pub final : Bool → Op
+  final last = if last then op.Run (run_op.WakeOwn x) else op.Tick (tick_op.Search (asleep x))
+
+  -- how many it has taken, before the plain scheduler's 200
+  abbrev pub IsGoing : Plain Output Waker → Type 0
+  IsGoing q = or (slice_get q.runs r) (λ run. nat_lt run.taken 200) true ≡ true
+
+  abbrev counted : List Running → List Running
+  counted rs = changed one_more r rs
+
+  -- it counts what it has taken
+  record Counts (f : ℕ) (w : World) (q : Plain Output Waker) : Type 0 where
+    last : Bool
+    world : World
+    follows : Follows world (record q { runs = counted q.runs })
+    place : (y : TickOrRun) → place_of world y ≡ place_of w y
+    is : (run_found w x f).world ≡ world
+    leads : (run_found w x f).next ≡ op.Move move.TakeUp f ∷ final last ∷ []
+    early : IsLast r last (record q { runs = counted q.runs })
+
+  counts : (f : ℕ) (w : World) (q : Plain Output Waker) → Follows w q → IsGoing q → Counts f w q
+  counts f w q follows going = by ((run_of w r).taken + 1 == 200) refl
+    where
+      of : Bool → Run
+      of b = record (run_of w r) { taken = if b then 0 else (run_of w r).taken + 1 }
+
+      placed : (b : Bool) (y : TickOrRun) → place_of (put_run w r (of b)) y ≡ place_of w y
+      placed b (tick_or_run.Tick t) = refl
+      placed b (tick_or_run.Run k) = same_place w.ticks w.runs r (of b) refl (tick_or_run.Run k)
+
+      after : (b : Bool) → ((run_of w r).taken + 1 == 200) ≡ b
+          → Follows (put_run w r (of b)) (record q { runs = counted q.runs })
+      after b is =
+          ran w.ticks (slice_set w.runs r (of b)) w.listed (counted q.runs) w q follows
+          (λ y. ap sleeps (same_place w.ticks w.runs r (of b) refl y)) (λ y n at. same_place w.ticks w.runs r (of b) refl y ∙ at)
+          (counted_alike w.runs q.runs follows.runs r going b is)
+
+      by : (b : Bool) → ((run_of w r).taken + 1 == 200) ≡ b → Counts f w q
+      by true is = record {
+        last = true;
+        world = put_run w r (of true);
+        follows = after true is;
+        place = placed true;
+        is = ap (λ (b : Bool). (run_by b w x f).world) is;
+        leads = ap (λ (b : Bool). (run_by b w x f).next) is;
+        early = counted_last w.runs q.runs follows.runs r going ∙ ap not is;
+      }
+      by false is = record {
+        last = false;
+        world = put_run w r (of false);
+        follows = after false is;
+        place = placed false;
+        is = ap (λ (b : Bool). (run_by b w x f).world) is;
+        leads = ap (λ (b : Bool). (run_by b w x f).next) is;
+        early = counted_last w.runs q.runs follows.runs r going ∙ ap not is;
+      }
+
+  -- it gets up and tells
+  module _ (q0 : Plain Output Waker) (fit : fits q0) where
+    abbrev z : Plain Output Waker
+    z = tell wakes c (up wakes c (ARun x.run) q0)
+
+    adds : Adds (λ q. tell wakes c (up wakes c (ARun x.run) q)) q0
+    adds = risen_adds c (ARun x.run) q0
+
+    z_is : z ≡ with_both (q0.due ++ adds.more) q0.runs z
+    z_is = adds.is q0.due q0.runs
+
+    z_inside : z.inside ≡ q0.inside
+    z_inside = tell_inside c (up wakes c (ARun x.run) q0) ∙ up_inside c (ARun x.run) q0
+
+    risen : (D : List Due) (rs : List Running) (w : World) (os : List Op) → Follows w (with_both D rs q0)
+        → Way p end w (found_by (place_of w it) it (op.Sleeper sleeper_op.ExchangeFlag ∷ os))
+        → Then p end os (with_both (D ++ adds.more) rs z)
+    risen D rs w os follows way =
+        let got = gets_up p end rests c it w (op.Sleeper sleeper_op.ExchangeFlag ∷ os) (with_both D rs q0) follows fit way in
+        subst (Then p end os) (adds.is D rs)
+        ((loudly p end rests c).tells got.so_up.world os (up wakes c (ARun x.run) (with_both D rs q0)) got.fit_up got.so_up.follows
+        got.so_up.way)
+
+    -- what it keeps beside, once it took so many of one mark and tells
+    abbrev keeps_all : List Mark → Plain Output Waker
+    keeps_all ms = each ms (λ mark. keeps r (is_common mark)) z
+
+    abbrev pub takes_so : List Mark → Plain Output Waker
+    takes_so ms = plain.runs one_more r (keeps_all ms)
+
+    -- the run of the future begins
+    pub record Begun (f : ℕ) (last : Bool) (y : Plain Output Waker) : Type 0 where
+      pub stood : StandsSo taker (final last) below q0 end (plain_takes.run wakes c f taker y)
+      pub early : IsLast r last (plain_takes.run wakes c f taker y)
+      pub runs : (plain_takes.run wakes c f taker y).runs ≡ changed one_more r q0.runs
+
+    begins : (f : ℕ) (last : Bool) (w : World) (es : List Due) (ms : List Mark) → Follows w (with_both es (counted q0.runs) z)
+        → takes_so ms ≡ with_both es (counted q0.runs) z → IsLast r last (with_both es (counted q0.runs) z)
+        → Way p end w (op.Move move.TakeUp f ∷ final last ∷ below) → Begun f last (takes_so ms)
+    begins f last w es ms follows same early way =
+        let q1 : Plain Output Waker = with_both es (counted q0.runs) z in
+        let new : Plain Output Waker = plain_takes.run wakes c f taker q1 in
+        let so = runs p below under end rests taker (final last) c f w q1 follows way in
+        subst (Begun f last) (sym same)
+        (record {
+          stood = record {
+            stands = subst (λ codes. Stands taker (final last) below codes end.world end.next new.inside) z_inside so.stands;
+            follows = so.follows;
+          };
+          early = ap (λ (rs : List Running). nat_lt (or (slice_get rs r) (λ run. run.taken) 0) 200) (run_runs c f taker q1) ∙ early;
+          runs = run_runs c f taker q1;
+        })
+
+    module _ (f k : ℕ) (m : Mark) (there : k ≤ length (futures_in (is_common m) q0.due)) (few : HasPlaces r k q0.due)
+        (going : IsGoing q0) where
+      abbrev D : List Due
+      D = repeat k (keeping r m) q0.due
+
+      abbrev E : List Due
+      E = repeat k (keeping r m) (q0.due ++ adds.more)
+
+      first_lined : Lined (D ++ adds.more) E
+      first_lined = lined_added r m k q0.due adds.more adds.bare there few
+
+      abbrev Found : Type 0
+      Found = (ms : List Mark) × (last : Bool) × Begun f last (takes_so ms)
+
+      counted_follows : (n : ℕ) (w : World) → Follows w (with_due D q0) → Follows (counted_to w r n) (with_due D q0)
+      counted_follows n w follows =
+          let y : Run = record (run_of w r) { counted = n } in
+          ran w.ticks (slice_set w.runs r y) w.listed q0.runs w (with_due D q0) follows
+          (λ y. ap sleeps (same_place w.ticks w.runs r (record (run_of w r) { counted = n }) refl y))
+          (λ y k at. same_place w.ticks w.runs r (record (run_of w r) { counted = n }) refl y ∙ at)
+          (put_view w.runs r y refl ∙ follows.runs)
+
+      counted_place : (n : ℕ) (w : World) → place_of (counted_to w r n) it ≡ place_of w it
+      counted_place n w = same_place w.ticks w.runs r (record (run_of w r) { counted = n }) refl it
+
+      regroup : (t : Ticker) (w : World) (os : List Op)
+          → Way p end w ((found_by t it (op.Sleeper sleeper_op.ExchangeFlag ∷ []) ++ os) ++ below)
+          → Way p end w (found_by t it (op.Sleeper sleeper_op.ExchangeFlag ∷ (os ++ below)))
+      regroup Awake w os way = way
+      regroup Left w os way = way
+      regroup (Asleep n) w os way = way
+
+      -- one of those that come between
+      at_once : (w : World) → Follows w (with_due D q0)
+          → Way p end (counted_by false w x f).world
+          ((found_by (run_of w r).place it (op.Sleeper sleeper_op.ExchangeFlag ∷ []) ++ (counted_by false w x f).next) ++ below)
+          → Found
+      at_once w follows way =
+          let n = (run_of w r).counted + 1 in
+          let w1 = counted_to w r n in
+          let k1 = counts f w1 (with_due D q0) (counted_follows n w follows) going in
+          let os = op.Move move.TakeUp f ∷ final k1.last ∷ [] in
+          let now : Way p end k1.world
+          ((found_by (run_of w r).place it (op.Sleeper sleeper_op.ExchangeFlag ∷ []) ++ os) ++ below) =
+          subst
+          (λ ops. Way p end k1.world ((found_by (run_of w r).place it (op.Sleeper sleeper_op.ExchangeFlag ∷ []) ++ ops) ++ below)) k1.leads
+          (subst
+          (λ v. Way p end v
+          ((found_by (run_of w r).place it (op.Sleeper sleeper_op.ExchangeFlag ∷ []) ++ (run_found w1 x f).next) ++ below)) k1.is way) in
+          let place : (run_of w r).place ≡ place_of k1.world it = sym (k1.place it ∙ counted_place n w) in
+          let up_now : Way p end k1.world (found_by (place_of k1.world it) it (op.Sleeper sleeper_op.ExchangeFlag ∷ (os ++ below))) =
+          subst (λ t. Way p end k1.world (found_by t it (op.Sleeper sleeper_op.ExchangeFlag ∷ (os ++ below)))) place
+          (regroup (run_of w r).place k1.world os now) in
+          let g = risen D (counted q0.runs) k1.world (os ++ below) k1.follows up_now in
+          let follows3 : Follows g.world (with_both E (counted q0.runs) z) =
+          lined_so g.world (with_both (D ++ adds.more) (counted q0.runs) z) E g.follows first_lined in
+          let same : takes_so (marks_of k m []) ≡ with_both E (counted q0.runs) z =
+          ap (plain.runs one_more r) (each_marks r k m [] z)
+          ∙ (runs_is one_more r (with_due (repeat k (keeping r m) z.due) z)
+          ∙ ap (λ (y : Plain Output Waker). with_both (repeat k (keeping r m) y.due) (counted y.runs) z) z_is) in
+          (marks_of k m [], k1.last, begins f k1.last g.world E (marks_of k m []) follows3 same k1.early g.way)
+
+      -- every 64th: it steals more
+      steals_first : (w : World) → Follows w (with_due D q0)
+          → Way p end (counted_by true w x f).world
+          ((found_by (run_of w r).place it (op.Sleeper sleeper_op.ExchangeFlag ∷ []) ++ (counted_by true w x f).next) ++ below)
+          → Found
+      steals_first w follows way =
+          let w1 = counted_to w r 0 in
+          let os = (counted_by true w x f).next in
+          let place : (run_of w r).place ≡ place_of w1 it = sym (counted_place 0 w) in
+          let up_now : Way p end w1 (found_by (place_of w1 it) it (op.Sleeper sleeper_op.ExchangeFlag ∷ (os ++ below))) =
+          subst (λ t. Way p end w1 (found_by t it (op.Sleeper sleeper_op.ExchangeFlag ∷ (os ++ below)))) place
+          (regroup (run_of w r).place w1 os way) in
+          let g = risen D q0.runs w1 (os ++ below) (counted_follows 0 w follows) up_now in
+          let q2 : Plain Output Waker = with_both (D ++ adds.more) q0.runs z in
+          let one =
+          steals p end rests x below (Common Urgent) (common_away r Urgent) (then.StealPlain f) g.world q2 g.follows g.way in
+          let ds : List Due = repeat one.many (keeping r Urgent) (D ++ adds.more) in
+          let q3 : Plain Output Waker = with_both ds q0.runs z in
+          let two =
+          steals p end rests x below (Common PlainMark) (common_away r PlainMark) (then.Run f) one.world q3 one.follows one.way in
+          let es : List Due = repeat two.many (keeping r PlainMark) ds in
+          let q4 : Plain Output Waker = with_both es q0.runs z in
+          let k1 = counts f two.world q4 two.follows going in
+          let now : Way p end k1.world (op.Move move.TakeUp f ∷ final k1.last ∷ below) =
+          subst (λ ops. Way p end k1.world (ops ++ below)) k1.leads
+          (subst (λ v. Way p end v ((run_found two.world x f).next ++ below)) k1.is two.way) in
+          let E1 : List Due = repeat one.many (keeping r Urgent) E in
+          let E2 : List Due = repeat two.many (keeping r PlainMark) E1 in
+          let lined1 : Lined ds E1 = lined_more r Urgent one.many (D ++ adds.more) E first_lined one.most one.few in
+          let lined2 : Lined es E2 = lined_more r PlainMark two.many ds E1 lined1 two.most two.few in
+          let follows3 : Follows k1.world (with_both E2 (counted q0.runs) z) =
+          lined_so k1.world (with_both es (counted q0.runs) z) E2 k1.follows lined2 in
+          let later = marks_of two.many PlainMark [] in
+          let more = marks_of one.many Urgent later in
+          let zk : Plain Output Waker = with_due (repeat k (keeping r m) z.due) z in
+          let zu : Plain Output Waker = with_due (repeat one.many (keeping r Urgent) zk.due) z in
+          let same : takes_so (marks_of k m more) ≡ with_both E2 (counted q0.runs) z =
+          ap (plain.runs one_more r)
+          (each_marks r k m more z ∙ (each_marks r one.many Urgent later zk ∙ each_marks r two.many PlainMark [] zu))
+          ∙ (runs_is one_more r (with_due (repeat two.many (keeping r PlainMark) zu.due) z)
+          ∙ ap
+          (λ (y : Plain Output Waker). with_both
+          (repeat two.many (keeping r PlainMark) (repeat one.many (keeping r Urgent) (repeat k (keeping r m) y.due))) (counted y.runs) z)
+          z_is) in
+          (marks_of k m more, k1.last, begins f k1.last k1.world E2 (marks_of k m more) follows3 same k1.early now)
+
+      -- it has found one, and so many more of this mark came to its own queue
+      pub finds : (w : World) → Follows w (with_due D q0) → Way p end (found w x f).world ((found w x f).next ++ below) → Found
+      finds w follows way = by ((run_of w r).counted + 1 == 64) way
+        where
+          by : (b : Bool)
+              → Way p end (counted_by b w x f).world
+              ((found_by (run_of w r).place it (op.Sleeper sleeper_op.ExchangeFlag ∷ []) ++ (counted_by b w x f).next) ++ below)
+              → Found
+          by true way = steals_first w follows way
+          by false way = at_once w follows way

@@ -1,0 +1,134 @@
+-- A run goes on behind the poll or the drop of a future that it took: it takes the next one, lets others go first, or nothing is due.
+use Rattle.std.proofs.Common.{◌≡◌, ℕ, suc, ◌≤◌, ◌==◌, nat_lt, not, Bool, true, false, List, [], ◌∷◌, Option, Some, None, length, slice_get}
+use Rattle.std.proofs.Common.{if◌then◌else◌, refl, sym, ap, subst, ◌∙◌, arith}
+use Rattle.std.proofs.lemmas.Bool.Decides.{nat_tests}
+use Rattle.executor_parts.specs.Marks.{first_of}
+use Rattle.executor_model.specs.declared.op.Op.{Op}
+use Rattle.executor_model.specs.declared.op.RunPoll.{RunPoll}
+use Rattle.executor_model.specs.declared.op.Waker.{Waker}
+use Rattle.executor_model.specs.World.{Done, World}
+use Rattle.plain_scheduler.specs.State.{Choice, Granted, Plain, Run, Running, Taker}
+use Rattle.plain_scheduler.specs.Lists.{any, or}
+use Rattle.plain_scheduler.specs.Moves.{is_due, is_kept}
+use Rattle.plain_scheduler.specs.Takes as plain_takes
+use Rattle.machine_roads.specs.View.{Output, wakes}
+use Rattle.machine_roads.specs.Road.{Follows, futures_in}
+use Rattle.machine_roads.specs.Alone.{is_resting}
+use Rattle.machine_roads.specs.Searching.{CanTake, goes_on_by}
+use Rattle.machine_roads.specs.Stopped.{of_last, taken_by}
+use Rattle.machine_roads.proofs.Lists.{clash, same_of}
+use Rattle.machine_roads.proofs.Passing.{Passes, passes_end, telling}
+use Rattle.machine_roads.proofs.RunSearching.{Found, pick, searches}
+use Rattle.machine_roads.proofs.RunsStay.{RunsStay}
+use Rattle.machine_roads.proofs.Stepping.{Way}
+use Rattle.machine_roads.proofs.Standing.{Stands, StandsSo}
+use Rattle.machine_roads.proofs.TakenBeside.{counted_more, counted_over, takes_none}
+
+-- between two of its takes: so many it has taken, it isn't over, and no run that is over keeps anything
+pub record Between (r : ℕ) (last : Bool) (t : ℕ) (q : Plain Output Waker) : Type 0 where
+  pub taken : taken_by r q ≡ t
+  pub most : t ≤ 200
+  pub early : nat_lt t 200 ≡ not last
+  pub going : or (slice_get q.runs r) (λ run. run.is_over) true ≡ false
+  pub left : (k : ℕ) → or (slice_get q.runs k) (λ run. run.is_over) true ≡ true → futures_in (is_kept k) q.due ≡ []
+
+pub between_stays : (r : ℕ) (last : Bool) (t : ℕ) (q s : Plain Output Waker) → RunsStay q s → Between r last t q → Between r last t s
+between_stays r last t q s stay so = record {
+  taken = ap (λ (rs : List Running). or (slice_get rs r) (λ run. run.taken) 0) stay.runs ∙ so.taken;
+  most = so.most;
+  early = so.early;
+  going = ap (λ (rs : List Running). or (slice_get rs r) (λ run. run.is_over) true) stay.runs ∙ so.going;
+  left = λ k over.
+      stay.kept k ∙ so.left k (ap (λ (rs : List Running). or (slice_get rs k) (λ run. run.is_over) true) (sym stay.runs) ∙ over);
+}
+
+few_of : (qs : List Running) (r t : ℕ) → or (slice_get qs r) (λ run. run.taken) 0 ≡ t → nat_lt t 200 ≡ true
+    → or (slice_get qs r) (λ run. nat_lt run.taken 200) true ≡ true
+few_of qs r t taken few = by (slice_get qs r) taken
+  where
+    by : (o : Option Running) → or o (λ run. run.taken) 0 ≡ t → or o (λ run. nat_lt run.taken 200) true ≡ true
+    by None is = refl
+    by (Some run) is = ap (λ n. nat_lt n 200) is ∙ few
+
+all_of : (t : ℕ) → t ≤ 200 → nat_lt t 200 ≡ false → t ≡ 200
+all_of t most last = grind (arith, nat_tests)
+
+pub more_of : (t : ℕ) → nat_lt t 200 ≡ true → suc t ≤ 200
+more_of t few = grind (arith, nat_tests)
+
+module _ (p : ℕ) (x : RunPoll) (below : List Op) (q : Plain Output Waker) (n t : ℕ) (end : Done) (new : Choice → Plain Output Waker) where
+  abbrev taker : Taker Waker
+  taker = Run x.run x.waker
+
+  pub data After : Type 0 where
+    takes : (d : Choice) (last : Bool) → StandsSo taker (goes_on_by x last) below q end (new (telling n d))
+        → Between x.run last (suc t) (new (telling n d)) → After
+    ends : (d : Choice) → end.next ≡ below → Follows end.world (new (telling n d)) → (new (telling n d)).inside ≡ q.inside → After
+    idles : (b : Plain Output Waker) → any is_due b.due ≡ false
+        → ((d : Choice) → new (telling n d) ≡ plain_takes.next wakes (telling n d) taker b) → After
+
+  module _ (under : is_resting below ≡ true) (rests : is_resting end.next ≡ true) (c : Choice) where
+    -- one more is taken
+    takes_more : (b : Plain Output Waker) → Between x.run false t b → b.inside ≡ q.inside → (first : Choice) → first.tells ≡ n
+        → Found p below under end rests first x b
+        → ((d : Choice) → new (telling n d) ≡ plain_takes.next wakes (telling n d) taker b) → After
+    takes_more b so inside first told g is =
+        let d = pick p below under end rests first x g.0 g.1 g.2 in
+        let z = plain_takes.take wakes d taker b in
+        let same : new (telling n d) ≡ z =
+        is (telling n d)
+        ∙ (ap (λ k. plain_takes.next wakes (record d { tells = k }) taker b) (sym told)
+        ∙ ap (λ b0. if b0 then z else plain_takes.gives_way wakes d x.run x.waker b) (ap (λ k. nat_lt k 200) so.taken ∙ so.early)) in
+        let it = g.4 in
+        let counted : taken_by x.run z ≡ suc t =
+        ap (λ (rs : List Running). or (slice_get rs x.run) (λ run. run.taken) 0) it.runs
+        ∙ (counted_more b.runs x.run so.going ∙ ap suc so.taken) in
+        takes d g.3
+        (subst (StandsSo taker (goes_on_by x g.3) below q end) (sym same)
+        (record {
+          stands =
+              subst (λ codes. Stands taker (goes_on_by x g.3) below codes end.world end.next z.inside) inside it.stood.stands;
+          follows = it.stood.follows;
+        }))
+        (subst (Between x.run g.3 (suc t)) (sym same)
+        (record {
+          taken = counted;
+          most = more_of t so.early;
+          early = ap (λ k. nat_lt k 200) (sym counted) ∙ it.early;
+          going = ap (λ (rs : List Running). or (slice_get rs x.run) (λ run. run.is_over) true) it.runs
+              ∙ (counted_over b.runs x.run x.run ∙ so.going);
+          left = λ k over. left_so d k (k == x.run) refl (sym (counted_over b.runs x.run k)
+              ∙ (ap (λ (rs : List Running). or (slice_get rs k) (λ run. run.is_over) true) (sym it.runs) ∙ over));
+        }))
+      where
+        left_so : (d : Choice) (k : ℕ) (own : Bool) → (k == x.run) ≡ own
+            → or (slice_get b.runs k) (λ run. run.is_over) true ≡ true
+            → futures_in (is_kept k) (plain_takes.take wakes d taker b).due ≡ []
+        left_so d k true here over =
+            absurd (clash so.going (ap (λ k. or (slice_get b.runs k) (λ run. run.is_over) true) (sym (same_of k x.run here)) ∙ over))
+        left_so d k false apart over = takes_none x.run k apart d x.waker b (so.left k over)
+
+    -- from a search on
+    pub goes_from : (w : World) (b : Plain Output Waker) → Follows w b → length b.lying ≤ n → Between x.run false t b → b.inside ≡ q.inside
+        → Way p end w (goes_on_by x false ∷ below)
+        → ((d : Choice) → new (telling n d) ≡ plain_takes.next wakes (telling n d) taker b) → After
+    goes_from w b follows fit now inside way is = by (any is_due b.due) refl
+      where
+        by : (some : Bool) → any is_due b.due ≡ some → After
+        by false none = idles b none is
+        by true some =
+            let first : Choice = record (telling n c) { first = first_of w.urgent_turns; refusal = Granted } in
+            takes_more b now inside first refl
+            (searches p below under end rests first x w b follows fit
+            (record { going = few_of b.runs x.run t now.taken now.early; left = now.left }) some refl way)
+            is
+
+    pub goes_on : (last : Bool) → Between x.run last t q → Passes p taker (goes_on_by x last) below q n end new → After
+    goes_on true so pass =
+        let e =
+        passes_end p below under end rests taker (goes_on_by x true) q (of_last x (so.taken ∙ all_of t so.most so.early)) (telling n c) new
+        pass in
+        ends c e.0 e.1 e.2
+    goes_on false so pass =
+        goes_from pass.so.world pass.before pass.so.follows pass.fit (between_stays x.run false t q pass.before pass.stay so) pass.inside
+        pass.so.way pass.is

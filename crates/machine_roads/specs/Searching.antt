@@ -1,0 +1,53 @@
+-- A poll of a run whose own future gave no output: when the take that follows leaves both alike.
+use Rattle.std.specs.Prelude.{◌≡◌, ℕ, ◌≤◌, nat_lt, not, Bool, true, if◌then◌else◌, List, [], ◌∷◌, length, slice_get, Option}
+use Rattle.executor_parts.specs.Marks.{first_of}
+use Rattle.executor_model.specs.declared.event.Answer.TheVariants as answer
+use Rattle.executor_model.specs.declared.op.Op.{Op}
+use Rattle.executor_model.specs.declared.op.Op.TheVariants as op
+use Rattle.executor_model.specs.declared.op.RunOp.TheVariants as run_op
+use Rattle.executor_model.specs.declared.op.RunPoll.{RunPoll}
+use Rattle.executor_model.specs.declared.op.TickOp.TheVariants as tick_op
+use Rattle.executor_model.specs.declared.op.UserOp.TheVariants as user_op
+use Rattle.executor_model.specs.declared.op.Waker.{Waker}
+use Rattle.executor_model.specs.declared.step.Hint.{Hint}
+use Rattle.executor_model.specs.declared.step.UserEnd.TheVariants as end
+use Rattle.executor_model.specs.ActsOfRuns.{asleep}
+use Rattle.executor_model.specs.Steps.{react}
+use Rattle.executor_model.specs.World.{Done, World}
+use Rattle.plain_scheduler.specs.State.{Choice, Plain, PollOwn, Run}
+use Rattle.plain_scheduler.specs.Lists.{any, or}
+use Rattle.plain_scheduler.specs.Moves.{is_due, is_kept}
+use Rattle.plain_scheduler.specs.Calls.{does, Pends}
+use Rattle.machine_roads.specs.View.{Output, wakes}
+use Rattle.machine_roads.specs.Road.{futures_in}
+use Rattle.machine_roads.specs.Alone.{alone, is_resting, HasAll}
+use Rattle.machine_roads.specs.Alike.{upon}
+use Rattle.machine_roads.specs.Stopped.{Stops, taken_by}
+
+-- how the poll goes on behind a future that it took: it searches again, or after 200 calls its own waker
+abbrev pub goes_on_by : RunPoll → Bool → Op
+goes_on_by x last = if last then op.Run (run_op.WakeOwn x) else op.Tick (tick_op.Search (asleep x))
+
+-- it searches on while it has taken fewer than 200 since it let others go first
+abbrev pub IsLast : ℕ → Bool → Plain Output Waker → Type 0
+IsLast r last q = nat_lt (taken_by r q) 200 ≡ not last
+
+-- it has taken fewer than that, and no run that is over keeps anything
+pub record CanTake (q : Plain Output Waker) (r : ℕ) : Type 0 where
+  pub going : or (slice_get q.runs r) (λ run. nat_lt run.taken 200) true ≡ true
+  pub left : (k : ℕ) → or (slice_get q.runs k) (λ run. run.is_over) true ≡ true → futures_in (is_kept k) q.due ≡ []
+
+-- its own future gave no output
+abbrev pub unready : ℕ → RunPoll → List Op → World → Done
+unready p x below w = upon below (react p (op.User (user_op.PollOwn x)) (end.Polled answer.Pending) w)
+
+-- where some future is due, the run comes to the poll or the drop of the one that it takes: the plain scheduler looks first at the mark
+-- that the turn names and tells who lay down last, and it keeps, robs and moves as the machine does
+abbrev pub RunTakesAlike : ℕ → Option Waker → List Op → World → Plain Output Waker → Type 0
+RunTakesAlike p here below w q =
+    (x : RunPoll) (n : ℕ) → any is_due q.due ≡ true → CanTake q x.run → length q.lying ≤ n → (hints : List Hint)
+    → HasAll p hints (unready p x below w) → is_resting (alone p hints (unready p x below w)).next ≡ true
+    → (c : Choice) × (last : Bool) × (c.first ≡ first_of w.urgent_turns) × (c.tells ≡ n)
+    × Stops (Run x.run x.waker) (goes_on_by x last) below q (alone p hints (unready p x below w))
+    (does wakes c Pends (record q { inside = PollOwn x.run x.waker ∷ q.inside }))
+    × IsLast x.run last (does wakes c Pends (record q { inside = PollOwn x.run x.waker ∷ q.inside }))

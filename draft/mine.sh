@@ -1,0 +1,3 @@
+#!/bin/bash
+echo $$ > /sys/fs/cgroup/cpu/mine/cgroup.procs; echo $$ > /sys/fs/cgroup/cpuacct/mine/cgroup.procs
+exec "$@"

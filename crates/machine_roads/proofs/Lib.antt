@@ -41,6 +41,7 @@ pub mod Ticking
 pub mod TickPolls
 pub mod Copying
 pub mod LyingDown
+pub mod Bedding
 pub mod Tying
 pub mod Having
 pub mod LoneRuns
@@ -68,6 +69,7 @@ pub mod Stealing
 pub mod RunTaking
 pub mod RunSearching
 pub mod TakenBeside
+pub mod RunIdle
 pub mod RunsOn
 pub mod LoneRunsOn
 pub mod LoneGoesOn

@@ -10,6 +10,7 @@ use Rattle.executor_model.specs.declared.op.Op.TheVariants as op
 use Rattle.executor_model.specs.declared.op.RunOp.TheVariants as run_op
 use Rattle.executor_model.specs.declared.op.RunPoll.{RunPoll}
 use Rattle.executor_model.specs.declared.op.Source.TheVariants.{Own}
+use Rattle.executor_model.specs.declared.op.Steal.{Steal}
 use Rattle.executor_model.specs.declared.op.StealOp.TheVariants as steal_op
 use Rattle.executor_model.specs.declared.op.Then.TheVariants as then
 use Rattle.executor_model.specs.declared.op.TickOp.TheVariants as tick_op
@@ -64,7 +65,7 @@ module _ (p : ℕ) (below : List Op) (under : is_resting below ≡ true) (end : 
         by again true way = again way
         by again false way =
             let k = queue_at qs at in
-            let steal = record { poll = x; from = Own k; then = then.Walk (next_place qs at) left } in
+            let steal : Steal = record { poll = x; from = Own k; then = then.Walk (next_place qs at) left } in
             let one = next p end rests (op.Steal (steal_op.Length steal)) w below refl way in
             let two : Way p end w (op.Run (run_op.LookOwn x (next_place qs at) left) ∷ below) =
             subst (λ fs. Way p end (steal_length_by (length fs) w steal).world ((steal_length_by (length fs) w steal).next ++ below))

@@ -71,6 +71,7 @@ pub mod RunSearching
 pub mod TakenBeside
 pub mod RunIdle
 pub mod RunsOn
+pub mod RunLies
 pub mod LoneRunsOn
 pub mod LoneGoesOn
 pub mod Inside

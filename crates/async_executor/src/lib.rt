@@ -36,6 +36,7 @@ mod task_run;
 mod tick;
 mod ticker;
 mod turns;
+mod waker_name;
 mod walks;
 
 pub use async_task::{FallibleTask, NoMemory, Task};

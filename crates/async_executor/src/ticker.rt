@@ -20,13 +20,13 @@ use crate::sleeping::{SleeperWaker, call_kept};
 use crate::state::State;
 use crate::steps::Steps;
 use crate::task_name::TaskName;
+use crate::waker_name::WakerName;
 use async_task::Wake;
 use call_steps::{Saw, TickOrRun, Waker};
 use executor_parts::{
     Again, Room, Sleeper, Sleepers, Slept as Started, Unreserved, WokenUp as Stood,
 };
 use std::mem;
-use std::snapshot::Snapshot;
 use std::sync::Wait;
 
 mod leave;
@@ -36,7 +36,7 @@ pub enum Ticker {
     /// It is awake, and has the room in which it can fall asleep.
     Awake(Room),
     /// It sleeps, with a waker of this name. It has been told once that is missing from the list.
-    Asleep(Sleeper, Snapshot<Waker<TaskName>>),
+    Asleep(Sleeper, WakerName),
     /// It left the sleepers, and gave its room back.
     Left,
 }
@@ -259,7 +259,7 @@ impl Ticker {
         match self {
             Ticker::Awake(room) => match sleepers.fall_asleep(room, waker.into_stored()) {
                 Ok(Started { sleeper, notified }) => (
-                    Ticker::Asleep(sleeper, Snapshot::of(name)),
+                    Ticker::Asleep(sleeper, WakerName::of(name)),
                     FellAsleep::Anew(NewFlag::of(notified)),
                 ),
                 Err(Unreserved { room, waker }) => {
@@ -269,11 +269,11 @@ impl Ticker {
             Ticker::Asleep(sleeper, before) => {
                 match sleepers.fall_asleep_again(&sleeper, waker.into_stored()) {
                     Again::Replaced(old) => (
-                        Ticker::Asleep(sleeper, Snapshot::of(name)),
+                        Ticker::Asleep(sleeper, WakerName::of(name)),
                         FellAsleep::Already(Foreign::of(old)),
                     ),
                     Again::Notified(notified) => (
-                        Ticker::Asleep(sleeper, Snapshot::of(name)),
+                        Ticker::Asleep(sleeper, WakerName::of(name)),
                         FellAsleep::Anew(NewFlag::of(notified)),
                     ),
                     Again::Unknown(waker) => (

@@ -124,13 +124,17 @@ fn errors_are_copied_compared_and_shown(rt: HostRuntime) {
     assert!(rt; are_errors_plain(rt.alloc()));
 }
 
+fn moves<X: Send>(_value: &X) {}
+
 fn moves_and_is_shared<X: Send + Sync>(_value: &X) {}
 
-/// An executor and its handles move to other threads and are shared with them.
+/// An executor moves to other threads and is shared with them, ticks and runs move.
 #[test]
-fn executors_and_handles_are_shared(rt: HostRuntime) -> Result<(), Fail> {
+fn executors_are_shared_and_ticks_and_runs_move(rt: HostRuntime) -> Result<(), Fail> {
     let realm = TestRealm::leak(rt, rt.alloc())?;
     let stage = Stage::<Job<_>, _>::new(rt, rt.alloc(), realm, false, 2);
     moves_and_is_shared(stage.owned());
+    moves(&stage.tick());
+    moves(&stage.run(Work::Pend, 0));
     Ok(())
 }

@@ -1,5 +1,5 @@
 -- It takes no bytes; its name is what the reference shows.
-use Rattle.std.proofs.Common.{◌≡◌, ℕ, List, [], ◌∷◌, refl}
+use Rattle.std.proofs.Common.{List, [], ◌∷◌, refl}
 use mir.Syntax.{named}
 use mir.Val.{Val, vptr, vstruct, vcons, vnil}
 use base.Logic.{SProp}

@@ -93,7 +93,6 @@ module _ {F T X : Type 0} (its : ℕ → Lent) (number : Who → ℕ) (c : Choic
     -- or there is none, and it lies down
     rests : (first second : ℕ) → (steals.seek_answer runner.number first s).task ≡ None → c.first ≡ mark_of_turn s.lines.turn
         → c.refusal ≡ Granted
-        → (find (lies (ARun runner.number)) p.lying ≡ None → nat_lt s.sleepers.count s.sleepers.rooms ≡ true)
         → ((u : Task) → w ≡ OfTask u → IsNamed (named its) (length p.futures) u × (solo.may_hold u s ≡ true)
         × (looks_again (sleep_answer runner.number first its_ticker w s).look ≡ true
         → solo.may_hold u (slept_from runner.number first its_ticker w s) ≡ true))
@@ -105,7 +104,6 @@ module _ {F T X : Type 0} (its : ℕ → Lent) (number : Who → ℕ) (c : Choic
         → c.refusal ≡ AtOnce → Searches (Answers NoMemory ∷ []) number (steals.sought runner.number start s)
     lies_refused : (first second : ℕ) → (steals.seek_answer runner.number first s).task ≡ None → c.first ≡ mark_of_turn s.lines.turn
         → c.refusal ≡ Later
-        → (find (lies (ARun runner.number)) p.lying ≡ None → nat_lt s.sleepers.count s.sleepers.rooms ≡ true)
         → ((u : Task) → w ≡ OfTask u → IsNamed (named its) (length p.futures) u × (solo.may_hold u s ≡ true))
         → looks_again (sleep_answer runner.number first its_ticker w s).look ≡ true → suc (length p.lying) ≤ c.tells → HasLife 2 s.lines
         → Searches (Answers NoMemory ∷ []) (number_after (ARun runner.number) number s p)

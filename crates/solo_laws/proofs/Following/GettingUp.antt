@@ -28,7 +28,7 @@ less_one a b c is next = omega (arith, is, next)
 given_back : (a f c : ℕ) → suc c ≡ a → (a - 1) + (f + 1) ≡ a + f
 given_back a f c is = omega (arith, is)
 
-apart_first : (xs ys : List ℕ) → apart (xs ++ ys) ≡ true → apart xs ≡ true
+pub apart_first : (xs ys : List ℕ) → apart (xs ++ ys) ≡ true → apart xs ≡ true
 apart_first xs [] is = ap apart (sym (append-nil xs)) ∙ is
 apart_first xs (y ∷ ys) is = apart_first xs ys (apart_fewer xs ys y is).0
 

@@ -8,13 +8,14 @@ use Rattle.solo.specs.declared.names.SoloWaker.{SoloWaker}
 use Rattle.solo.specs.declared.owed.Lent.{Lent}
 use Rattle.solo.specs.declared.runs.Runner.{Runner}
 use Rattle.solo.specs.declared.solo.Solo.{Solo}
-use Rattle.plain_scheduler.specs.State.{Answers, Choice, Closed, Code, Drops, Event, Gave, Loses, Plain, Run, Taker, Try, Who, Yes}
+use Rattle.plain_scheduler.specs.State.{Answers, ARun, Choice, Closed, Code, Drops, Event, Gave, Loses, Plain, Run, Taker, Try, Who, Yes}
 use Rattle.plain_scheduler.specs.Lists.{on, or}
 use Rattle.plain_scheduler.specs.Moves.{answers, becomes, called, changed, let_go, put, task, tell}
 use Rattle.plain_scheduler.specs.Takes as takes
 use Rattle.plain_scheduler.specs.Calls as calls
 use Rattle.plain_scheduler.specs.Calls.{Call, Ends, Pends, does}
 use Rattle.solo_laws.specs.Numbered.{IsNumbered}
+use Rattle.solo_laws.specs.Owner.{HasRoom}
 use Rattle.solo_laws.specs.Road.{awaiters, drops, lents, wakes}
 use Rattle.solo_laws.specs.RunGoing.{Dropping, IsEnding, Losing, Polling, RunsOn, Stage, code_at, drop_ends, in_try, loss_ends, poll_ends}
 use Rattle.solo_laws.specs.RunResting.{EachListed}
@@ -164,10 +165,10 @@ module _ {F T X : Type 0} (its : ℕ → Lent) (number : Who → ℕ) (c : Choic
   -- where it is an answer the run goes on
   pub goes_alike : (runner : Runner) → runner.number ≡ r → (shown others : List (Event T (SoloWaker X))) (now : Who → ℕ)
       (y z : Solo F T X) → Stands its y a → a.events ≡ p.events ++ (shown ++ Answers Yes ∷ []) → IsNumbered number y.sleepers a.lying
-      → EachListed y.runs → has_own r y.runs ≡ true → length a.lying ≤ c.tells
+      → EachListed y.runs → has_own r y.runs ≡ true → HasRoom (ARun runner.number) y a → length a.lying ≤ c.tells
       → RunsOn its number c runner w y (record a { events = p.events ++ shown }) others now z
       → Reached its p (shown ++ others) now z b
-  goes_alike runner same shown others now y z stands seen numbered listed has few on = by how
+  goes_alike runner same shown others now y z stands seen numbered listed has room few on = by how
     where
       seen_so : a.events ≡ (p.events ++ shown) ++ Answers Yes ∷ []
       seen_so = seen ∙ sym (append_assoc p.events shown (Answers Yes ∷ []))
@@ -182,7 +183,7 @@ module _ {F T X : Type 0} (its : ℕ → Lent) (number : Who → ℕ) (c : Choic
       goes = going_there its y mid mid_both runner.number (ap (λ n. has_own n y.runs) same ∙ has)
 
       next : Reached its mid others now z (takes.next wakes c (Run runner.number w) mid)
-      next = runs_on_alike its number c runner w y mid mid_both numbered listed few goes others now z on
+      next = runs_on_alike its number c runner w y mid mid_both numbered listed few goes room others now z on
 
       by : EndsAs c r w a b → Reached its p (shown ++ others) now z b
       by (stays_in stage' q events e not_so last one two) =

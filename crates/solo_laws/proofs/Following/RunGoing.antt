@@ -7,7 +7,7 @@ use Rattle.solo.specs.declared.owed.Lent.{Lent}
 use Rattle.solo.specs.declared.runs.Runner.{Runner}
 use Rattle.solo.specs.declared.solo.Solo.{Solo}
 use Rattle.solo.specs.Solo as solo
-use Rattle.plain_scheduler.specs.State.{Answers, Calls, Choice, Done, Event, Pending, Plain, PollOwn, Run, Who}
+use Rattle.plain_scheduler.specs.State.{Answers, ARun, Calls, Choice, Done, Event, Pending, Plain, PollOwn, Run, Who}
 use Rattle.plain_scheduler.specs.Lists.{or}
 use Rattle.plain_scheduler.specs.Moves.{answers, see, tell, wake}
 use Rattle.plain_scheduler.specs.Moves as moves
@@ -15,6 +15,7 @@ use Rattle.plain_scheduler.specs.Takes as takes
 use Rattle.plain_scheduler.specs.Calls.{Call}
 use Rattle.solo_laws.specs.Courses.{wakes as wakes_it}
 use Rattle.solo_laws.specs.Numbered.{IsNumbered}
+use Rattle.solo_laws.specs.Owner.{HasRoom}
 use Rattle.solo_laws.specs.Road.{HasLife, IsNamed, wakes}
 use Rattle.solo_laws.specs.RunGoing.{RunsOn, Searches, gives_way, is_refused, lies_refused, looks_on, rests, robs_another}
 use Rattle.solo_laws.specs.RunGoing.{takes_common, takes_own}
@@ -49,28 +50,28 @@ module _ {F T X : Type 0} (its : ℕ → Lent) where
     polled_both : Stands its s polled
     polled_both = same_hands its s p both c (PollOwn r w ∷ p.inside) refl refl refl
 
-    pub searches_alike : goes_on r p ≡ true → (shown : List (Event T (SoloWaker X))) (now : Who → ℕ) (z : Solo F T X)
+    pub searches_alike : goes_on r p ≡ true → HasRoom (ARun r) s p → (shown : List (Event T (SoloWaker X))) (now : Who → ℕ) (z : Solo F T X)
         → Searches its number c runner w s p shown now z → Reached p shown now z (takes.take wakes c (Run r w) p)
-    searches_alike going shown now z (takes_own start task first keeps life) =
+    searches_alike going room shown now z (takes_own start task first keeps life) =
         let it = runs_take_own its number s polled polled_both n c runner w p.inside start task refl going first keeps many life in
         ((it.stands, it.seen), it.numbered)
-    searches_alike going shown now z (takes_common start task first found turn keeps life) =
+    searches_alike going room shown now z (takes_common start task first found turn keeps life) =
         let it =
         runs_take_common its number s polled polled_both n c runner w p.inside start task refl going first found turn keeps many life in
         ((it.stands, it.seen), it.numbered)
-    searches_alike going shown now z (robs_another start task first found turn finds robs moves keeps life) =
+    searches_alike going room shown now z (robs_another start task first found turn finds robs moves keeps life) =
         let it =
         runs_take_kept its number s polled polled_both n c runner w p.inside start task refl going first found turn finds robs moves keeps
         many life in
         ((it.stands, it.seen), it.numbered)
-    searches_alike going shown now z (rests first second missed turn granted room names more life) =
+    searches_alike going room shown now z (rests first second missed turn granted names more life) =
         let it =
         runs_rest its number s polled polled_both n all c r w p.inside first second refl going missed turn granted room names more life in
         ((it.stands, it.seen), it.numbered)
-    searches_alike going shown now z (is_refused start missed turn refused) =
+    searches_alike going room shown now z (is_refused start missed turn refused) =
         let it = runs_refused its number s polled polled_both n all c r w p.inside start refl going missed turn refused in
         ((it.stands, it.seen), it.numbered)
-    searches_alike going shown now z (lies_refused first second missed turn refused room names again more life) =
+    searches_alike going room shown now z (lies_refused first second missed turn refused names again more life) =
         let it =
         (runs_lie_refused its number s polled polled_both n all c r w p.inside first second refl going missed turn refused room names again
         more life).refused in
@@ -111,13 +112,13 @@ module _ {F T X : Type 0} (its : ℕ → Lent) where
             (rings (solo.wake_answer (named its t.number) s).sleeper ++ Answers Done ∷ []) (solo.woken (named its t.number) s)
             (wakes_it t.number it.0 life) n many (wakes_alike its s u u_both c t.number it.0 many life)))
 
-    pub runs_on_alike : goes_on r p ≡ true → (shown : List (Event T (SoloWaker X))) (now : Who → ℕ) (z : Solo F T X)
+    pub runs_on_alike : goes_on r p ≡ true → HasRoom (ARun r) s p → (shown : List (Event T (SoloWaker X))) (now : Who → ℕ) (z : Solo F T X)
         → RunsOn its number c runner w s p shown now z → Reached p shown now z (takes.next wakes c (Run r w) p)
-    runs_on_alike going shown now z (looks_on shown' now' z' less how) =
+    runs_on_alike going room shown now z (looks_on shown' now' z' less how) =
         subst
         (λ b. Reached p shown' now' z' (if b then takes.take wakes c (Run r w) p else takes.gives_way wakes c r w p)) (sym less)
-        (searches_alike going shown' now' z' how)
-    runs_on_alike going shown now z (gives_way enough names life) = (
+        (searches_alike going room shown' now' z' how)
+    runs_on_alike going room shown now z (gives_way enough names life) = (
       runs_give_way its s p both c r w enough names many life,
       subst
           (λ b. IsNumbered number (woken_by w s).sleepers

@@ -1,11 +1,14 @@
 -- Both stand alike after each list of calls, and what is seen is what was shown.
 use Rattle.std.proofs.Common.{◌≡◌, ℕ, ◌≤◌, not, Bool, true, false, List, [], ◌∷◌, ◌++◌, length, append-nil, refl, sym, ap, subst}
+use Rattle.std.proofs.Common.{◌∙◌, arith}
 use Rattle.solo.specs.declared.names.SoloWaker.{SoloWaker}
 use Rattle.solo.specs.declared.owed.Lent.{Lent}
 use Rattle.solo.specs.declared.names.Kind.{Kind}
 use Rattle.solo.specs.declared.solo.Solo.{Solo}
+use Rattle.executor_parts.specs.Sleepers.{Sleepers}
+use Rattle.solo.specs.OwnQueues as own
 use Rattle.solo.specs.Solo.{IsNew, counts}
-use Rattle.plain_scheduler.specs.State.{Answers, Drops, Event, Loses, Who, Choice, Plain, Yes}
+use Rattle.plain_scheduler.specs.State.{Answers, ARun, ATick, Drops, Event, Loses, Who, Choice, Plain, Yes}
 use Rattle.plain_scheduler.specs.Calls as plain
 use Rattle.plain_scheduler.specs.Calls.{Call, does, course}
 use Rattle.solo_laws.specs.Busy.{busy_in}
@@ -17,17 +20,21 @@ use Rattle.solo_laws.specs.Courses.{run_looks, run_loses, run_polled}
 use Rattle.solo_laws.specs.Courses.{stays, leads}
 use Rattle.solo_laws.specs.Led.{IsLed}
 use Rattle.solo_laws.specs.Numbered.{IsNumbered}
+use Rattle.solo_laws.specs.Owner.{HasRoom, Owner, has_tick, new_owner}
 use Rattle.solo_laws.specs.Road.{awaiters, drops, lents, wakes as wakes_of}
 use Rattle.solo_laws.specs.RunGoing.{in_try}
 use Rattle.solo_laws.specs.RunResting.{EachListed}
 use Rattle.solo_laws.specs.Tabled.{Stands}
 use Rattle.solo_laws.proofs.Following.Both as both
 use Rattle.solo_laws.proofs.Following.Begun.{takes_alike, pends_both, gives_both}
+use Rattle.solo_laws.proofs.Following.Crowding.{is_among}
 use Rattle.solo_laws.proofs.Following.Drops.{given_drops_alike, closed_drops_alike, given_drops_shown, closed_drops_shown}
 use Rattle.solo_laws.proofs.Following.Leaking.{leaks_alike, leaks_shown}
 use Rattle.solo_laws.proofs.Following.Beginning.{both_begin}
+use Rattle.solo_laws.proofs.Following.Housed.{Housed, has_room, own_numbered, still_housed}
 use Rattle.solo_laws.proofs.Following.Listed.{Listed, each_listed, has_own}
 use Rattle.solo_laws.proofs.Following.Losing.{loses_alike}
+use Rattle.solo_laws.proofs.Following.Owns.{numbers}
 use Rattle.solo_laws.proofs.Following.Polled.{Apart, busy, polled}
 use Rattle.solo_laws.proofs.Following.Refusing.{refuses_alike, empty_alike}
 use Rattle.solo_laws.proofs.Following.Spawning.{spawns_alike}
@@ -42,6 +49,7 @@ use Rattle.solo_laws.proofs.Following.RunEnding.{goes_alike, stays_alike, tried_
 use Rattle.solo_laws.proofs.Following.RunGoing.{Reached, searches_alike}
 use Rattle.solo_laws.proofs.Following.RunPolling.{going_there, overs_dropped, overs_polled, owns_ready, runs_dropped, runs_polled}
 use Rattle.solo_laws.proofs.Following.RunPolling.{same_hands}
+use Rattle.solo_laws.proofs.Showing.StillHoused.{acts_housed}
 use Rattle.solo_laws.proofs.Showing.StillListed.{acts_apart, acts_listed, one_in, stage_codes}
 use Rattle.solo_laws.proofs.Showing.Telling.{step}
 use Rattle.solo_laws.proofs.Showing.Calling as calling
@@ -115,45 +123,55 @@ module _ {F T X : Type 0} (its : ℕ → Lent) where
   )
 
   -- so with ticks, and each that lies has its number
-  abbrev pub Both : Choice → Call T (SoloWaker X) → Plain T (SoloWaker X) → List (Event T (SoloWaker X)) → (Who → ℕ) → Solo F T X → Type 0
-  Both c call p shown now z = Alike c call p shown z × IsNumbered now z.sleepers (does wakes_of c call p).lying
+  abbrev pub Both : Choice → Call T (SoloWaker X) → Plain T (SoloWaker X) → List (Event T (SoloWaker X)) → Owner → Solo F T X → Type 0
+  Both c call p shown now z = Alike c call p shown z × IsNumbered now.number z.sleepers (does wakes_of c call p).lying
 
-  pub acts_alike : (number : Who → ℕ) (c : Choice) (s : Solo F T X) (p : Plain T (SoloWaker X)) (now : Who → ℕ) (z : Solo F T X)
-      (call : Call T (SoloWaker X)) (shown : List (Event T (SoloWaker X))) → Stands its s p → IsNumbered number s.sleepers p.lying
-      → Listed (polled p) (busy p) s.runs → length p.lying ≤ c.tells → Acts its number c s p call shown now z → Both c call p shown now z
-  acts_alike number c s p now z call shown so n l many (makes call' shown' z' how) =
+  tick_room : (owner : Owner) (s : Solo F T X) (p : Plain T (SoloWaker X)) → Stands its s p → IsNumbered owner.number s.sleepers p.lying
+      → Housed owner.ticks s p → (t : ℕ) → has_tick t owner ≡ true → HasRoom (ATick t) s p
+  tick_room owner s p so n h t lives = has_room its owner.number owner.ticks s p so n h (ATick t) lives
+
+  pub run_room : (owner : Owner) (s : Solo F T X) (p : Plain T (SoloWaker X)) → Stands its s p → IsNumbered owner.number s.sleepers p.lying
+      → Housed owner.ticks s p → (r : ℕ) → has_own r s.runs ≡ true → HasRoom (ARun r) s p
+  run_room owner s p so n h r has = has_room its owner.number owner.ticks s p so n h (ARun r) (own_numbered r s.runs ∙ has)
+
+  pub acts_alike : (owner : Owner) (c : Choice) (s : Solo F T X) (p : Plain T (SoloWaker X)) (now : Owner) (z : Solo F T X)
+      (call : Call T (SoloWaker X)) (shown : List (Event T (SoloWaker X))) → Stands its s p → IsNumbered owner.number s.sleepers p.lying
+      → Listed (polled p) (busy p) s.runs → Housed owner.ticks s p → length p.lying ≤ c.tells → Acts its owner c s p call shown now z → Both c call p shown now z
+  acts_alike owner c s p now z call shown so n l h many (makes call' shown' z' how) =
       let it = makes_alike c s z' p call' shown' so many how in
-      (it, makes_numbered its c s p number call' shown' z' how n many it.0)
-  acts_alike number c s p now z call shown so n l many (makes_tick granted) =
-      let it = ticks_begin its number s p so n c granted in ((it.stands, it.seen), it.numbered)
-  acts_alike number c s p now z call shown so n l many (tick_takes t w task found first life) =
-      let it = ticks_take its number s p so n c t w task found first many life in ((it.stands, it.seen), it.numbered)
-  acts_alike number c s p now z call shown so n l many (tick_rests t w none first granted room names more life) =
-      let it = ticks_rest its number s p so n c t w none first granted room names more life in ((it.stands, it.seen), it.numbered)
-  acts_alike number c s p now z call shown so n l many (makes_run granted few) =
-      let it = (runs_begin its number s p so n c granted few).0 in ((it.stands, it.seen), it.numbered)
-  acts_alike number c s p now z call shown so n l many (makes_no_run refused) =
-      let it = runs_unmade its number s p so n c refused in ((it.stands, it.seen), it.numbered)
-  acts_alike number c s p now z call shown so n l many (run_polled runner w going free) =
-      let it = runs_polled its number s p so n c runner w going in ((it.stands, it.seen), it.numbered)
-  acts_alike number c s p now z call shown so n l many (over_polled r w over) =
-      let it = overs_polled its number s p so n c r w over in ((it.stands, it.seen), it.numbered)
-  acts_alike number c s p now z call shown so n l many (own_ready r w v rest stands_in) =
-      let it = owns_ready its number s p so n c r w v rest stands_in in ((it.stands, it.seen), it.numbered)
-  acts_alike number c s p now z call shown so n l many (run_looks runner w rest shown' now' z' is how) =
+      (it, makes_numbered its c s p owner.number call' shown' z' how n many it.0)
+  acts_alike owner c s p now z call shown so n l h many (makes_tick t new granted) =
+      let it = ticks_begin its owner.number s p so n c granted in ((it.stands, it.seen), it.numbered)
+  acts_alike owner c s p now z call shown so n l h many (tick_takes t w task lives found first life) =
+      let it = ticks_take its owner.number s p so n c t w task found first many life in ((it.stands, it.seen), it.numbered)
+  acts_alike owner c s p now z call shown so n l h many (tick_rests t w lives none first granted names more life) =
+      let it = ticks_rest its owner.number s p so n c t w none first granted (tick_room owner s p so n h t lives) names more life in ((it.stands, it.seen), it.numbered)
+  acts_alike owner c s p now z call shown so n l h many (makes_run granted few) =
+      let it = (runs_begin its owner.number s p so n c granted few).0 in ((it.stands, it.seen), it.numbered)
+  acts_alike owner c s p now z call shown so n l h many (makes_no_run refused) =
+      let it = runs_unmade its owner.number s p so n c refused in ((it.stands, it.seen), it.numbered)
+  acts_alike owner c s p now z call shown so n l h many (run_polled runner w going free) =
+      let it = runs_polled its owner.number s p so n c runner w going in ((it.stands, it.seen), it.numbered)
+  acts_alike owner c s p now z call shown so n l h many (over_polled r w over) =
+      let it = overs_polled its owner.number s p so n c r w over in ((it.stands, it.seen), it.numbered)
+  acts_alike owner c s p now z call shown so n l h many (own_ready r w v rest stands_in) =
+      let it = owns_ready its owner.number s p so n c r w v rest stands_in in ((it.stands, it.seen), it.numbered)
+  acts_alike owner c s p now z call shown so n l h many (run_looks runner w rest shown' now' z' is how) =
       let r = runner.number in
       let all = each_listed (polled p) (busy p) s.runs l in
-      let going = going_there its s p so r (l.held r (one_in r (busy_in rest) (busy_in p.inside) (ap (λ cs. busy_in cs) is))) in
+      let held = l.held r (one_in r (busy_in rest) (busy_in p.inside) (ap (λ cs. busy_in cs) is)) in
+      let going = going_there its s p so r held in
+      let room = run_room owner s p so n h r held in
       let out = record p { inside = rest } in
       let left : Stands its s out =
       same_hands its s p so c rest (sym (ap (λ cs. lents cs) is)) (sym (ap (λ cs. drops cs) is)) (sym (ap (λ cs. awaiters cs) is)) in
       subst (λ cs. Reached its p shown' now' z' (plain.innermost wakes_of c cs (plain.pends wakes_of c) p)) (sym is)
-      (searches_alike its number c runner w s out left n all many going shown' now' z' how)
-  acts_alike number c s p now z call shown so n l many (run_goes_on stage runner w rest call' first others now' y z' is ends how on) =
+      (searches_alike its owner.number c runner w s out left n all many going room shown' now' z' how)
+  acts_alike owner c s p now z call shown so n l h many (run_goes_on stage runner w rest call' first others now' y z' is ends how on) =
       let tried = in_try stage rest p in
-      let t = tried_both its number c s p so n many stage runner.number w rest call' is ends in
+      let t = tried_both its owner.number c s p so n many stage runner.number w rest call' is ends in
       let it = makes_alike c s y tried call' (first ++ Answers Yes ∷ []) t many how in
-      let numbered = makes_numbered its c s tried number call' (first ++ Answers Yes ∷ []) y how n many it.0 in
+      let numbered = makes_numbered its c s tried owner.number call' (first ++ Answers Yes ∷ []) y how n many it.0 in
       let kept = keeps its c s tried call' (first ++ Answers Yes ∷ []) y how in
       let few = subst (λ k. k ≤ c.tells) (sym kept.1.long) many in
       let listed = subst EachListed (sym kept.0.1) (each_listed (polled p) (busy p) s.runs l) in
@@ -161,48 +179,53 @@ module _ {F T X : Type 0} (its : ℕ → Lent) where
       let held =
       l.held r (one_in r (busy_in rest) (busy_in p.inside) (stage_codes (λ r. r ∷ []) r w rest p.inside stage is)) in
       let has = subst (λ o. has_own r o ≡ true) (sym kept.0.1) held in
-      goes_alike its number c s p so n many stage runner.number w rest call' is ends runner refl first others now' y z' it.0 it.1 numbered
-      listed has few on
-  acts_alike number c s p now z call shown so n l many (run_drops stage r w rest call' first f z' is ends how) =
+      let housed =
+      still_housed owner.ticks s y p (does wakes_of c call' tried) (ap (λ o. numbers o.queues) kept.0.1) kept.0.0.2
+      (λ v among. h.living v (sym (ap (is_among v) kept.1.whos) ∙ among)) h in
+      let room = run_room owner y (does wakes_of c call' tried) it.0 numbered housed r has in
+      goes_alike its owner.number c s p so n many stage runner.number w rest call' is ends runner refl first others now' y z' it.0 it.1 numbered
+      listed has room few on
+  acts_alike owner c s p now z call shown so n l h many (run_drops stage r w rest call' first f z' is ends how) =
       let tried = in_try stage rest p in
-      let t = tried_both its number c s p so n many stage r w rest call' is ends in
+      let t = tried_both its owner.number c s p so n many stage r w rest call' is ends in
       let it = makes_alike c s z' tried call' (first ++ Drops f ∷ []) t many how in
-      let numbered = makes_numbered its c s tried number call' (first ++ Drops f ∷ []) z' how n many it.0 in
-      stays_alike its number c s p so n many stage r w rest call' is ends first (Drops f) z' refl it.0 it.1 numbered
-  acts_alike number c s p now z call shown so n l many (run_loses stage r w rest call' first v z' is ends how) =
+      let numbered = makes_numbered its c s tried owner.number call' (first ++ Drops f ∷ []) z' how n many it.0 in
+      stays_alike its owner.number c s p so n many stage r w rest call' is ends first (Drops f) z' refl it.0 it.1 numbered
+  acts_alike owner c s p now z call shown so n l h many (run_loses stage r w rest call' first v z' is ends how) =
       let tried = in_try stage rest p in
-      let t = tried_both its number c s p so n many stage r w rest call' is ends in
+      let t = tried_both its owner.number c s p so n many stage r w rest call' is ends in
       let it = makes_alike c s z' tried call' (first ++ Loses v ∷ []) t many how in
-      let numbered = makes_numbered its c s tried number call' (first ++ Loses v ∷ []) z' how n many it.0 in
-      stays_alike its number c s p so n many stage r w rest call' is ends first (Loses v) z' refl it.0 it.1 numbered
-  acts_alike number c s p now z call shown so n l many (run_dropped r going free) =
-      let it = runs_dropped its number s p so n c r going in ((it.stands, it.seen), it.numbered)
-  acts_alike number c s p now z call shown so n l many (over_dropped r over) =
-      let it = overs_dropped its number s p so n c r over in ((it.stands, it.seen), it.numbered)
-  acts_alike number c s p now z call shown so n l many (run_leaves runner answer rest stands_in life) =
+      let numbered = makes_numbered its c s tried owner.number call' (first ++ Loses v ∷ []) z' how n many it.0 in
+      stays_alike its owner.number c s p so n many stage r w rest call' is ends first (Loses v) z' refl it.0 it.1 numbered
+  acts_alike owner c s p now z call shown so n l h many (run_dropped r going free) =
+      let it = runs_dropped its owner.number s p so n c r going in ((it.stands, it.seen), it.numbered)
+  acts_alike owner c s p now z call shown so n l h many (over_dropped r over) =
+      let it = overs_dropped its owner.number s p so n c r over in ((it.stands, it.seen), it.numbered)
+  acts_alike owner c s p now z call shown so n l h many (run_leaves runner answer rest stands_in life) =
       let r = runner.number in
       let going =
       going_there its s p so r (l.held r (one_in r (busy_in rest) (busy_in p.inside) (ap (λ cs. busy_in cs) stands_in))) in
-      let it = runs_leave its number s p so n c runner answer rest stands_in going many life in ((it.stands, it.seen), it.numbered)
-  acts_alike number c s p now z call shown so n l many (makes_no_tick refused) =
-      let it = ticks_unmade its number s p so n c refused in ((it.stands, it.seen), it.numbered)
-  acts_alike number c s p now z call shown so n l many (tick_refused t w none first refused) =
-      let it = ticks_refused its number s p so n c t w none first refused in ((it.stands, it.seen), it.numbered)
-  acts_alike number c s p now z call shown so n l many (tick_lies_refused t w none first refused room names again more life) =
-      let it = (ticks_lie_refused its number s p so n c t w none first refused room names again more life).refused in
+      let it = runs_leave its owner.number s p so n c runner answer rest stands_in going many life in ((it.stands, it.seen), it.numbered)
+  acts_alike owner c s p now z call shown so n l h many (makes_no_tick refused) =
+      let it = ticks_unmade its owner.number s p so n c refused in ((it.stands, it.seen), it.numbered)
+  acts_alike owner c s p now z call shown so n l h many (tick_refused t w lives none first refused) =
+      let it = ticks_refused its owner.number s p so n c t w none first refused in ((it.stands, it.seen), it.numbered)
+  acts_alike owner c s p now z call shown so n l h many (tick_lies_refused t w lives none first refused names again more life) =
+      let it = (ticks_lie_refused its owner.number s p so n c t w none first refused (tick_room owner s p so n h t lives) names again more life).refused in
       ((it.stands, it.seen), it.numbered)
-  acts_alike number c s p now z call shown so n l many (tick_leaves t life) =
-      let it = ticks_leave its number s p so n c t many life in ((it.stands, it.seen), it.numbered)
+  acts_alike owner c s p now z call shown so n l h many (tick_leaves t lives life) =
+      let it = ticks_leave its owner.number s p so n c t many life in ((it.stands, it.seen), it.numbered)
 
   -- what is known of both wherever a call has ended
-  pub record Known (number : Who → ℕ) (s : Solo F T X) (p : Plain T (SoloWaker X)) : Type 0 where
+  pub record Known (owner : Owner) (s : Solo F T X) (p : Plain T (SoloWaker X)) : Type 0 where
     pub stands : Stands its s p
-    pub numbered : IsNumbered number s.sleepers p.lying
+    pub numbered : IsNumbered owner.number s.sleepers p.lying
     pub listed : Listed (polled p) (busy p) s.runs
     pub once : Apart (busy_in p.inside)
+    pub housed : Housed owner.ticks s p
 
   pub new_known : (number : Who → ℕ) (limit : ℕ) (kind : Kind) (is_static : Bool) (s : Solo F T X) → IsNew limit kind s
-      → counts kind ≡ not is_static → Known number s (plain.new limit is_static)
+      → counts kind ≡ not is_static → Known (new_owner number) s (plain.new limit is_static)
   new_known number limit kind is_static s is counted = record {
     stands = both_begin its limit kind is_static s is counted;
     numbered = new_numbered number limit kind s is;
@@ -210,23 +233,30 @@ module _ {F T X : Type 0} (its : ℕ → Lent) where
         subst (Listed (λ r. false) (λ r. false)) (sym is.runs)
         (record { late = λ at q here late. absurd cc; made = λ r is. absurd cc; held = λ r is. absurd cc });
     once = refl;
+    housed =
+        let rooms = ap (λ (sleepers : Sleepers (SoloWaker X)). sleepers.rooms) is.sleepers in
+        let none = ap (λ (o : own.OwnQueuesValue). length o.queues) is.runs in
+        record { rooms = omega (arith, rooms, none); living = λ v is. absurd cc };
   }
 
-  pub leads_alike : (list : List (Choice × Call T (SoloWaker X))) (number last : Who → ℕ) (s z : Solo F T X) (p : Plain T (SoloWaker X))
-      (shown : List (Event T (SoloWaker X))) → Known number s p → Leads its list number s p shown last z
+  pub leads_alike : (list : List (Choice × Call T (SoloWaker X))) (owner last : Owner) (s z : Solo F T X) (p : Plain T (SoloWaker X))
+      (shown : List (Event T (SoloWaker X))) → Known owner s p → Leads its list owner s p shown last z
       → Known last z (course wakes_of list p) × ((course wakes_of list p).events ≡ p.events ++ shown)
-  leads_alike list number last s z p shown known (stays number' s' p') = (known, sym (append-nil p.events))
-  leads_alike list number last s z p shown known (leads c call rest before now later s' y z' p' first others many acts how) =
-      let one = acts_alike before c s' p' now y call first known.stands known.numbered known.listed many acts in
+  leads_alike list owner last s z p shown known (stays owner' s' p') = (known, sym (append-nil p.events))
+  leads_alike list owner last s z p shown known (leads c call rest before now later s' y z' p' first others many acts how) =
+      let one = acts_alike before c s' p' now y call first known.stands known.numbered known.listed known.housed many acts in
       let listed = acts_listed its before c s' p' known.once now y call first known.stands known.numbered known.listed acts in
       let once = acts_apart its before c s' p' now y call first known.stands known.numbered known.once acts in
-      let next : Known now y (does wakes_of c call p') = record { stands = one.0.0; numbered = one.1; listed = listed; once = once } in
+      let housed =
+      acts_housed its before c s' p' known.stands known.numbered known.listed known.housed now y call first many one.0.0 one.1 acts in
+      let next : Known now y (does wakes_of c call p') =
+      record { stands = one.0.0; numbered = one.1; listed = listed; once = once; housed = housed } in
       let all = leads_alike rest now later y z' (does wakes_of c call p') others next how in
       (all.0, step p'.events first others one.0.1 all.1)
 
   -- where a list of calls leads to both
-  pub led_known : (number : Who → ℕ) (s : Solo F T X) (p : Plain T (SoloWaker X)) → IsLed its number s p → Known number s p
-  led_known number s p led =
-      subst (Known number s) (sym led.course_is)
-      (leads_alike led.calls led.before number led.first s (plain.new led.limit led.is_static) led.shown
+  pub led_known : (owner : Owner) (s : Solo F T X) (p : Plain T (SoloWaker X)) → IsLed its owner s p → Known owner s p
+  led_known owner s p led =
+      subst (Known owner s) (sym led.course_is)
+      (leads_alike led.calls (new_owner led.before) owner led.first s (plain.new led.limit led.is_static) led.shown
       (new_known led.before led.limit led.kind led.is_static led.first led.is_new led.counted) led.leads).0

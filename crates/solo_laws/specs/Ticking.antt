@@ -25,6 +25,7 @@ use Rattle.plain_scheduler.specs.Moves.{is_who, lies}
 use Rattle.plain_scheduler.specs.Calls.{NewTick, DropTick, PollTick, is_granted, does}
 use Rattle.solo_laws.specs.Alike.{copies}
 use Rattle.solo_laws.specs.Numbered.{IsNumbered, ticker_of}
+use Rattle.solo_laws.specs.Owner.{HasRoom}
 use Rattle.solo_laws.specs.Road.{HasLife, IsNamed, wakes}
 use Rattle.solo_laws.specs.Shown.{rings, found_as, code_of, lent_as}
 use Rattle.solo_laws.specs.Tabled.{Stands, named}
@@ -105,7 +106,7 @@ module _ {F T X : Type 0} (its : ℕ → Lent) (number : Who → ℕ) (s : Solo 
   TicksRest =
       (c : Choice) (t : ℕ) (w : SoloWaker X) → sought s ≡ None → c.first ≡ mark_of_turn s.lines.turn → c.refusal ≡ Granted
       → let ticker = ticker_of number (ATick t) p.lying in
-      (find (lies (ATick t)) p.lying ≡ None → nat_lt s.sleepers.count s.sleepers.rooms ≡ true)
+      HasRoom (ATick t) s p
       → ((u : Task) → w ≡ OfTask u → IsNamed (named its) (length p.futures) u × CanCopy ticker w u s)
       → suc (length p.lying) ≤ c.tells → HasLife 2 s.lines
       → IsAtRest (ATick t) (number_after (ATick t) number s p) (rest_answer ticker w s) (rested ticker w s)
@@ -159,7 +160,7 @@ module _ {F T X : Type 0} (its : ℕ → Lent) (number : Who → ℕ) (s : Solo 
   TicksLieRefused =
       (c : Choice) (t : ℕ) (w : SoloWaker X) → sought s ≡ None → c.first ≡ mark_of_turn s.lines.turn → c.refusal ≡ Later
       → let ticker = ticker_of number (ATick t) p.lying in
-      (find (lies (ATick t)) p.lying ≡ None → nat_lt s.sleepers.count s.sleepers.rooms ≡ true)
+      HasRoom (ATick t) s p
       → ((u : Task) → w ≡ OfTask u → IsNamed (named its) (length p.futures) u × (may_hold u s ≡ true))
       → looks_again (slept_answer ticker w s).look ≡ true → suc (length p.lying) ≤ c.tells → HasLife 2 s.lines
       → LiesRefused (ATick t) (number_after (ATick t) number s p) (slept_answer ticker w s) (popped (slept_once ticker w s))

@@ -126,7 +126,7 @@ module _ {F T X : Type 0} (its : ℕ → Lent) where
   abbrev pub Both : Choice → Call T (SoloWaker X) → Plain T (SoloWaker X) → List (Event T (SoloWaker X)) → Owner → Solo F T X → Type 0
   Both c call p shown now z = Alike c call p shown z × IsNumbered now.number z.sleepers (does wakes_of c call p).lying
 
-  tick_room : (owner : Owner) (s : Solo F T X) (p : Plain T (SoloWaker X)) → Stands its s p → IsNumbered owner.number s.sleepers p.lying
+  pub tick_room : (owner : Owner) (s : Solo F T X) (p : Plain T (SoloWaker X)) → Stands its s p → IsNumbered owner.number s.sleepers p.lying
       → Housed owner.ticks s p → (t : ℕ) → has_tick t owner ≡ true → HasRoom (ATick t) s p
   tick_room owner s p so n h t lives = has_room its owner.number owner.ticks s p so n h (ATick t) lives
 

@@ -75,6 +75,10 @@ module _ {T X : Type 0} where
       by (Some run) is on = got_below p.runs r run is
 
 module _ {F T X : Type 0} (its : ℕ → Lent) where
+  pub its_own : (r : ℕ) (s : Solo F T X) (p : Plain T (SoloWaker X)) → Stands its s p → goes_on r p ≡ true → has_own r s.runs ≡ true
+  its_own r s p so going =
+      ap (λ q. is_some q) (so.1.queues r) ∙ ap (λ b. is_some (own_of its b (filter (is_kept r) p.due))) going
+
   -- a run that is polled searches, steals and lies down
   module _ (among others : ℕ → Bool) (number : Who → ℕ) (c : Choice) (runner : Runner) (is : among runner.number ≡ true) (w : SoloWaker X)
       (s : Solo F T X) (p : Plain T (SoloWaker X)) (l : Listed among others s.runs) where
@@ -173,10 +177,8 @@ module _ {F T X : Type 0} (its : ℕ → Lent) where
     drops r going so l =
         let more : ℕ → Bool = λ k. cond (k == r) true (busy p k) in
         let q = does wakes_of c (Call.DropRun r) p in
-        let has : has_own r s.runs ≡ true =
-        ap (λ q. is_some q) (so.1.queues r) ∙ ap (λ b. is_some (own_of its b (filter (is_kept r) p.due))) going in
         fewer_listed (polled p) (polled q) more (busy q) s.runs (drop_polled c (polled p) r p (λ k has. has))
-        (drop_busy c more r p (λ k has. has)) (going_listed (polled p) (busy p) r s.runs has l)
+        (drop_busy c more r p (λ k has. has)) (going_listed (polled p) (busy p) r s.runs (its_own r s p so going) l)
 
     -- once one has gone calls are on others
     others_on : (r : ℕ) (answer : Answer T) (rest : List (Code T (SoloWaker X))) → p.inside ≡ DropOwn r answer ∷ rest

@@ -1,6 +1,6 @@
 -- Lists of whole calls, of those that both are known to make alike: what the owner of an executor does for each call of the plain
 -- scheduler, and what is shown by it.
-use Rattle.std.specs.Prelude.{◌≡◌, ℕ, suc, ◌+◌, ◌*◌, ◌<◌, ◌≤◌, true, false, if◌then◌else◌, List, [], ◌∷◌, ◌++◌, length, find}
+use Rattle.std.specs.Prelude.{◌≡◌, ℕ, suc, ◌+◌, ◌*◌, ◌<◌, ◌≤◌, true, false, if◌then◌else◌, List, [], ◌∷◌, ◌++◌, length}
 use Rattle.std.specs.Prelude.{Option, Some, None, Ok, Err}
 use Rattle.queue_steps.specs.ClosableQueue.{most_accepted}
 use Rattle.executor_parts.specs.declared.mark.Mark.{Mark}
@@ -21,7 +21,7 @@ use Rattle.solo.specs.Runs as runs
 use Rattle.plain_scheduler.specs.State.{Answer, ARun, DropOwn, Finished, PollOwn}
 use Rattle.plain_scheduler.specs.State.{Event, Who, ATick, Answers, Pending, Choice, Code, Poll, Drop, Lose, Closed, Gave, Taker, Plain}
 use Rattle.plain_scheduler.specs.State.{Made, NoMemory, Yes, No, Done, Drops, Granted, AtOnce, Later, Loses, Run}
-use Rattle.plain_scheduler.specs.Moves.{lies, task}
+use Rattle.plain_scheduler.specs.Moves.{task}
 use Rattle.plain_scheduler.specs.Calls.{Call, Spawn, TryTick, IsEmpty, Wake, Use, Copy, Release, PollHandle, Cancel, Detach, DropHandle}
 use Rattle.plain_scheduler.specs.Calls.{DropRun, Leak, Pends, EndsWith, Ends, NewTick, PollRun, PollTick, DropTick, NewRun, is_granted}
 use Rattle.plain_scheduler.specs.Calls.{does}
@@ -103,19 +103,20 @@ pub data Acts {F T X : Type 0} (its : ℕ → Lent) (owner : Owner) (c : Choice)
   -- under a name of its own
   makes_tick : (t : ℕ) → has_tick t owner ≡ false → c.refusal ≡ Granted
       → Acts its owner c s p NewTick (Answers Made ∷ []) (with_tick t owner) (ticks.roomy s)
-  tick_takes : (t : ℕ) (w : SoloWaker X) (task : Task) → has_tick t owner ≡ true → solo.sought s ≡ Some task → c.first ≡ mark_of_turn s.lines.turn
-      → HasLife 5 s.lines
+  tick_takes : (t : ℕ) (w : SoloWaker X) (task : Task) → has_tick t owner ≡ true → solo.sought s ≡ Some task
+      → c.first ≡ mark_of_turn s.lines.turn → HasLife 5 s.lines
       → Acts its owner c s p (PollTick t w) (tick_shows
       (ticks.found_answer (ticker_of owner.number (ATick t) p.lying) None task (solo.popped s)))
       owner (ticks.found (ticker_of owner.number (ATick t) p.lying) task (solo.popped s))
   -- no copy of its waker is refused
-  tick_rests : (t : ℕ) (w : SoloWaker X) → has_tick t owner ≡ true → solo.sought s ≡ None → c.first ≡ mark_of_turn s.lines.turn → c.refusal ≡ Granted
+  tick_rests : (t : ℕ) (w : SoloWaker X) → has_tick t owner ≡ true → solo.sought s ≡ None → c.first ≡ mark_of_turn s.lines.turn
+      → c.refusal ≡ Granted
       → ((u : Task) → w ≡ OfTask u
       → IsNamed (named its) (length p.futures) u × CanCopy (ticker_of owner.number (ATick t) p.lying) w u s)
       → suc (length p.lying) ≤ c.tells → HasLife 2 s.lines
       → Acts its owner c s p (PollTick t w)
-      (rings (rest_answer (ticker_of owner.number (ATick t) p.lying) w s).sleeper ++ Answers Pending ∷ []) (renumbered (number_after (ATick t) owner.number s p) owner)
-      (rested (ticker_of owner.number (ATick t) p.lying) w s)
+      (rings (rest_answer (ticker_of owner.number (ATick t) p.lying) w s).sleeper ++ Answers Pending ∷ [])
+      (renumbered (number_after (ATick t) owner.number s p) owner) (rested (ticker_of owner.number (ATick t) p.lying) w s)
   makes_run : c.refusal ≡ Granted → length p.runs < most_accepted
       → Acts its owner c s p NewRun (Answers Made ∷ []) owner (runs.made s)
   makes_no_run : is_granted c.refusal ≡ false → Acts its owner c s p NewRun (Answers NoMemory ∷ []) owner s
@@ -129,13 +130,15 @@ pub data Acts {F T X : Type 0} (its : ℕ → Lent) (owner : Owner) (c : Choice)
   -- its own future is pending, and it looks for one to take, or lies down
   run_looks : (runner : Runner) (w : SoloWaker X) (rest : List (Code T (SoloWaker X))) (shown : List (Event T (SoloWaker X)))
       (now : Who → ℕ) (z : Solo F T X) → p.inside ≡ PollOwn runner.number w ∷ rest
-      → Searches its owner.number c runner w s (record p { inside = rest }) shown now z → Acts its owner c s p Pends shown (renumbered now owner) z
+      → Searches its owner.number c runner w s (record p { inside = rest }) shown now z
+      → Acts its owner c s p Pends shown (renumbered now owner) z
   -- the poll or drop of one that it took ends as in a try, and then the run goes on; or one is dropped first, or its output
   run_goes_on : (stage : Stage T (SoloWaker X)) (runner : Runner) (w : SoloWaker X) (rest : List (Code T (SoloWaker X)))
       (call : Call T (SoloWaker X)) (shown others : List (Event T (SoloWaker X))) (now : Who → ℕ) (y z : Solo F T X)
       → p.inside ≡ code_at stage (Run runner.number w) ∷ rest → IsEnding stage call
       → Makes its c s (in_try stage rest p) call (shown ++ Answers Yes ∷ []) y
-      → RunsOn its owner.number c runner w y (record (does wakes_of c call (in_try stage rest p)) { events = p.events ++ shown }) others now z
+      → RunsOn its owner.number c runner w y (record (does wakes_of c call (in_try stage rest p)) { events = p.events ++ shown }) others
+      now z
       → Acts its owner c s p call (shown ++ others) (renumbered now owner) z
   run_drops : (stage : Stage T (SoloWaker X)) (r : ℕ) (w : SoloWaker X) (rest : List (Code T (SoloWaker X))) (call : Call T (SoloWaker X))
       (shown : List (Event T (SoloWaker X))) (f : ℕ) (z : Solo F T X) → p.inside ≡ code_at stage (Run r w) ∷ rest
@@ -154,9 +157,11 @@ pub data Acts {F T X : Type 0} (its : ℕ → Lent) (owner : Owner) (c : Choice)
       (run_left (ticker_of owner.number (ARun runner.number) p.lying) runner s)
   -- of one that is refused
   makes_no_tick : is_granted c.refusal ≡ false → Acts its owner c s p NewTick (Answers NoMemory ∷ []) owner s
-  tick_refused : (t : ℕ) (w : SoloWaker X) → has_tick t owner ≡ true → solo.sought s ≡ None → c.first ≡ mark_of_turn s.lines.turn → c.refusal ≡ AtOnce
+  tick_refused : (t : ℕ) (w : SoloWaker X) → has_tick t owner ≡ true → solo.sought s ≡ None → c.first ≡ mark_of_turn s.lines.turn
+      → c.refusal ≡ AtOnce
       → Acts its owner c s p (PollTick t w) (Answers NoMemory ∷ []) owner (solo.popped s)
-  tick_lies_refused : (t : ℕ) (w : SoloWaker X) → has_tick t owner ≡ true → solo.sought s ≡ None → c.first ≡ mark_of_turn s.lines.turn → c.refusal ≡ Later
+  tick_lies_refused : (t : ℕ) (w : SoloWaker X) → has_tick t owner ≡ true → solo.sought s ≡ None → c.first ≡ mark_of_turn s.lines.turn
+      → c.refusal ≡ Later
       → ((u : Task) → w ≡ OfTask u → IsNamed (named its) (length p.futures) u × (solo.may_hold u s ≡ true))
       → looks_again (slept_answer (ticker_of owner.number (ATick t) p.lying) w s).look ≡ true → suc (length p.lying) ≤ c.tells
       → HasLife 2 s.lines

@@ -1,5 +1,5 @@
 -- How a run goes on once its own future is pending, and each time that it is done with a future that it took.
-use Rattle.std.specs.Prelude.{◌≡◌, ℕ, suc, ◌≤◌, nat_lt, true, false, List, [], ◌∷◌, ◌++◌, length, find, Option, Some, None, slice_get}
+use Rattle.std.specs.Prelude.{◌≡◌, ℕ, suc, ◌≤◌, nat_lt, true, false, List, [], ◌∷◌, ◌++◌, length, Option, Some, None, slice_get}
 use Rattle.solo.specs.declared.names.Task.{Task}
 use Rattle.solo.specs.declared.names.SoloWaker.{SoloWaker}
 use Rattle.solo.specs.declared.names.SoloWaker.TheVariants.{Task as OfTask}
@@ -17,7 +17,6 @@ use Rattle.plain_scheduler.specs.State.{Answers, ARun, AtOnce, Choice, Code, Dro
 use Rattle.plain_scheduler.specs.State.{Plain, Poll}
 use Rattle.plain_scheduler.specs.State.{Taker, Try, Who}
 use Rattle.plain_scheduler.specs.Lists.{or}
-use Rattle.plain_scheduler.specs.Moves.{lies}
 use Rattle.plain_scheduler.specs.Calls.{Call, Ends, Pends}
 use Rattle.solo_laws.specs.Numbered.{ticker_of}
 use Rattle.solo_laws.specs.Road.{HasLife, IsNamed}

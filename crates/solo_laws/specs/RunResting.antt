@@ -1,5 +1,5 @@
 -- A run that finds nothing lies down: it falls asleep with a copy of its waker, and where it lies anew it looks once more.
-use Rattle.std.specs.Prelude.{◌≡◌, ℕ, suc, ◌≤◌, nat_lt, true, false, List, [], ◌∷◌, length, find, None, Some, slice_get}
+use Rattle.std.specs.Prelude.{◌≡◌, ℕ, suc, ◌≤◌, nat_lt, true, false, List, [], ◌∷◌, length, None, Some, slice_get}
 use Rattle.solo.specs.declared.names.SoloWaker.{SoloWaker}
 use Rattle.solo.specs.declared.names.SoloWaker.TheVariants.{Task as OfTask}
 use Rattle.solo.specs.declared.names.Task.{Task}
@@ -15,7 +15,6 @@ use Rattle.solo.specs.Solo.{may_hold}
 use Rattle.solo.specs.Steals.{seek_answer, sought}
 use Rattle.solo.specs.Ticks as ticks
 use Rattle.plain_scheduler.specs.State.{ARun, AtOnce, Choice, Code, Granted, Later, Plain, PollOwn, Who}
-use Rattle.plain_scheduler.specs.Moves.{lies}
 use Rattle.plain_scheduler.specs.Calls.{Pends, does}
 use Rattle.solo_laws.specs.Alike.{copies}
 use Rattle.solo_laws.specs.Numbered.{ticker_of}

@@ -1,5 +1,5 @@
 -- A poll of a tick is one of the plain scheduler: what is due is taken, and the tick, if it lay, gets up.
-use Rattle.std.specs.Prelude.{◌≡◌, ℕ, suc, ◌≤◌, nat_lt, if◌then◌else◌, Bool, true, false, List, [], ◌∷◌, ◌++◌, length, find, Some}
+use Rattle.std.specs.Prelude.{◌≡◌, ℕ, suc, ◌≤◌, if◌then◌else◌, Bool, true, false, List, [], ◌∷◌, ◌++◌, length, find, Some}
 use Rattle.std.specs.Prelude.{None}
 use Rattle.executor_parts.specs.Sleepers.{next_number}
 use Rattle.solo.specs.declared.names.Task.{Task}

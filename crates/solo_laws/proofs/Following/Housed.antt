@@ -1,7 +1,7 @@
 -- There are as many rooms as ticks and runs that live, and each that lies is one of them: so one that lives, and doesn't lie, has its
 -- room.
 use Rattle.std.proofs.Common.{◌≡◌, ℕ, suc, ◌+◌, ◌-◌, ◌<◌, ◌≤◌, ◌==◌, nat_lt, cond, not, Bool, true, false, List, [], ◌∷◌, ◌++◌, length}
-use Rattle.std.proofs.Common.{find, remove, Option, Some, None, is_some, refl, sym, ap, subst, ◌∙◌, arith}
+use Rattle.std.proofs.Common.{find, Option, Some, None, is_some, refl, sym, ap, subst, ◌∙◌, arith}
 use Rattle.std.proofs.lemmas.Bool.Decides.{nat_tests}
 use Rattle.std.proofs.lemmas.List.Edits.{length-remove, length-swap}
 use Rattle.std.specs.List.{swap}
@@ -24,7 +24,7 @@ use Rattle.solo_laws.proofs.Following.Due.{and_true, clash, equal, later, not_fa
 use Rattle.solo_laws.proofs.Following.GettingUp.{apart_first}
 use Rattle.solo_laws.proofs.Following.Listed.{has_own, its_place}
 use Rattle.solo_laws.proofs.Following.Listing.{listed_queue}
-use Rattle.solo_laws.proofs.Following.Lists.{got_below, length_map, map_append}
+use Rattle.solo_laws.proofs.Following.Lists.{got_below, length_map}
 use Rattle.solo_laws.proofs.Following.Numbers.{found_none, same_who, turn}
 use Rattle.solo_laws.proofs.Following.OwnKept.{one_less}
 use Rattle.solo_laws.proofs.Following.Owns.{closed_other, first_queue, numbers}

@@ -1,11 +1,11 @@
 -- Who lies was there before, or is whoever was polled.
 use Rattle.std.proofs.Common.{◌≡◌, ℕ, zero, suc, ◌+◌, ◌==◌, nat_lt, cond, if◌then◌else◌, Bool, true, false, List, [], ◌∷◌, ◌++◌}
-use Rattle.std.proofs.Common.{find, count_by, map, Option, Some, None, slice_get, slice_set, refl, sym, ap, subst, ◌∙◌}
+use Rattle.std.proofs.Common.{find, count_by, map, Option, Some, None, slice_get, slice_set, refl, sym, ap, ◌∙◌}
 use Rattle.task_moves.specs.AbstractTask as abstract
 use Rattle.solo.specs.declared.names.SoloWaker.{SoloWaker}
 use Rattle.plain_scheduler.specs.State.{AtOnce, ARun, ATick, Calls, Choice, Due, Granted, Later, Lying, Plain, Refusal, Run, Running}
 use Rattle.plain_scheduler.specs.State.{Taker, Tick, Try, Who}
-use Rattle.plain_scheduler.specs.Lists.{any, each, on, or, repeat, without}
+use Rattle.plain_scheduler.specs.Lists.{each, on, or, repeat, without}
 use Rattle.plain_scheduler.specs.Moves.{appended, chosen, copied, given_back, is_called, is_common, is_kept, is_who, keeps, leaves}
 use Rattle.plain_scheduler.specs.Moves.{let_go, lies, looks, see, tell, up, wake}
 use Rattle.plain_scheduler.specs.Moves as moves

@@ -1,6 +1,6 @@
 -- After each call there are as many rooms as ticks and runs that live, and each that lies is one of them.
-use Rattle.std.proofs.Common.{◌≡◌, ℕ, suc, ◌+◌, ◌≤◌, if◌then◌else◌, Bool, true, false, List, [], ◌∷◌, ◌++◌, length, drop, find, Option}
-use Rattle.std.proofs.Common.{Some, None, slice_get, refl, sym, ap, subst, ◌∙◌, arith}
+use Rattle.std.proofs.Common.{◌≡◌, ℕ, suc, ◌≤◌, if◌then◌else◌, Bool, true, false, List, [], ◌∷◌, ◌++◌, length, drop}
+use Rattle.std.proofs.Common.{slice_get, refl, sym, ap, subst, ◌∙◌, arith}
 use Rattle.solo.specs.declared.names.Task.{Task}
 use Rattle.solo.specs.declared.names.SoloWaker.{SoloWaker}
 use Rattle.solo.specs.declared.owed.Lent.{Lent}
@@ -13,10 +13,9 @@ use Rattle.solo.specs.Solo as solo
 use Rattle.solo.specs.Steals as steals
 use Rattle.solo.specs.Ticks as ticks
 use Rattle.plain_scheduler.specs.State.{Answers, ARun, ATick, Choice, Code, Done, DropOwn, Drops, Event, Finished, Loses, Made, NoMemory}
-use Rattle.plain_scheduler.specs.State.{Plain, PollOwn, Ready, Run, Tick, Who, Yes}
+use Rattle.plain_scheduler.specs.State.{Plain, PollOwn, Run, Tick, Who, Yes}
 use Rattle.plain_scheduler.specs.Lists.{or}
-use Rattle.plain_scheduler.specs.Moves.{answers, enters, lies}
-use Rattle.plain_scheduler.specs.Takes as takes
+use Rattle.plain_scheduler.specs.Moves.{answers, enters}
 use Rattle.plain_scheduler.specs.Calls as plain
 use Rattle.plain_scheduler.specs.Calls.{Call, does}
 use Rattle.solo_laws.specs.Alike.{copies}
@@ -34,11 +33,11 @@ use Rattle.solo_laws.specs.Running.{run_left}
 use Rattle.solo_laws.specs.Tabled.{Stands}
 use Rattle.solo_laws.specs.Ticking.{looks_again, rested, slept_once}
 use Rattle.solo_laws.proofs.Prompt.{chosen}
-use Rattle.solo_laws.proofs.Following.Crowding.{is_among, whos}
+use Rattle.solo_laws.proofs.Following.Crowding.{whos}
 use Rattle.solo_laws.proofs.Following.Housed.{Housed, begun_housed, lives, own_numbered, run_gone, run_housed, still_housed, tick_gone}
 use Rattle.solo_laws.proofs.Following.Housed.{tick_housed}
 use Rattle.solo_laws.proofs.Following.Keeping.{keeps}
-use Rattle.solo_laws.proofs.Following.Listed.{Listed, has_own}
+use Rattle.solo_laws.proofs.Following.Listed.{Listed}
 use Rattle.solo_laws.proofs.Following.OwnKept.{Same, copies_same, drains_as, found_same, left_as, once_same, placed, rested_same, searched_of}
 use Rattle.solo_laws.proofs.Following.OwnKept.{slept_same, sought_of, woken_same}
 use Rattle.solo_laws.proofs.Following.Owns.{changed_numbers, numbers}

@@ -94,7 +94,8 @@ pub fn lists_lose_no_future<F, T, X>()
 pub fn lists_end_alike<F, T, X>()
     ensures { (its : ℕ → Lent) (limit : ℕ) (kind : Kind) (is_static : Bool) (calls ends : List (Choice × Call T (SoloWaker X)))
         (first middle last : Solo F T X) (shown others : List (Event T (SoloWaker X))) (before : Who → ℕ) (after : Owner)
-        → IsNew limit kind first → counts kind ≡ not is_static → Leads its calls (new_owner before) first (new limit is_static) shown after middle
+        → IsNew limit kind first → counts kind ≡ not is_static
+        → Leads its calls (new_owner before) first (new limit is_static) shown after middle
         → let p = course wakes calls (new limit is_static) in
         LastCalls its middle p ends others last
         → IsClosed its last (course wakes ends p) × ((course wakes ends p).events ≡ shown ++ others) }

@@ -81,7 +81,8 @@ no_more (u ∷ us) ws once all =
     let two = both_true (not (is_among u us)) (each_once us) once in
     let long = taken_out u ws (all u (at_first (is_who u u) (is_among u us) (itself u))) in
     let fewer = no_more us (without (is_who u) ws) two.1
-    (λ v is. others_stay v u ws (unlike v is (not_true (is_among u us) two.0) (is_who v u) refl) (all v (later (is_who v u) (is_among v us) is))) in
+    (λ v is. others_stay v u ws (unlike v is (not_true (is_among u us) two.0) (is_who v u) refl)
+    (all v (later (is_who v u) (is_among v us) is))) in
     omega (arith, long, fewer)
   where
     unlike : (v : Who) → is_among v us ≡ true → is_among u us ≡ false → (b : Bool) → is_who v u ≡ b → b ≡ false

@@ -226,7 +226,8 @@ module _ {T X : Type 0} (c : Choice) where
         let e = takes.kept wakes c r (loud b) in
         run_lie d.future (Run r w) (takes.counted wakes c r e)
         (of_lain (takes.counted wakes c r) (runs_lain (λ run. record run { taken = run.taken + 1 }) r) e
-        (of_lain (takes.kept wakes c r) (λ p. each_lain (λ mark. keeps r (is_common mark)) (λ mark. keeps_lain r (is_common mark)) c.keeps p)
+        (of_lain (takes.kept wakes c r)
+        (λ p. each_lain (λ mark. keeps r (is_common mark)) (λ mark. keeps_lain r (is_common mark)) c.keeps p)
         (loud b)
         (tell_lie b (up_lie (ARun r) a (of_lain (takes.robbed wakes c r d.keeper) (robbed_lain r d.keeper) p all)))))
 

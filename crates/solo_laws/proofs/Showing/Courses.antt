@@ -136,7 +136,8 @@ module _ {F T X : Type 0} (its : ℕ → Lent) where
 
   pub acts_alike : (owner : Owner) (c : Choice) (s : Solo F T X) (p : Plain T (SoloWaker X)) (now : Owner) (z : Solo F T X)
       (call : Call T (SoloWaker X)) (shown : List (Event T (SoloWaker X))) → Stands its s p → IsNumbered owner.number s.sleepers p.lying
-      → Listed (polled p) (busy p) s.runs → Housed owner.ticks s p → length p.lying ≤ c.tells → Acts its owner c s p call shown now z → Both c call p shown now z
+      → Listed (polled p) (busy p) s.runs → Housed owner.ticks s p → length p.lying ≤ c.tells → Acts its owner c s p call shown now z
+      → Both c call p shown now z
   acts_alike owner c s p now z call shown so n l h many (makes call' shown' z' how) =
       let it = makes_alike c s z' p call' shown' so many how in
       (it, makes_numbered its c s p owner.number call' shown' z' how n many it.0)
@@ -145,7 +146,8 @@ module _ {F T X : Type 0} (its : ℕ → Lent) where
   acts_alike owner c s p now z call shown so n l h many (tick_takes t w task lives found first life) =
       let it = ticks_take its owner.number s p so n c t w task found first many life in ((it.stands, it.seen), it.numbered)
   acts_alike owner c s p now z call shown so n l h many (tick_rests t w lives none first granted names more life) =
-      let it = ticks_rest its owner.number s p so n c t w none first granted (tick_room owner s p so n h t lives) names more life in ((it.stands, it.seen), it.numbered)
+      let it = ticks_rest its owner.number s p so n c t w none first granted (tick_room owner s p so n h t lives) names more life in
+      ((it.stands, it.seen), it.numbered)
   acts_alike owner c s p now z call shown so n l h many (makes_run granted few) =
       let it = (runs_begin its owner.number s p so n c granted few).0 in ((it.stands, it.seen), it.numbered)
   acts_alike owner c s p now z call shown so n l h many (makes_no_run refused) =
@@ -183,7 +185,8 @@ module _ {F T X : Type 0} (its : ℕ → Lent) where
       still_housed owner.ticks s y p (does wakes_of c call' tried) (ap (λ o. numbers o.queues) kept.0.1) kept.0.0.2
       (λ v among. h.living v (sym (ap (is_among v) kept.1.whos) ∙ among)) h in
       let room = run_room owner y (does wakes_of c call' tried) it.0 numbered housed r has in
-      goes_alike its owner.number c s p so n many stage runner.number w rest call' is ends runner refl first others now' y z' it.0 it.1 numbered
+      goes_alike its owner.number c s p so n many stage runner.number w rest call' is ends runner refl first others now' y z' it.0 it.1
+      numbered
       listed has room few on
   acts_alike owner c s p now z call shown so n l h many (run_drops stage r w rest call' first f z' is ends how) =
       let tried = in_try stage rest p in
@@ -211,7 +214,8 @@ module _ {F T X : Type 0} (its : ℕ → Lent) where
   acts_alike owner c s p now z call shown so n l h many (tick_refused t w lives none first refused) =
       let it = ticks_refused its owner.number s p so n c t w none first refused in ((it.stands, it.seen), it.numbered)
   acts_alike owner c s p now z call shown so n l h many (tick_lies_refused t w lives none first refused names again more life) =
-      let it = (ticks_lie_refused its owner.number s p so n c t w none first refused (tick_room owner s p so n h t lives) names again more life).refused in
+      let it = (ticks_lie_refused its owner.number s p so n c t w none first refused
+      (tick_room owner s p so n h t lives) names again more life).refused in
       ((it.stands, it.seen), it.numbered)
   acts_alike owner c s p now z call shown so n l h many (tick_leaves t lives life) =
       let it = ticks_leave its owner.number s p so n c t many life in ((it.stands, it.seen), it.numbered)

@@ -38,7 +38,8 @@ use Rattle.solo_laws.proofs.Following.Housed.{Housed, begun_housed, lives, own_n
 use Rattle.solo_laws.proofs.Following.Housed.{tick_housed}
 use Rattle.solo_laws.proofs.Following.Keeping.{keeps}
 use Rattle.solo_laws.proofs.Following.Listed.{Listed}
-use Rattle.solo_laws.proofs.Following.OwnKept.{Same, copies_same, drains_as, found_same, left_as, once_same, placed, rested_same, searched_of}
+use Rattle.solo_laws.proofs.Following.OwnKept.{Same, copies_same, drains_as, found_same, left_as, once_same, placed, rested_same}
+use Rattle.solo_laws.proofs.Following.OwnKept.{searched_of}
 use Rattle.solo_laws.proofs.Following.OwnKept.{slept_same, sought_of, woken_same}
 use Rattle.solo_laws.proofs.Following.Owns.{changed_numbers, numbers}
 use Rattle.solo_laws.proofs.Following.Polled.{busy, polled}

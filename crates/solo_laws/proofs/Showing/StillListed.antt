@@ -1,6 +1,7 @@
 -- After each call others look at each own queue in which there is a task, and at that of each run that is polled; and each run that is
 -- polled or goes has its own queue still.
-use Rattle.std.proofs.Common.{◌≡◌, ℕ, suc, ◌+◌, ◌<◌, ◌==◌, cond, not, Bool, true, false, List, [], ◌∷◌, ◌++◌, length, drop, filter, map, Option}
+use Rattle.std.proofs.Common.{◌≡◌, ℕ, suc, ◌+◌, ◌<◌, ◌==◌, cond, not, Bool, true, false, List, [], ◌∷◌, ◌++◌, length, drop, filter, map}
+use Rattle.std.proofs.Common.{Option}
 use Rattle.std.proofs.Common.{Some, None, is_some}
 use Rattle.std.proofs.Common.{slice_get, refl, sym, ap, subst, ◌∙◌, arith}
 use Rattle.solo.specs.declared.names.Task.{Task}
@@ -43,7 +44,8 @@ use Rattle.solo_laws.proofs.Following.Listed.{Listed, closed_listed, fewer_liste
 use Rattle.solo_laws.proofs.Following.Listed.{popped_listed}
 use Rattle.solo_laws.proofs.Following.Listed.{pushed_listed}
 use Rattle.solo_laws.proofs.Following.Lists.{got_below}
-use Rattle.solo_laws.proofs.Following.OwnKept.{Same, copies_same, drains_as, found_same, left_as, once_same, rested_same, same_runs, searched_of}
+use Rattle.solo_laws.proofs.Following.OwnKept.{Same, copies_same, drains_as, found_same, left_as, once_same, rested_same, same_runs}
+use Rattle.solo_laws.proofs.Following.OwnKept.{searched_of}
 use Rattle.solo_laws.proofs.Following.OwnKept.{slept_same, sought_of, woken_same}
 use Rattle.solo_laws.proofs.Following.Polled.{Apart, busy, call_apart, call_busy, call_polled, drop_apart, drop_busy, drop_polled}
 use Rattle.solo_laws.proofs.Following.Polled.{enters_run}
@@ -200,7 +202,8 @@ module _ {F T X : Type 0} (its : ℕ → Lent) where
 
     pub acts_listed : (apart_so : Apart (busy_in p.inside)) (now : Owner) (z : Solo F T X) (call : Call T (SoloWaker X))
         (shown : List (Event T (SoloWaker X)))
-        → Stands its s p → IsNumbered owner.number s.sleepers p.lying → Listed (polled p) (busy p) s.runs → Acts its owner c s p call shown now z
+        → Stands its s p → IsNumbered owner.number s.sleepers p.lying → Listed (polled p) (busy p) s.runs
+        → Acts its owner c s p call shown now z
         → After call z
     acts_listed apart_so now z call shown so n l (makes call' shown' z' how) =
         kept call' (makes_no_poll c s z' p call' shown' how) z' (keeps its c s p call' shown' z' how).0.1 l
@@ -270,7 +273,8 @@ module _ {F T X : Type 0} (its : ℕ → Lent) where
         (λ k has. has)
         (closed_listed (polled p) (busy p) (busy q) runner.number s.runs (others_on runner.number answer rest is apart_so) l))
     acts_listed apart_so now z call shown so n l (makes_no_tick refused) = still Call.NewTick refl s l
-    acts_listed apart_so now z call shown so n l (tick_refused t w lives none first refused) = still (Call.PollTick t w) refl (solo.popped s) l
+    acts_listed apart_so now z call shown so n l (tick_refused t w lives none first refused) = still (Call.PollTick t w) refl
+    (solo.popped s) l
     acts_listed apart_so now z call shown so n l (tick_lies_refused t w lives none first refused names again more life) =
         let ticker = ticker_of owner.number (ATick t) p.lying in
         same (Call.PollTick t w) refl (solo.popped (slept_once ticker w s)) (once_same ticker w s) l

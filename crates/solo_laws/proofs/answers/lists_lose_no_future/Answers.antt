@@ -13,7 +13,8 @@ returns-clause-none g c its limit kind is_static calls first last shown before l
 pub returns-clause-there : goal.returns-clause-there
 returns-clause-there g c its limit kind is_static calls first last shown before later is counted how unpolled undropped =
     let both =
-    leads_alike its calls (new_owner before) later first last (new limit is_static) shown (new_known its before limit kind is_static first is counted)
+    leads_alike its calls (new_owner before) later first last (new limit is_static) shown
+    (new_known its before limit kind is_static first is counted)
     how in
     let all = none_lost its limit is_static calls (new_owner before) later first last shown how in
     all_there its last (course wakes calls (new limit is_static)) both.0.stands all unpolled undropped

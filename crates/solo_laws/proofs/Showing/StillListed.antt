@@ -273,8 +273,8 @@ module _ {F T X : Type 0} (its : ℕ → Lent) where
         (λ k has. has)
         (closed_listed (polled p) (busy p) (busy q) runner.number s.runs (others_on runner.number answer rest is apart_so) l))
     acts_listed apart_so now z call shown so n l (makes_no_tick refused) = still Call.NewTick refl s l
-    acts_listed apart_so now z call shown so n l (tick_refused t w lives none first refused) = still (Call.PollTick t w) refl
-    (solo.popped s) l
+    acts_listed apart_so now z call shown so n l (tick_refused t w lives none first refused) =
+        still (Call.PollTick t w) refl (solo.popped s) l
     acts_listed apart_so now z call shown so n l (tick_lies_refused t w lives none first refused names again more life) =
         let ticker = ticker_of owner.number (ATick t) p.lying in
         same (Call.PollTick t w) refl (solo.popped (slept_once ticker w s)) (once_same ticker w s) l

@@ -8,6 +8,7 @@ pub mod Ending
 pub mod Losing
 pub mod StillListed
 pub mod StillHoused
+pub mod StillTallied
 pub mod Courses
 pub mod AllThere
 pub mod AfterClose

@@ -32,7 +32,7 @@ use Rattle.solo_laws.specs.Busy.{busy_in}
 use Rattle.solo_laws.specs.Road.{HasLife, IsNamed, count_of, is_in, wakes as wakes_of}
 use Rattle.solo_laws.specs.Shown.{rings, found_as, cancel_shows, detach_shows, poll_shows, end_shows, drop_shows, call_shows, leak_shows}
 use Rattle.solo_laws.specs.Numbered.{ticker_of}
-use Rattle.solo_laws.specs.Owner.{Owner, has_tick, renumbered, with_tick, without_tick}
+use Rattle.solo_laws.specs.Owner.{HasRunner, Owner, has_tick, renumbered, with_tick, without_tick}
 use Rattle.solo_laws.specs.Ticking.{CanCopy, number_after, rest_answer, rested, tick_shows, looks_again, slept_answer, slept_once}
 use Rattle.solo_laws.specs.Spawning.{said, is_memory}
 use Rattle.solo_laws.specs.Running.{run_left, run_shows}
@@ -129,17 +129,15 @@ pub data Acts {F T X : Type 0} (its : ℕ → Lent) (owner : Owner) (c : Choice)
       → Acts its owner c s p (EndsWith v) [] owner s
   -- its own future is pending, and it looks for one to take, or lies down
   run_looks : (runner : Runner) (w : SoloWaker X) (rest : List (Code T (SoloWaker X))) (shown : List (Event T (SoloWaker X)))
-      (now : Who → ℕ) (z : Solo F T X) → p.inside ≡ PollOwn runner.number w ∷ rest
-      → Searches its owner.number c runner w s (record p { inside = rest }) shown now z
-      → Acts its owner c s p Pends shown (renumbered now owner) z
+      (now : Owner) (z : Solo F T X) → HasRunner runner owner → p.inside ≡ PollOwn runner.number w ∷ rest
+      → Searches its owner c runner w s (record p { inside = rest }) shown now z → Acts its owner c s p Pends shown now z
   -- the poll or drop of one that it took ends as in a try, and then the run goes on; or one is dropped first, or its output
   run_goes_on : (stage : Stage T (SoloWaker X)) (runner : Runner) (w : SoloWaker X) (rest : List (Code T (SoloWaker X)))
-      (call : Call T (SoloWaker X)) (shown others : List (Event T (SoloWaker X))) (now : Who → ℕ) (y z : Solo F T X)
-      → p.inside ≡ code_at stage (Run runner.number w) ∷ rest → IsEnding stage call
+      (call : Call T (SoloWaker X)) (shown others : List (Event T (SoloWaker X))) (now : Owner) (y z : Solo F T X)
+      → HasRunner runner owner → p.inside ≡ code_at stage (Run runner.number w) ∷ rest → IsEnding stage call
       → Makes its c s (in_try stage rest p) call (shown ++ Answers Yes ∷ []) y
-      → RunsOn its owner.number c runner w y (record (does wakes_of c call (in_try stage rest p)) { events = p.events ++ shown }) others
-      now z
-      → Acts its owner c s p call (shown ++ others) (renumbered now owner) z
+      → RunsOn its owner c runner w y (record (does wakes_of c call (in_try stage rest p)) { events = p.events ++ shown }) others now z
+      → Acts its owner c s p call (shown ++ others) now z
   run_drops : (stage : Stage T (SoloWaker X)) (r : ℕ) (w : SoloWaker X) (rest : List (Code T (SoloWaker X))) (call : Call T (SoloWaker X))
       (shown : List (Event T (SoloWaker X))) (f : ℕ) (z : Solo F T X) → p.inside ≡ code_at stage (Run r w) ∷ rest
       → IsEnding stage call → Makes its c s (in_try stage rest p) call (shown ++ Drops f ∷ []) z

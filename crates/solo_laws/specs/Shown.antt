@@ -58,6 +58,12 @@ module _ {T X : Type 0} where
   loses_or None others = others
   loses_or (Some v) others = Loses v ∷ []
 
+-- it is handed out, to be polled or dropped
+abbrev pub is_handed : {F : Type 0} → Found F → Bool
+is_handed (FoundPoll lent future) = true
+is_handed (FoundDrop lent future) = true
+is_handed _ = false
+
 -- what was found is lent as what its number has
 abbrev pub lent_as : {F : Type 0} → (ℕ → Lent) → Found F → Type 0
 lent_as its (FoundPoll lent future) = lent ≡ its lent.task.number

@@ -27,7 +27,7 @@ use Rattle.solo_laws.specs.Alike.{copies}
 use Rattle.solo_laws.specs.Numbered.{IsNumbered, ticker_of}
 use Rattle.solo_laws.specs.Owner.{HasRoom}
 use Rattle.solo_laws.specs.Road.{HasLife, IsNamed, wakes}
-use Rattle.solo_laws.specs.Shown.{rings, found_as, code_of, lent_as}
+use Rattle.solo_laws.specs.Shown.{rings, found_as, code_of, is_handed, lent_as}
 use Rattle.solo_laws.specs.Tabled.{Stands, named}
 
 abbrev pub found_in : {F : Type 0} → Look F → Found F
@@ -80,6 +80,7 @@ module _ {F T X : Type 0} (its : ℕ → Lent) (number : Who → ℕ) (s : Solo 
     pub numbered : IsNumbered number z.sleepers q.lying
     pub awake : out.ticker ≡ ticker_of number who q.lying
     pub seen : q.events ≡ p.events ++ tick_shows out
+    pub handed : is_handed (found_in out.look) ≡ true
     pub inside : q.inside ≡ code_of by (found_in out.look) ++ p.inside
     pub lent : lent_as its (found_in out.look)
 

@@ -114,8 +114,8 @@ module _ {F T X : Type 0} (its : ℕ → Lent) where
   acts_kept owner c s p now z call shown (over_polled r w over) = any_call c (plain.Call.PollRun r w) p refl
   acts_kept owner c s p now z call shown (own_ready r w v rest is) =
       λ has. giving c p (PollOwn r w) rest is v (none_left c p (PollOwn r w) rest (λ g. refl) is nobody has)
-  acts_kept owner c s p now z call shown (run_looks runner w rest shown' now' z' is how) = run_kept c p runner.number w rest is
-  acts_kept owner c s p now z call shown (run_goes_on stage runner w rest call' first others now' y z' is ends how on) =
+  acts_kept owner c s p now z call shown (run_looks runner w rest shown' now' z' its_runner is how) = run_kept c p runner.number w rest is
+  acts_kept owner c s p now z call shown (run_goes_on stage runner w rest call' first others now' y z' its_runner is ends how on) =
       ends_kept c p stage (Run runner.number w) rest call' is ends
   acts_kept owner c s p now z call shown (run_drops stage r w rest call' first f z' is ends how) =
       ends_kept c p stage (Run r w) rest call' is ends

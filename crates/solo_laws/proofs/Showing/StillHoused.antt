@@ -79,7 +79,7 @@ module _ {T X : Type 0} (c : Choice) where
 
 module _ {F T X : Type 0} (its : ℕ → Lent) where
   -- a run that is polled searches, steals and lies down: as many may sleep, and each own queue is that of its run still
-  module _ (number : Who → ℕ) (c : Choice) (runner : Runner) (w : SoloWaker X) (s : Solo F T X) (p : Plain T (SoloWaker X)) where
+  module _ (owner : Owner) (c : Choice) (runner : Runner) (w : SoloWaker X) (s : Solo F T X) (p : Plain T (SoloWaker X)) where
     abbrev r : ℕ
     r = runner.number
 
@@ -95,8 +95,8 @@ module _ {F T X : Type 0} (its : ℕ → Lent) where
     pushed : (t : Task) (o : own.OwnQueuesValue) (n : ℕ) → IsSo (o, n) → IsSo (own.changed (own.pushed t) r o, n)
     pushed t o n is = (changed_numbers (own.pushed t) r o ∙ is.0, is.1)
 
-    finds : (start : ℕ) → Of (runs.searched runner (ticker_of number (ARun r) p.lying) start s)
-    finds start = searched_of IsSo r popped pushed runner refl (ticker_of number (ARun r) p.lying) start s (refl, refl)
+    finds : (start : ℕ) → Of (runs.searched runner (ticker_of owner.number (ARun r) p.lying) start s)
+    finds start = searched_of IsSo r popped pushed runner refl (ticker_of owner.number (ARun r) p.lying) start s (refl, refl)
 
     seeks : (start : ℕ) (z : Solo F T X) → Of z → Of (steals.sought r start z)
     seeks start z z_of = sought_of IsSo r popped pushed start z z_of
@@ -106,26 +106,41 @@ module _ {F T X : Type 0} (its : ℕ → Lent) where
         let y = steals.sought r start z in
         subst IsSo (sym (slept_same ticker w (copies w y) ∙ copies_same w y)) (seeks start z z_of)
 
-    pub searches_so : (shown : List (Event T (SoloWaker X))) (now : Who → ℕ) (z : Solo F T X)
-        → Searches its number c runner w s p shown now z → Of z
+    pub searches_so : (shown : List (Event T (SoloWaker X))) (now : Owner) (z : Solo F T X)
+        → Searches its owner c runner w s p shown now z → Of z
     searches_so shown now z (takes_own start task first keeps life) = finds start
     searches_so shown now z (takes_common start task first found turn keeps life) = finds start
     searches_so shown now z (robs_another start task first found turn finds_it robs moves keeps life) = finds start
     searches_so shown now z (rests first second missed turn granted names more life) =
-        let ticker = ticker_of number (ARun r) p.lying in
+        let ticker = ticker_of owner.number (ARun r) p.lying in
         let out = sleep_answer r first ticker w s in
         let y = slept_from r first ticker w s in
         chosen Of (looks_again out.look) (slept_from r second out.ticker w y) y
         (slept_of second out.ticker y (slept_of first ticker s (refl, refl))) (slept_of first ticker s (refl, refl))
     searches_so shown now z (is_refused start missed turn refused) = seeks start s (refl, refl)
     searches_so shown now z (lies_refused first second missed turn refused names again more life) =
-        let ticker = ticker_of number (ARun r) p.lying in
+        let ticker = ticker_of owner.number (ARun r) p.lying in
         seeks second (slept_from r first ticker w s) (slept_of first ticker s (refl, refl))
 
-    pub runs_on_so : (shown : List (Event T (SoloWaker X))) (now : Who → ℕ) (z : Solo F T X)
-        → RunsOn its number c runner w s p shown now z → Of z
+    pub runs_on_so : (shown : List (Event T (SoloWaker X))) (now : Owner) (z : Solo F T X)
+        → RunsOn its owner c runner w s p shown now z → Of z
     runs_on_so shown now z (looks_on shown' now' z' less how) = searches_so shown' now' z' how
     runs_on_so shown now z (gives_way enough names life) = subst IsSo (sym (woken_same w s)) (refl, refl)
+
+    -- the ticks are the same
+    pub searches_ticks : (shown : List (Event T (SoloWaker X))) (now : Owner) (z : Solo F T X)
+        → Searches its owner c runner w s p shown now z → now.ticks ≡ owner.ticks
+    searches_ticks shown now z (takes_own start task first keeps life) = refl
+    searches_ticks shown now z (takes_common start task first found turn keeps life) = refl
+    searches_ticks shown now z (robs_another start task first found turn finds_it robs moves keeps life) = refl
+    searches_ticks shown now z (rests first second missed turn granted names more life) = refl
+    searches_ticks shown now z (is_refused start missed turn refused) = refl
+    searches_ticks shown now z (lies_refused first second missed turn refused names again more life) = refl
+
+    pub runs_on_ticks : (shown : List (Event T (SoloWaker X))) (now : Owner) (z : Solo F T X)
+        → RunsOn its owner c runner w s p shown now z → now.ticks ≡ owner.ticks
+    runs_on_ticks shown now z (looks_on shown' now' z' less how) = searches_ticks shown' now' z' how
+    runs_on_ticks shown now z (gives_way enough names life) = refl
 
   module _ (owner : Owner) (c : Choice) (s : Solo F T X) (p : Plain T (SoloWaker X)) (so : Stands its s p)
       (n : IsNumbered owner.number s.sleepers p.lying) (l : Listed (polled p) (busy p) s.runs) (h : Housed owner.ticks s p) where
@@ -211,17 +226,20 @@ module _ {F T X : Type 0} (its : ℕ → Lent) where
     acts_housed now z call shown many both m (own_ready r w v rest is) =
         still (does wakes_of c (Call.EndsWith v) p)
         (ap (λ cs. (plain.innermost wakes_of c cs (plain.gives wakes_of c v) p).lying) is)
-    acts_housed now z call shown many both m (run_looks runner w rest shown' now' z' is how) =
-        let searched = searches_so owner.number c runner w s (record p { inside = rest }) shown' now' z' how in
-        still_housed owner.ticks s z' p (does wakes_of c Call.Pends p) searched.0 searched.1 (looks_lie runner.number w rest is) h
-    acts_housed now z call shown many both m (run_goes_on stage runner w rest call' first others now' y z' is ends how on) =
+    acts_housed now z call shown many both m (run_looks runner w rest shown' now' z' its_runner is how) =
+        let searched = searches_so owner c runner w s (record p { inside = rest }) shown' now' z' how in
+        subst (λ ts. Housed ts z' (does wakes_of c Call.Pends p))
+        (sym (searches_ticks owner c runner w s (record p { inside = rest }) shown' now' z' how))
+        (still_housed owner.ticks s z' p (does wakes_of c Call.Pends p) searched.0 searched.1 (looks_lie runner.number w rest is) h)
+    acts_housed now z call shown many both m (run_goes_on stage runner w rest call' first others now' y z' its_runner is ends how on) =
         let tried = in_try stage rest p in
         let kept = keeps its c s tried call' (first ++ Answers Yes ∷ []) y how in
         let a = record (does wakes_of c call' tried) { events = p.events ++ first } in
-        let gone_on = runs_on_so owner.number c runner w y a others now' z' on in
-        still_housed owner.ticks s z' p (does wakes_of c call' p)
+        let gone_on = runs_on_so owner c runner w y a others now' z' on in
+        subst (λ ts. Housed ts z' (does wakes_of c call' p)) (sym (runs_on_ticks owner c runner w y a others now' z' on))
+        (still_housed owner.ticks s z' p (does wakes_of c call' p)
         (gone_on.0 ∙ ap (λ (o : own.OwnQueuesValue). numbers o.queues) kept.0.1) (gone_on.1 ∙ kept.0.0.2)
-        (ends_lie runner.number w rest stage call' is ends kept.1.whos) h
+        (ends_lie runner.number w rest stage call' is ends kept.1.whos) h)
     acts_housed now z call shown many both m (run_drops stage r w rest call' first f z' is ends how) =
         let kept = keeps its c s (in_try stage rest p) call' (first ++ Drops f ∷ []) z' how in
         still_housed owner.ticks s z' p (does wakes_of c call' p) (ap (λ (o : own.OwnQueuesValue). numbers o.queues) kept.0.1) kept.0.0.2

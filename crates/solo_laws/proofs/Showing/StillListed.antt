@@ -82,7 +82,7 @@ module _ {F T X : Type 0} (its : ℕ → Lent) where
       ap (λ q. is_some q) (so.1.queues r) ∙ ap (λ b. is_some (own_of its b (filter (is_kept r) p.due))) going
 
   -- a run that is polled searches, steals and lies down
-  module _ (among others : ℕ → Bool) (number : Who → ℕ) (c : Choice) (runner : Runner) (is : among runner.number ≡ true) (w : SoloWaker X)
+  module _ (among others : ℕ → Bool) (owner : Owner) (c : Choice) (runner : Runner) (is : among runner.number ≡ true) (w : SoloWaker X)
       (s : Solo F T X) (p : Plain T (SoloWaker X)) (l : Listed among others s.runs) where
     abbrev r : ℕ
     r = runner.number
@@ -99,9 +99,9 @@ module _ {F T X : Type 0} (its : ℕ → Lent) where
     pushed : (t : Task) (o : own.OwnQueuesValue) (n : ℕ) → IsOf (o, n) → IsOf (own.changed (own.pushed t) r o, n)
     pushed t o n = pushed_listed among others r is t o
 
-    finds : (start : ℕ) → Of (runs.searched runner (ticker_of number (ARun r) p.lying) start s)
+    finds : (start : ℕ) → Of (runs.searched runner (ticker_of owner.number (ARun r) p.lying) start s)
     finds start =
-        let ticker = ticker_of number (ARun r) p.lying in
+        let ticker = ticker_of owner.number (ARun r) p.lying in
         searched_of IsOf r popped pushed runner refl ticker start s l
 
     seeks : (start : ℕ) (z : Solo F T X) → Of z → Of (steals.sought r start z)
@@ -113,24 +113,24 @@ module _ {F T X : Type 0} (its : ℕ → Lent) where
         subst IsOf (sym (slept_same ticker w (copies w y) ∙ copies_same w y))
         (seeks start z z_of)
 
-    pub searches_listed : (shown : List (Event T (SoloWaker X))) (now : Who → ℕ) (z : Solo F T X)
-        → Searches its number c runner w s p shown now z → Of z
+    pub searches_listed : (shown : List (Event T (SoloWaker X))) (now : Owner) (z : Solo F T X)
+        → Searches its owner c runner w s p shown now z → Of z
     searches_listed shown now z (takes_own start task first keeps life) = finds start
     searches_listed shown now z (takes_common start task first found turn keeps life) = finds start
     searches_listed shown now z (robs_another start task first found turn finds_it robs moves keeps life) = finds start
     searches_listed shown now z (rests first second missed turn granted names more life) =
-        let ticker = ticker_of number (ARun r) p.lying in
+        let ticker = ticker_of owner.number (ARun r) p.lying in
         let out = sleep_answer r first ticker w s in
         let y = slept_from r first ticker w s in
         chosen Of (looks_again out.look) (slept_from r second out.ticker w y) y
         (slept_of second out.ticker y (slept_of first ticker s l)) (slept_of first ticker s l)
     searches_listed shown now z (is_refused start missed turn refused) = seeks start s l
     searches_listed shown now z (lies_refused first second missed turn refused names again more life) =
-        let ticker = ticker_of number (ARun r) p.lying in
+        let ticker = ticker_of owner.number (ARun r) p.lying in
         seeks second (slept_from r first ticker w s) (slept_of first ticker s l)
 
-    pub runs_on_listed : (shown : List (Event T (SoloWaker X))) (now : Who → ℕ) (z : Solo F T X)
-        → RunsOn its number c runner w s p shown now z → Of z
+    pub runs_on_listed : (shown : List (Event T (SoloWaker X))) (now : Owner) (z : Solo F T X)
+        → RunsOn its owner c runner w s p shown now z → Of z
     runs_on_listed shown now z (looks_on shown' now' z' less how) = searches_listed shown' now' z' how
     runs_on_listed shown now z (gives_way enough names life) = subst IsOf (sym (woken_same w s)) l
 
@@ -238,18 +238,18 @@ module _ {F T X : Type 0} (its : ℕ → Lent) where
         (λ k has. sym (ap (λ cs. is_in k (polled_in cs)) it.inside_is) ∙ has)
         (λ k has. sym (ap (λ cs. is_in k (busy_in cs)) it.inside_is) ∙ has) l
     acts_listed apart_so now z call shown so n l (own_ready r w v rest is) = still (Call.EndsWith v) refl s l
-    acts_listed apart_so now z call shown so n l (run_looks runner w rest shown' now' z' is how) =
+    acts_listed apart_so now z call shown so n l (run_looks runner w rest shown' now' z' its_runner is how) =
         let polled_so = one_in runner.number (polled_in rest) (polled_in p.inside) (ap (λ cs. polled_in cs) is) in
         still Call.Pends refl z'
-        (searches_listed (polled p) (busy p) owner.number c runner polled_so w s
+        (searches_listed (polled p) (busy p) owner c runner polled_so w s
         (record p { inside = rest }) l shown' now' z' how)
-    acts_listed apart_so now z call shown so n l (run_goes_on stage runner w rest call' first others now' y z' is ends how on) =
+    acts_listed apart_so now z call shown so n l (run_goes_on stage runner w rest call' first others now' y z' its_runner is ends how on) =
         let tried = in_try stage rest p in
         let r = runner.number in
         let polled_so = one_in r (polled_in rest) (polled_in p.inside) (stage_codes (λ r. []) r w rest p.inside stage is) in
         let y_of = subst (Listed (polled p) (busy p)) (sym (keeps its c s tried call' (first ++ Answers Yes ∷ []) y how).0.1) l in
         still call' (ends_no_poll c stage call' ends) z'
-        (runs_on_listed (polled p) (busy p) owner.number c runner polled_so w y
+        (runs_on_listed (polled p) (busy p) owner c runner polled_so w y
         (record (does wakes_of c call' tried) { events = p.events ++ first }) y_of others now' z' on)
     acts_listed apart_so now z call shown so n l (run_drops stage r w rest call' first f z' is ends how) =
         kept call' (ends_no_poll c stage call' ends) z' (keeps its c s (in_try stage rest p) call' (first ++ Drops f ∷ []) z' how).0.1 l
@@ -297,8 +297,8 @@ module _ {F T X : Type 0} (its : ℕ → Lent) where
     acts_apart now z call shown so n is (over_polled r w over) =
         subst Apart (sym (ap (λ cs. busy_in cs) (overs_polled its owner.number s p so n c r w over).inside_is)) is
     acts_apart now z call shown so n is (own_ready r w v rest at) = call_apart c (Call.EndsWith v) refl p is
-    acts_apart now z call shown so n is (run_looks runner w rest shown' now' z' at how) = call_apart c Call.Pends refl p is
-    acts_apart now z call shown so n is (run_goes_on stage runner w rest call' first others now' y z' at ends how on) =
+    acts_apart now z call shown so n is (run_looks runner w rest shown' now' z' its_runner at how) = call_apart c Call.Pends refl p is
+    acts_apart now z call shown so n is (run_goes_on stage runner w rest call' first others now' y z' its_runner at ends how on) =
         call_apart c call' (ends_no_poll c stage call' ends) p is
     acts_apart now z call shown so n is (run_drops stage r w rest call' first f z' at ends how) =
         call_apart c call' (ends_no_poll c stage call' ends) p is

@@ -8,7 +8,7 @@ ghost use Rattle.solo_laws.specs.Led.{IsLed};
 ghost use Rattle.solo_laws.specs.Numbered.{IsNumbered};
 ghost use Rattle.solo_laws.specs.Owner.{Owner};
 ghost use Rattle.solo_laws.specs.Running.{OversAreDropped, OversArePolled, OwnsAreReady, RunsAreDropped, RunsArePolled, RunsLeave};
-ghost use Rattle.solo_laws.specs.RunCounting.{RunsCount, RunsCountAnew};
+ghost use Rattle.solo_laws.specs.RunCounting.{EachCounted, RunsCount, RunsCountAnew};
 ghost use Rattle.solo_laws.specs.RunResting.{EachListed, RunsAreRefused, RunsLieRefused, RunsRest};
 ghost use Rattle.solo_laws.specs.RunTaking.{RunsGiveWay, RunsTakeCommon, RunsTakeOwn};
 ghost use Rattle.solo_laws.specs.Stealing.{KeepsAlike, KeepsOfBoth, RobsAlike};
@@ -101,8 +101,11 @@ pub fn runs_give_way_alike<F, T, X>()
 {}
 
 /// Where a run has counted as many as the plain scheduler's has taken, it says with its next take that it is to let others go first just
-/// where that one then does, and both have counted as many again; once they have, both count anew.
-pub fn runs_count_alike<T, X>()
+/// where that one then does, and both have counted as many again; once they have, both count anew. So both have counted as many wherever
+/// a list of calls leads, in which runs let others go first as their takes have said.
+pub fn runs_count_alike<F, T, X>()
     ensures takes { (c : Choice) (p : Plain T (SoloWaker X)) → RunsCount c p }
     ensures anew { (c : Choice) (p : Plain T (SoloWaker X)) → RunsCountAnew c p }
+    ensures led { (its : ℕ → Lent) (owner : Owner) (s : Solo F T X) (p : Plain T (SoloWaker X)) → IsLed its owner s p
+        → EachCounted owner p }
 {}

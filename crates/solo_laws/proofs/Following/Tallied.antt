@@ -33,6 +33,7 @@ since n = if nat_lt n 200 then n else 0
 
 module _ {T X : Type 0} where
   pub record Tallied (runner : ℕ → Runner) (way : ℕ → Bool) (p : Plain T (SoloWaker X)) : Type 0 where
+    pub number : (r : ℕ) → (runner r).number ≡ r
     pub taken : (r : ℕ) → (runner r).taken ≡ since (taken_by r p)
     pub gives_way : (r : ℕ) → nat_lt (taken_by r p) 200 ≡ not (way r)
     -- one that has no future in hand has taken fewer than 200
@@ -40,6 +41,7 @@ module _ {T X : Type 0} where
 
   -- as a run's code has ended, in which it may have taken 200
   pub record Between (runner : ℕ → Runner) (way : ℕ → Bool) (r : ℕ) (p : Plain T (SoloWaker X)) : Type 0 where
+    pub number : (k : ℕ) → (runner k).number ≡ k
     pub taken : (k : ℕ) → (runner k).taken ≡ since (taken_by k p)
     pub gives_way : (k : ℕ) → nat_lt (taken_by k p) 200 ≡ not (way k)
     pub calm : (k : ℕ) → (k == r) ≡ false → is_in k (takings p.inside) ≡ false → nat_lt (taken_by k p) 200 ≡ true
@@ -47,6 +49,7 @@ module _ {T X : Type 0} where
   pub still_tallied : (runner : ℕ → Runner) (way : ℕ → Bool) (p q : Plain T (SoloWaker X))
       → ((r : ℕ) → taken_by r q ≡ taken_by r p) → takings q.inside ≡ takings p.inside → Tallied runner way p → Tallied runner way q
   still_tallied runner way p q same takings_are t = record {
+    number = t.number;
     taken = λ r. t.taken r ∙ ap since (sym (same r));
     gives_way = λ r. ap (λ n. nat_lt n 200) (same r) ∙ t.gives_way r;
     calm = λ r none. ap (λ n. nat_lt n 200) (same r) ∙ t.calm r (sym (ap (is_in r) takings_are) ∙ none);
@@ -57,6 +60,7 @@ module _ {T X : Type 0} where
       → ((k : ℕ) → taken_by k q ≡ taken_by k p) → takings q.inside ≡ takings p.inside → Between runner way r p
       → nat_lt (taken_by r p) 200 ≡ true → Tallied runner way q
   rest_tallied runner way r p q same takings_are t less = record {
+    number = t.number;
     taken = λ k. t.taken k ∙ ap since (sym (same k));
     gives_way = λ k. ap (λ n. nat_lt n 200) (same k) ∙ t.gives_way k;
     calm = λ k none. ap (λ n. nat_lt n 200) (same k) ∙ by k (k == r) refl (sym (ap (is_in k) takings_are) ∙ none);
@@ -116,6 +120,7 @@ module _ {T X : Type 0} (c : Choice) (runner : Runner) (w : SoloWaker X) (owner 
       let counts = runs_count c p r w runner going (below runner.taken (ap (λ n. nat_lt n 200) counted ∙ less)) counted taken.0 taken.1 in
       let others = λ (k : ℕ) (away : (k == r) ≡ false). other taken.0 taken.1 k away in
       record {
+        number = λ k. its_number k (k == r) refl;
         taken = λ k. its_count counts.2 others k (k == r) refl;
         gives_way = λ k. its_way counts.1 others k (k == r) refl;
         calm = λ k none.
@@ -131,6 +136,11 @@ module _ {T X : Type 0} (c : Choice) (runner : Runner) (w : SoloWaker X) (owner 
       other d is k away =
           ap (λ o. taken_by k (or o (λ d. takes.takes wakes c (Run r w) d left) (takes.nothing wakes c (Run r w) p))) is
           ∙ others_count c r k away w d left
+
+      its_number : (k : ℕ) (b : Bool) → (k == r) ≡ b
+          → (if b then runs.taken (runs.counted runner) else owner.runner k).number ≡ k
+      its_number k true one = sym (same_number k r one)
+      its_number k false away = t.number k
 
       its_count : (runs.taken (runs.counted runner)).taken ≡ since (taken_by r q)
           → ((k : ℕ) → (k == r) ≡ false → taken_by k q ≡ taken_by k p) → (k : ℕ) (b : Bool) → (k == r) ≡ b
@@ -181,6 +191,7 @@ module _ {T X : Type 0} (c : Choice) (runner : Runner) (w : SoloWaker X) (owner 
   pub way_tallied : goes_on r p ≡ true → nat_lt (taken_by r p) 200 ≡ false
       → Tallied (given_way r owner).runner (given_way r owner).gives_way (takes.gives_way wakes c r w p)
   way_tallied going enough = record {
+    number = t.number;
     taken = λ k. its_count k (k == r) refl;
     gives_way = λ k. its_way k (k == r) refl;
     calm = λ k none. quiet k (k == r) refl (sym (ap (λ cs. is_in k (takings cs)) (gives_way_calm c r w p)) ∙ none);

@@ -342,7 +342,7 @@ module _ {F T X : Type 0} (its : ℕ → Lent) where
         let rooms = ap (λ (sleepers : Sleepers (SoloWaker X)). sleepers.rooms) is.sleepers in
         let none = ap (λ (o : own.OwnQueuesValue). length o.queues) is.runs in
         record { rooms = omega (arith, rooms, none); living = λ v is. absurd cc };
-    tallied = record { taken = λ r. refl; gives_way = λ r. refl; calm = λ r none. refl };
+    tallied = record { number = λ r. refl; taken = λ r. refl; gives_way = λ r. refl; calm = λ r none. refl };
   }
 
   pub leads_alike : (list : List (Choice × Call T (SoloWaker X))) (owner last : Owner) (s z : Solo F T X) (p : Plain T (SoloWaker X))

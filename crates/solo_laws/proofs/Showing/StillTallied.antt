@@ -208,6 +208,7 @@ module _ {T X : Type 0} where
   between runner way r p q same others t =
       let count = λ (k : ℕ). ap (λ rs. or (slice_get rs k) (λ (run : Running). run.taken) 0) same in
       record {
+        number = t.number;
         taken = λ k. t.taken k ∙ ap since (sym (count k));
         gives_way = λ k. ap (λ n. nat_lt n 200) (count k) ∙ t.gives_way k;
         calm = λ k away none. ap (λ n. nat_lt n 200) (count k) ∙ t.calm k (others k away none);

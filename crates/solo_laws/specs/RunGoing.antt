@@ -1,5 +1,5 @@
 -- How a run goes on once its own future is pending, and each time that it is done with a future that it took.
-use Rattle.std.specs.Prelude.{◌≡◌, ℕ, suc, ◌≤◌, nat_lt, true, false, List, [], ◌∷◌, ◌++◌, length, Option, Some, None, slice_get}
+use Rattle.std.specs.Prelude.{◌≡◌, ℕ, suc, ◌≤◌, true, false, List, [], ◌∷◌, ◌++◌, length, Option, Some, None, slice_get}
 use Rattle.solo.specs.declared.names.Task.{Task}
 use Rattle.solo.specs.declared.names.SoloWaker.{SoloWaker}
 use Rattle.solo.specs.declared.names.SoloWaker.TheVariants.{Task as OfTask}
@@ -15,7 +15,7 @@ use Rattle.solo.specs.Solo as solo
 use Rattle.solo.specs.Steals as steals
 use Rattle.plain_scheduler.specs.State.{Answers, ARun, AtOnce, Choice, Code, Drop, End, Event, Granted, Later, Lose, NoMemory, Pending}
 use Rattle.plain_scheduler.specs.State.{Plain, Poll}
-use Rattle.plain_scheduler.specs.State.{Taker, Try, Who}
+use Rattle.plain_scheduler.specs.State.{Taker, Try}
 use Rattle.plain_scheduler.specs.Lists.{or}
 use Rattle.plain_scheduler.specs.Calls.{Call, Ends, Pends}
 use Rattle.solo_laws.specs.Numbered.{ticker_of}
@@ -70,7 +70,8 @@ module _ {F T X : Type 0} (its : ℕ → Lent) (owner : Owner) (c : Choice) (run
         → c.keeps
         ≡ stolen_marks (runs.is_steal_due runner) runner.number (runs.told its_ticker (steals.own_popped runner.number s))
         → HasLife 5 s.lines
-        → Searches (shows_taken task (steals.own_popped runner.number s)) (taken_by_run runner owner) (runs.searched runner its_ticker start s)
+        → Searches (shows_taken task (steals.own_popped runner.number s)) (taken_by_run runner owner)
+        (runs.searched runner its_ticker start s)
     takes_common : (start : ℕ) (task : Task) → first_of runner.number s.runs ≡ None → solo.sought s ≡ Some task
         → c.first ≡ mark_of_turn s.lines.turn
         → c.keeps
@@ -78,7 +79,8 @@ module _ {F T X : Type 0} (its : ℕ → Lent) (owner : Owner) (c : Choice) (run
         (search_answer s.lines).mark
         ++ stolen_marks (runs.is_steal_due runner) runner.number (runs.told its_ticker (searched_further runner.number s))
         → HasLife 5 s.lines
-        → Searches (shows_taken task (searched_further runner.number s)) (taken_by_run runner owner) (runs.searched runner its_ticker start s)
+        → Searches (shows_taken task (searched_further runner.number s)) (taken_by_run runner owner)
+        (runs.searched runner its_ticker start s)
     robs_another : (start : ℕ) (task : Task) → first_of runner.number s.runs ≡ None → solo.sought s ≡ None
         → c.first ≡ mark_of_turn s.lines.turn
         → (steals.whole_round runner.number start (searched_none runner.number s)).0 ≡ Some task

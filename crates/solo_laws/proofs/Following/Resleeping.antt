@@ -97,7 +97,9 @@ module _ {T X : Type 0} (c : Choice) where
 
   pub lost_lies : (o : Option (SoloWaker X)) (by : Option (Taker (SoloWaker X))) → ends_one by ≡ true → (p : Plain T (SoloWaker X))
       → Lies p (takes.lost wakes c o by p)
-  lost_lies o None one p = after (called_lies o p) (as_before (on o (called wakes (tell wakes c)) p) (takes.lost wakes c o None p) refl refl refl)
+  lost_lies o None one p =
+      after (called_lies o p)
+      (as_before (on o (called wakes (tell wakes c)) p) (takes.lost wakes c o None p) refl refl refl)
   lost_lies o (Some by) one p = after (called_lies o p) (next_lies by one (on o (called wakes (tell wakes c)) p))
 
   out_lies : (left : Left T (SoloWaker X)) (by : Option (Taker (SoloWaker X))) → ends_one by ≡ true → (p : Plain T (SoloWaker X))

@@ -1,5 +1,6 @@
 -- The poll or drop of a future that a run took ends as in a try, but that the run then goes on.
-use Rattle.std.proofs.Common.{◌≡◌, ℕ, ◌≤◌, nat_lt, not, Bool, true, false, List, [], ◌∷◌, ◌++◌, length, Option, Some, None, append_assoc, refl, sym}
+use Rattle.std.proofs.Common.{◌≡◌, ℕ, ◌≤◌, nat_lt, not, Bool, true, false, List, [], ◌∷◌, ◌++◌, length, Option, Some, None, append_assoc}
+use Rattle.std.proofs.Common.{refl, sym}
 use Rattle.std.proofs.Common.{ap, subst, ◌∙◌}
 use Rattle.task_moves.specs.AbstractTask as abstract
 use Rattle.task_moves.specs.AbstractTask.{Left}
@@ -8,7 +9,7 @@ use Rattle.solo.specs.declared.names.SoloWaker.{SoloWaker}
 use Rattle.solo.specs.declared.owed.Lent.{Lent}
 use Rattle.solo.specs.declared.runs.Runner.{Runner}
 use Rattle.solo.specs.declared.solo.Solo.{Solo}
-use Rattle.plain_scheduler.specs.State.{Answers, ARun, Choice, Closed, Code, Drops, Event, Gave, Loses, Plain, Run, Taker, Try, Who, Yes}
+use Rattle.plain_scheduler.specs.State.{Answers, ARun, Choice, Closed, Code, Drops, Event, Gave, Loses, Plain, Run, Taker, Try, Yes}
 use Rattle.plain_scheduler.specs.Lists.{on, or}
 use Rattle.plain_scheduler.specs.Moves.{answers, becomes, called, changed, let_go, put, task, tell}
 use Rattle.plain_scheduler.specs.Takes as takes
@@ -17,7 +18,8 @@ use Rattle.plain_scheduler.specs.Calls.{Call, Ends, Pends, does}
 use Rattle.solo_laws.specs.Numbered.{IsNumbered}
 use Rattle.solo_laws.specs.Owner.{HasRoom, Owner}
 use Rattle.solo_laws.specs.Road.{awaiters, drops, lents, wakes}
-use Rattle.solo_laws.specs.RunGoing.{Dropping, IsEnding, Losing, Polling, RunsOn, Stage, code_at, drop_ends, in_try, loss_ends, poll_ends, taken_by}
+use Rattle.solo_laws.specs.RunGoing.{Dropping, IsEnding, Losing, Polling, RunsOn, Stage, code_at, drop_ends, in_try, loss_ends, poll_ends}
+use Rattle.solo_laws.specs.RunGoing.{taken_by}
 use Rattle.solo_laws.specs.RunResting.{EachListed}
 use Rattle.solo_laws.specs.Tabled.{Stands, goes_on}
 use Rattle.solo_laws.proofs.Following.Counted.{other_events}
@@ -115,7 +117,8 @@ module _ {T X : Type 0} where
   same_lents (Losing awaiter) by other rest = (refl, refl, refl)
 
 module _ {F T X : Type 0} (its : ℕ → Lent) (owner : Owner) (c : Choice) (s : Solo F T X) (p : Plain T (SoloWaker X))
-    (both : Stands its s p) (n : IsNumbered owner.number s.sleepers p.lying) (many : length p.lying ≤ c.tells) (stage : Stage T (SoloWaker X))
+    (both : Stands its s p) (n : IsNumbered owner.number s.sleepers p.lying) (many : length p.lying ≤ c.tells)
+    (stage : Stage T (SoloWaker X))
     (r : ℕ) (w : SoloWaker X) (rest : List (Code T (SoloWaker X))) (call : Call T (SoloWaker X))
     (is : p.inside ≡ code_at stage (Run r w) ∷ rest) (ends : IsEnding stage call) where
   abbrev tried : Plain T (SoloWaker X)

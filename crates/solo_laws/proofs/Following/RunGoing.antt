@@ -39,7 +39,8 @@ module _ {F T X : Type 0} (its : ℕ → Lent) where
   Reached p shown now z q = (Stands its z q × (q.events ≡ p.events ++ shown)) × IsNumbered now z.sleepers q.lying
 
   module _ (owner : Owner) (c : Choice) (runner : Runner) (w : SoloWaker X) (s : Solo F T X) (p : Plain T (SoloWaker X))
-      (both : Stands its s p) (n : IsNumbered owner.number s.sleepers p.lying) (all : EachListed s.runs) (many : length p.lying ≤ c.tells) where
+      (both : Stands its s p) (n : IsNumbered owner.number s.sleepers p.lying) (all : EachListed s.runs)
+      (many : length p.lying ≤ c.tells) where
     abbrev r : ℕ
     r = runner.number
 
@@ -57,23 +58,27 @@ module _ {F T X : Type 0} (its : ℕ → Lent) where
         ((it.stands, it.seen), it.numbered)
     searches_alike going room shown now z (takes_common start task first found turn keeps life) =
         let it =
-        runs_take_common its owner.number s polled polled_both n c runner w p.inside start task refl going first found turn keeps many life in
+        runs_take_common its owner.number s polled polled_both n c runner w p.inside start task refl going first found turn keeps many
+        life in
         ((it.stands, it.seen), it.numbered)
     searches_alike going room shown now z (robs_another start task first found turn finds robs moves keeps life) =
         let it =
-        runs_take_kept its owner.number s polled polled_both n c runner w p.inside start task refl going first found turn finds robs moves keeps
+        runs_take_kept its owner.number s polled polled_both n c runner w p.inside start task refl going first found turn finds robs moves
+        keeps
         many life in
         ((it.stands, it.seen), it.numbered)
     searches_alike going room shown now z (rests first second missed turn granted names more life) =
         let it =
-        runs_rest its owner.number s polled polled_both n all c r w p.inside first second refl going missed turn granted room names more life in
+        runs_rest its owner.number s polled polled_both n all c r w p.inside first second refl going missed turn granted room names more
+        life in
         ((it.stands, it.seen), it.numbered)
     searches_alike going room shown now z (is_refused start missed turn refused) =
         let it = runs_refused its owner.number s polled polled_both n all c r w p.inside start refl going missed turn refused in
         ((it.stands, it.seen), it.numbered)
     searches_alike going room shown now z (lies_refused first second missed turn refused names again more life) =
         let it =
-        (runs_lie_refused its owner.number s polled polled_both n all c r w p.inside first second refl going missed turn refused room names again
+        (runs_lie_refused its owner.number s polled polled_both n all c r w p.inside first second refl going missed turn refused room names
+        again
         more life).refused in
         ((it.stands, it.seen), it.numbered)
 
@@ -112,11 +117,13 @@ module _ {F T X : Type 0} (its : ℕ → Lent) where
             (rings (solo.wake_answer (named its t.number) s).sleeper ++ Answers Done ∷ []) (solo.woken (named its t.number) s)
             (wakes_it t.number it.0 life) n many (wakes_alike its s u u_both c t.number it.0 many life)))
 
-    pub runs_on_alike : goes_on r p ≡ true → HasRoom (ARun r) s p → nat_lt (taken_by r p) 200 ≡ not (owner.gives_way r) → (shown : List (Event T (SoloWaker X))) (now : Owner) (z : Solo F T X)
+    pub runs_on_alike : goes_on r p ≡ true → HasRoom (ARun r) s p → nat_lt (taken_by r p) 200 ≡ not (owner.gives_way r)
+        → (shown : List (Event T (SoloWaker X))) (now : Owner) (z : Solo F T X)
         → RunsOn its owner c runner w s p shown now z → Reached p shown now.number z (takes.next wakes c (Run r w) p)
     runs_on_alike going room way shown now z (looks_on shown' now' z' less how) =
         subst
-        (λ b. Reached p shown' now'.number z' (if b then takes.take wakes c (Run r w) p else takes.gives_way wakes c r w p)) (sym (way ∙ ap not less))
+        (λ b. Reached p shown' now'.number z' (if b then takes.take wakes c (Run r w) p else takes.gives_way wakes c r w p))
+        (sym (way ∙ ap not less))
         (searches_alike going room shown' now' z' how)
     runs_on_alike going room way shown now z (gives_way enough names life) = (
       runs_give_way its s p both c r w (way ∙ ap not enough) names many life,

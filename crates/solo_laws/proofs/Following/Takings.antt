@@ -1,5 +1,5 @@
 -- Which runs have a future in hand that they took.
-use Rattle.std.proofs.Common.{◌≡◌, ℕ, ◌==◌, cond, Bool, true, false, List, [], ◌∷◌, ◌++◌, Option, Some, None, refl, sym, ap, ◌∙◌}
+use Rattle.std.proofs.Common.{◌≡◌, ℕ, ◌==◌, cond, Bool, true, false, List, [], ◌∷◌, ◌++◌, Option, Some, None, refl}
 use Rattle.plain_scheduler.specs.State.{Close, Code, Drop, DropOwn, Lose, Poll, PollOwn, Run, Taker, Tick, Try}
 use Rattle.solo_laws.specs.Alike.{takes_one}
 use Rattle.solo_laws.specs.Busy.{busy_in, run_if, run_of}

@@ -1,5 +1,5 @@
 -- What the owner of an executor knows of each run's count is what the plain scheduler's run has taken.
-use Rattle.std.proofs.Common.{◌≡◌, ℕ, suc, ◌+◌, ◌<◌, ◌==◌, nat_lt, not, if◌then◌else◌, Bool, true, false, List, [], ◌∷◌, ◌++◌, length}
+use Rattle.std.proofs.Common.{◌≡◌, ℕ, ◌<◌, ◌==◌, nat_lt, not, if◌then◌else◌, Bool, true, false, List, [], ◌∷◌, ◌++◌, length}
 use Rattle.std.proofs.Common.{find, Option, Some, None, slice_get, refl, sym, ap, subst, ◌∙◌, arith}
 use Rattle.std.proofs.lemmas.Bool.Decides.{nat_tests}
 use Rattle.task_moves.specs.AbstractTask as abstract
@@ -25,7 +25,6 @@ use Rattle.solo_laws.proofs.Following.Counting.{nothing_still, others_count, run
 use Rattle.solo_laws.proofs.Following.Due.{neither}
 use Rattle.solo_laws.proofs.Following.RunEnding.{is_answer, same_last, unlike}
 use Rattle.solo_laws.proofs.Following.Takings.{takings}
-use Rattle.solo_laws.proofs.Following.Using.{put_inside}
 
 -- since it last let others go first
 abbrev pub since : ℕ → ℕ
@@ -181,8 +180,8 @@ module _ {T X : Type 0} (c : Choice) (runner : Runner) (w : SoloWaker X) (owner 
       → is_answer e ≡ true → q.events ≡ es ++ e ∷ [] → Tallied owner.runner owner.gives_way q
   rests_tallied less es e answers seen =
       let none = missed es e answers seen in
-      subst (λ o. Tallied owner.runner owner.gives_way (or o (λ d. takes.takes wakes c (Run r w) d left) (takes.nothing wakes c (Run r w) p)))
-      (sym none)
+      subst (λ o. Tallied owner.runner owner.gives_way (or o (λ d. takes.takes wakes c (Run r w) d left)
+      (takes.nothing wakes c (Run r w) p))) (sym none)
       (rest_tallied owner.runner owner.gives_way r p (takes.nothing wakes c (Run r w) p)
       (λ k. ap (λ rs. or (slice_get rs k) (λ run. run.taken) 0) (nothing_still c (Run r w) p))
       (ap (λ cs. takings cs) (nothing_calm c (Run r w) p)) t less)

@@ -16,7 +16,7 @@ use Rattle.solo.specs.Solo as solo
 use Rattle.solo.specs.Steals as steals
 use Rattle.solo.specs.Ticks as ticks
 use Rattle.plain_scheduler.specs.State.{Answer, DropOwn}
-use Rattle.plain_scheduler.specs.State.{Answers, ARun, ATick, Choice, Code, Drops, Event, Loses, Plain, Run, Running, Who, Yes}
+use Rattle.plain_scheduler.specs.State.{Answers, ARun, ATick, Choice, Code, Drops, Event, Loses, Plain, Run, Running, Yes}
 use Rattle.plain_scheduler.specs.Lists.{or}
 use Rattle.plain_scheduler.specs.Moves.{is_kept}
 use Rattle.plain_scheduler.specs.Calls.{Call, does}

@@ -1,14 +1,13 @@
 -- After each call what an owner knows of each run's count is what the plain scheduler's run has taken.
-use Rattle.std.proofs.Common.{◌≡◌, ℕ, ◌≤◌, ◌==◌, nat_lt, not, cond, if◌then◌else◌, Bool, true, false, List, [], ◌∷◌, ◌++◌, length, find, Option}
+use Rattle.std.proofs.Common.{◌≡◌, ℕ, ◌≤◌, ◌==◌, nat_lt, not, if◌then◌else◌, Bool, true, false, List, [], ◌∷◌, ◌++◌, length, find, Option}
 use Rattle.std.proofs.Common.{Some, None, slice_get, append_assoc, refl, sym, ap, subst, ◌∙◌}
 use Rattle.task_moves.specs.AbstractTask as abstract
 use Rattle.solo.specs.declared.names.SoloWaker.{SoloWaker}
-use Rattle.solo.specs.declared.names.Kind.{Kind}
 use Rattle.solo.specs.declared.owed.Lent.{Lent}
 use Rattle.solo.specs.declared.runs.Runner.{Runner}
 use Rattle.solo.specs.declared.solo.Solo.{Solo}
-use Rattle.plain_scheduler.specs.State.{Answer, Answers, ARun, ATick, Choice, Closed, Code, Done, DropOwn, Drops, Due, Event, Finished}
-use Rattle.plain_scheduler.specs.State.{Loses, Made, NoMemory, Pending, Plain, Poll, PollOwn, Polls, Ready, Run, Running, Taker, Tick, Try, Yes}
+use Rattle.plain_scheduler.specs.State.{Answer, Answers, ARun, ATick, Choice, Closed, Code, Done, DropOwn, Due, Event, Finished}
+use Rattle.plain_scheduler.specs.State.{Made, NoMemory, Pending, Plain, Poll, PollOwn, Polls, Ready, Run, Running, Taker, Tick, Try, Yes}
 use Rattle.plain_scheduler.specs.Lists.{or, without}
 use Rattle.plain_scheduler.specs.Moves.{answers, chosen, enters, looks, put, see, task, tell, up}
 use Rattle.plain_scheduler.specs.Moves as moves
@@ -16,23 +15,18 @@ use Rattle.plain_scheduler.specs.Takes as takes
 use Rattle.plain_scheduler.specs.Calls as plain
 use Rattle.plain_scheduler.specs.Calls.{Call, does}
 use Rattle.solo_laws.specs.Busy.{busy_in, run_of}
-use Rattle.solo_laws.specs.Courses.{Acts, makes, makes_no_run, makes_no_tick, makes_run, makes_tick, over_dropped, over_polled, own_ready}
-use Rattle.solo_laws.specs.Courses.{run_dropped, run_drops, run_goes_on, run_leaves, run_looks, run_loses, run_polled, tick_leaves}
-use Rattle.solo_laws.specs.Courses.{tick_lies_refused, tick_refused, tick_rests, tick_takes}
 use Rattle.solo_laws.specs.Numbered.{IsNumbered}
-use Rattle.solo_laws.specs.Owner.{HasRoom, HasRunner, Owner, new_owner}
+use Rattle.solo_laws.specs.Owner.{HasRoom, HasRunner, Owner}
 use Rattle.solo_laws.specs.Road.{apart, is_in, wakes as wakes_of}
 use Rattle.solo_laws.specs.RunGoing.{Dropping, IsEnding, Losing, Polling, RunsOn, Searches, Stage, code_at, gives_way, in_try}
 use Rattle.solo_laws.specs.RunGoing.{is_refused, lies_refused, looks_on, rests, robs_another, taken_by, takes_common, takes_own}
 use Rattle.solo_laws.specs.RunResting.{EachListed}
 use Rattle.solo_laws.specs.Tabled.{Stands, goes_on}
-use Rattle.solo_laws.specs.Ticking.{found_in}
 use Rattle.solo_laws.proofs.Following.CodesKept.{gone_calm, leaves_calm, nothing_calm, tell_calm, up_calm}
 use Rattle.solo_laws.proofs.Following.Counting.{gone_counts, leaves_still, made_counts, nothing_still, takes_still}
 use Rattle.solo_laws.proofs.Following.Due.{both_true, not_true}
-use Rattle.solo_laws.proofs.Following.Keeping.{keeps}
 use Rattle.solo_laws.proofs.Following.Polled.{Apart}
-use Rattle.solo_laws.proofs.Following.RunEnding.{EndsAs, ends_as, goes_next, is_answer, is_over, same_last, stays_in, unlike}
+use Rattle.solo_laws.proofs.Following.RunEnding.{EndsAs, ends_as, is_answer, is_over, same_last, stays_in, unlike}
 use Rattle.solo_laws.proofs.Following.RunGoing.{polled_both, searches_alike}
 use Rattle.solo_laws.proofs.Following.RunSearching.{runs_take_common}
 use Rattle.solo_laws.proofs.Following.RunTaking.{runs_take_own}
@@ -101,7 +95,8 @@ module _ {F T X : Type 0} (its : ℕ → Lent) (owner : Owner) (c : Choice) (run
   runs_on_tallied shown now z (looks_on shown' now' z' goes how) =
       let less = t.gives_way r ∙ ap not goes in
       subst
-      (λ b. Tallied now'.runner now'.gives_way (if b then takes.take wakes_of c (Run r w) p else takes.gives_way wakes_of c r w p)) (sym less)
+      (λ b. Tallied now'.runner now'.gives_way (if b then takes.take wakes_of c (Run r w) p else takes.gives_way wakes_of c r w p))
+      (sym less)
       (searches_tallied less shown' now' z' how)
   runs_on_tallied shown now z (gives_way enough names life) =
       let full = t.gives_way r ∙ ap not enough in
@@ -132,7 +127,8 @@ module _ {T X : Type 0} where
     of_same p q same takings_are t =
         still_tallied runner way p q (λ k. ap (λ rs. or (slice_get rs k) (λ run. run.taken) 0) same) takings_are t
 
-    run_takings : (f t : ℕ) (w : SoloWaker X) (q : Plain T (SoloWaker X)) → takings (takes.run wakes_of c f (Tick t w) q).inside ≡ takings q.inside
+    run_takings : (f t : ℕ) (w : SoloWaker X) (q : Plain T (SoloWaker X))
+        → takings (takes.run wakes_of c f (Tick t w) q).inside ≡ takings q.inside
     run_takings f t w q = by (task f q).closed
       where
         by : (b : Bool)
@@ -177,7 +173,8 @@ module _ {T X : Type 0} where
     -- the poll of a run begins, and its drop
     pub poll_so : (r : ℕ) (w : SoloWaker X) (p : Plain T (SoloWaker X)) → So p → So (does wakes_of c (Call.PollRun r w) p)
     poll_so r w p is =
-        either_so (or (slice_get p.runs r) (λ run. run.is_over) true) (answers Finished p) (enters (PollOwn r w) p) (answers_so Finished p is)
+        either_so (or (slice_get p.runs r) (λ run. run.is_over) true) (answers Finished p) (enters (PollOwn r w) p)
+        (answers_so Finished p is)
         (of_same p (enters (PollOwn r w) p) refl refl is)
 
     pub drop_so : (r : ℕ) (p : Plain T (SoloWaker X)) → So p → So (does wakes_of c (Call.DropRun r) p)
@@ -198,7 +195,8 @@ module _ {T X : Type 0} where
         let q = plain.gone wakes_of c r out in
         subst (λ cs. So (plain.innermost wakes_of c cs (plain.ends wakes_of c) p)) (sym is)
         (answers_so answer q
-        (still_tallied runner way p q (λ k. gone_counts c r k out) (ap (λ cs. takings cs) (gone_calm c r out) ∙ sym (ap (λ cs. takings cs) is))
+        (still_tallied runner way p q (λ k. gone_counts c r k out)
+        (ap (λ cs. takings cs) (gone_calm c r out) ∙ sym (ap (λ cs. takings cs) is))
         t))
 
   -- between the codes of a run

@@ -1,4 +1,4 @@
-use Rattle.std.proofs.Common.{nat_lt, not, Bool, true, false, refl, ap, ◌≡◌, ◌∙◌, sym}
+use Rattle.std.proofs.Common.{not, Bool, true, false, refl, ap, ◌≡◌, ◌∙◌, sym}
 use Rattle.solo_laws.proofs.Following.Counting.{runs_count, runs_count_anew}
 use Rattle.solo_laws.proofs.Showing.Courses.{led_known}
 use Rattle.solo_laws.proofs.running.runs_count_alike.Goals as goal

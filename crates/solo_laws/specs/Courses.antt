@@ -29,7 +29,7 @@ use Rattle.solo_laws.specs.Alike.{calls, cancelled, handle_polled, takes_one}
 use Rattle.solo_laws.specs.Dropping.{after_drop, ends_one}
 use Rattle.solo_laws.specs.Leaking.{leaked}
 use Rattle.solo_laws.specs.Busy.{busy_in}
-use Rattle.solo_laws.specs.Road.{HasLife, IsNamed, count_of, is_in, wakes as wakes_of}
+use Rattle.solo_laws.specs.Road.{HasLife, IsNamed, is_in, wakes as wakes_of}
 use Rattle.solo_laws.specs.Shown.{rings, found_as, cancel_shows, detach_shows, poll_shows, end_shows, drop_shows, call_shows, leak_shows}
 use Rattle.solo_laws.specs.Numbered.{ticker_of}
 use Rattle.solo_laws.specs.Owner.{HasRunner, Owner, has_tick, renumbered, with_tick, without_tick}
@@ -74,7 +74,6 @@ pub data Makes {F T X : Type 0} (its : ℕ → Lent) (c : Choice) (s : Solo F T 
       → Makes its c s p (DropHandle f) (cancel_shows (named its f) s (detach_shows (named its f) (cancelled (named its f) s)))
       (solo.detached (named its f) (cancelled (named its f) s))
   leaks : p.is_static ≡ false → HasLife (6 * length s.table.entries) s.lines
-      → count_of s.leaving.accepted + length s.table.entries ≤ most_accepted
       → Makes its c s p Leak (leak_shows (length s.table.entries) (closing.leaked s) ++ Answers Done ∷ [])
       (leaked (length s.table.entries) s)
   -- the ends of users' codes

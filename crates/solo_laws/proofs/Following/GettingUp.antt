@@ -94,6 +94,8 @@ sleeps_tabled its s p sleepers notified lying t = record {
   leaving = t.leaving;
   leaving_open = t.leaving_open;
   leaving_limit = t.leaving_limit;
+  few = t.few;
+  unleaked = t.unleaked;
 }
 
 module _ {F T X : Type 0} (aside : Option Due) (name : ℕ → Task) (number : Who → ℕ) (s : Solo F T X) (p : Plain T (SoloWaker X))

@@ -217,7 +217,7 @@ module _ {F T X : Type 0} (its : ℕ → Lent) (c : Choice) (s : Solo F T X) (p 
     detached_slept (named its f) (alike.cancelled (named its f) s) (cancelled_slept (named its f)),
     after c (of_still c (cancel_still c f p)) (detach_lies c f (plain.cancel wakes c f p)),
   )
-  keeps call shown z (leaks owned life leaving) =
+  keeps call shown z (leaks owned life) =
       let static : Plain T (SoloWaker X) = record p { is_static = true } in
       let q = each (living_from 0 p.futures) (plain.freed wakes c) static in (
         leaks_sleeps s (length s.table.entries) (closing.leaked s) as_slept,

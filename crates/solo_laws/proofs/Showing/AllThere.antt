@@ -88,7 +88,7 @@ module _ {F T X : Type 0} (its : ℕ → Lent) where
   makes_kept c s z p call shown (cancels f at life) = any_call c (plain.Call.Cancel f) p refl
   makes_kept c s z p call shown (detaches f at life) = any_call c (plain.Call.Detach f) p refl
   makes_kept c s z p call shown (drops_handle f at life) = any_call c (plain.Call.DropHandle f) p refl
-  makes_kept c s z p call shown (leaks owned life leaving) = any_call c plain.Call.Leak p refl
+  makes_kept c s z p call shown (leaks owned life) = any_call c plain.Call.Leak p refl
   makes_kept c s z p call shown (pends f by rest future one is life) = ends_kept c p (Polling f) by rest Pends is (poll_ends f)
   makes_kept c s z p call shown (gives f by rest v is) =
       λ has. giving c p (Poll f by) rest is v

@@ -108,8 +108,8 @@ module _ {F T X : Type 0} (its : ℕ → Lent) where
       (both.detaches_alike its s p so c f at many life, calling.detaches_shown its s p so.0 c f at many life)
   makes_alike c s z p call shown so many (drops_handle f at life) =
       (both.handle_drops_alike its s p so c f at many life, calling.handle_drops_shown its s p so.0 c f at many life)
-  makes_alike c s z p call shown so many (leaks owned life leaving) =
-      (leaks_alike its c s p so owned many life leaving, leaks_shown its c s p so owned many life leaving)
+  makes_alike c s z p call shown so many (leaks owned life) =
+      (leaks_alike its c s p so owned many life, leaks_shown its c s p so owned many life)
   makes_alike c s z p call shown so many (pends f by rest future one stands_in life) = (
     pends_both its c s p so f by rest stands_in future one many life,
     (pends_shown its s p so c f by one rest future stands_in many life).seen,

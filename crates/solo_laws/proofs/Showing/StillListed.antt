@@ -149,7 +149,7 @@ module _ {F T X : Type 0} (its : ℕ → Lent) where
   makes_no_poll c s z p call shown (cancels f at life) = refl
   makes_no_poll c s z p call shown (detaches f at life) = refl
   makes_no_poll c s z p call shown (drops_handle f at life) = refl
-  makes_no_poll c s z p call shown (leaks owned life leaving) = refl
+  makes_no_poll c s z p call shown (leaks owned life) = refl
   makes_no_poll c s z p call shown (pends f by rest future one is life) = refl
   makes_no_poll c s z p call shown (gives f by rest v is) = refl
   makes_no_poll c s z p call shown (ends_given f v by rest one is life) = refl

@@ -90,7 +90,7 @@ pub record IsTableBut {F T X : Type 0} (waits : List Task) (its : ℕ → Lent) 
   pub leaving : s.leaving.items ≡ waits
   pub leaving_open : s.leaving.closed ≡ false
   pub leaving_limit : s.leaving.capacity ≡ Some p.limit
-  -- as many as came, of which a queue may accept each; and a leak makes an executor static
+  -- no more futures came than a queue accepts in its life; and none was put there before a leak, which makes an executor static
   pub few : length p.futures ≤ most_accepted
   pub unleaked : p.is_static ≡ false → count_of s.leaving.accepted ≡ 0
 

@@ -87,6 +87,11 @@ pub mod RunResting
 pub mod RunRefusing
 pub mod Listed
 pub mod OwnKept
+pub mod Takings
+pub mod Tallied
+pub mod Crowding
+pub mod WhoLies
+pub mod Housed
 pub mod Counting
 pub mod CodesKept
 pub mod Polled

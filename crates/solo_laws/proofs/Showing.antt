@@ -7,6 +7,8 @@ pub mod Taking
 pub mod Ending
 pub mod Losing
 pub mod StillListed
+pub mod StillHoused
+pub mod StillTallied
 pub mod Courses
 pub mod AllThere
 pub mod AfterClose

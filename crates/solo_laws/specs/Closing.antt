@@ -118,7 +118,7 @@ module _ {F T X : Type 0} (its : ℕ → Lent) (s : Solo F T X) (p : Plain T (So
   abbrev pub ClosesAlike : Type 0
   ClosesAlike =
       (c : Choice) → p.is_static ≡ false → AllThere s.table.entries → length p.lying ≤ c.tells
-      → HasLife (6 * length s.table.entries + 2) s.lines → count_of s.leaving.accepted + length s.table.entries ≤ most_accepted
+      → HasLife (6 * length s.table.entries + 2) s.lines
       → GoesOn its (closing.closed s) p (does wakes c DropExecutor p) (living_from 0 p.futures) [] (living_from 0 p.futures)
 
   -- and the end of the drop of each of its futures

@@ -1,6 +1,6 @@
 -- Lists of whole calls, of those that both are known to make alike: what the owner of an executor does for each call of the plain
 -- scheduler, and what is shown by it.
-use Rattle.std.specs.Prelude.{◌≡◌, ℕ, suc, ◌+◌, ◌*◌, ◌<◌, ◌≤◌, nat_lt, true, false, if◌then◌else◌, List, [], ◌∷◌, ◌++◌, length, find}
+use Rattle.std.specs.Prelude.{◌≡◌, ℕ, suc, ◌+◌, ◌*◌, ◌<◌, ◌≤◌, true, false, if◌then◌else◌, List, [], ◌∷◌, ◌++◌, length}
 use Rattle.std.specs.Prelude.{Option, Some, None, Ok, Err}
 use Rattle.queue_steps.specs.ClosableQueue.{most_accepted}
 use Rattle.executor_parts.specs.declared.mark.Mark.{Mark}
@@ -19,9 +19,9 @@ use Rattle.solo.specs.OwnQueues.{count_of as count_of_own}
 use Rattle.solo.specs.Ticks as ticks
 use Rattle.solo.specs.Runs as runs
 use Rattle.plain_scheduler.specs.State.{Answer, ARun, DropOwn, Finished, PollOwn}
-use Rattle.plain_scheduler.specs.State.{Event, Who, ATick, Answers, Pending, Choice, Code, Poll, Drop, Lose, Closed, Gave, Taker, Plain}
+use Rattle.plain_scheduler.specs.State.{Event, ATick, Answers, Pending, Choice, Code, Poll, Drop, Lose, Closed, Gave, Taker, Plain}
 use Rattle.plain_scheduler.specs.State.{Made, NoMemory, Yes, No, Done, Drops, Granted, AtOnce, Later, Loses, Run}
-use Rattle.plain_scheduler.specs.Moves.{lies, task}
+use Rattle.plain_scheduler.specs.Moves.{task}
 use Rattle.plain_scheduler.specs.Calls.{Call, Spawn, TryTick, IsEmpty, Wake, Use, Copy, Release, PollHandle, Cancel, Detach, DropHandle}
 use Rattle.plain_scheduler.specs.Calls.{DropRun, Leak, Pends, EndsWith, Ends, NewTick, PollRun, PollTick, DropTick, NewRun, is_granted}
 use Rattle.plain_scheduler.specs.Calls.{does}
@@ -29,9 +29,10 @@ use Rattle.solo_laws.specs.Alike.{calls, cancelled, handle_polled, takes_one}
 use Rattle.solo_laws.specs.Dropping.{after_drop, ends_one}
 use Rattle.solo_laws.specs.Leaking.{leaked}
 use Rattle.solo_laws.specs.Busy.{busy_in}
-use Rattle.solo_laws.specs.Road.{HasLife, IsNamed, count_of, is_in, wakes as wakes_of}
+use Rattle.solo_laws.specs.Road.{HasLife, IsNamed, is_in, wakes as wakes_of}
 use Rattle.solo_laws.specs.Shown.{rings, found_as, cancel_shows, detach_shows, poll_shows, end_shows, drop_shows, call_shows, leak_shows}
 use Rattle.solo_laws.specs.Numbered.{ticker_of}
+use Rattle.solo_laws.specs.Owner.{HasRunner, Owner, has_tick, renumbered, with_tick, without_tick}
 use Rattle.solo_laws.specs.Ticking.{CanCopy, number_after, rest_answer, rested, tick_shows, looks_again, slept_answer, slept_once}
 use Rattle.solo_laws.specs.Spawning.{said, is_memory}
 use Rattle.solo_laws.specs.Running.{run_left, run_shows}
@@ -73,7 +74,6 @@ pub data Makes {F T X : Type 0} (its : ℕ → Lent) (c : Choice) (s : Solo F T 
       → Makes its c s p (DropHandle f) (cancel_shows (named its f) s (detach_shows (named its f) (cancelled (named its f) s)))
       (solo.detached (named its f) (cancelled (named its f) s))
   leaks : p.is_static ≡ false → HasLife (6 * length s.table.entries) s.lines
-      → count_of s.leaving.accepted + length s.table.entries ≤ most_accepted
       → Makes its c s p Leak (leak_shows (length s.table.entries) (closing.leaked s) ++ Answers Done ∷ [])
       (leaked (length s.table.entries) s)
   -- the ends of users' codes
@@ -94,84 +94,87 @@ pub data Makes {F T X : Type 0} (its : ℕ → Lent) (c : Choice) (s : Solo F T 
       → p.inside ≡ Lose awaiter by ∷ rest → HasLife 2 s.lines
       → Makes its c s p Ends (call_shows awaiter by s) (calls awaiter s)
 
--- and so with ticks, and with runs: each that lies has a number
-pub data Acts {F T X : Type 0} (its : ℕ → Lent) (number : Who → ℕ) (c : Choice) (s : Solo F T X) (p : Plain T (SoloWaker X))
-    : Call T (SoloWaker X) → List (Event T (SoloWaker X)) → (Who → ℕ) → Solo F T X → Type 0 where
+-- and so with ticks, and with runs: a tick that is polled or goes was made and hasn't gone, and each that lies has a number
+pub data Acts {F T X : Type 0} (its : ℕ → Lent) (owner : Owner) (c : Choice) (s : Solo F T X) (p : Plain T (SoloWaker X))
+    : Call T (SoloWaker X) → List (Event T (SoloWaker X)) → Owner → Solo F T X → Type 0 where
   makes : (call : Call T (SoloWaker X)) (shown : List (Event T (SoloWaker X))) (z : Solo F T X) → Makes its c s p call shown z
-      → Acts its number c s p call shown number z
-  makes_tick : c.refusal ≡ Granted → Acts its number c s p NewTick (Answers Made ∷ []) number (ticks.roomy s)
-  tick_takes : (t : ℕ) (w : SoloWaker X) (task : Task) → solo.sought s ≡ Some task → c.first ≡ mark_of_turn s.lines.turn
-      → HasLife 5 s.lines
-      → Acts its number c s p (PollTick t w) (tick_shows
-      (ticks.found_answer (ticker_of number (ATick t) p.lying) None task (solo.popped s)))
-      number (ticks.found (ticker_of number (ATick t) p.lying) task (solo.popped s))
-  -- one that doesn't lie has its room, and no copy of its waker is refused
-  tick_rests : (t : ℕ) (w : SoloWaker X) → solo.sought s ≡ None → c.first ≡ mark_of_turn s.lines.turn → c.refusal ≡ Granted
-      → (find (lies (ATick t)) p.lying ≡ None → nat_lt s.sleepers.count s.sleepers.rooms ≡ true)
+      → Acts its owner c s p call shown owner z
+  -- under a name of its own
+  makes_tick : (t : ℕ) → has_tick t owner ≡ false → c.refusal ≡ Granted
+      → Acts its owner c s p NewTick (Answers Made ∷ []) (with_tick t owner) (ticks.roomy s)
+  tick_takes : (t : ℕ) (w : SoloWaker X) (task : Task) → has_tick t owner ≡ true → solo.sought s ≡ Some task
+      → c.first ≡ mark_of_turn s.lines.turn → HasLife 5 s.lines
+      → Acts its owner c s p (PollTick t w) (tick_shows
+      (ticks.found_answer (ticker_of owner.number (ATick t) p.lying) None task (solo.popped s)))
+      owner (ticks.found (ticker_of owner.number (ATick t) p.lying) task (solo.popped s))
+  -- no copy of its waker is refused
+  tick_rests : (t : ℕ) (w : SoloWaker X) → has_tick t owner ≡ true → solo.sought s ≡ None → c.first ≡ mark_of_turn s.lines.turn
+      → c.refusal ≡ Granted
       → ((u : Task) → w ≡ OfTask u
-      → IsNamed (named its) (length p.futures) u × CanCopy (ticker_of number (ATick t) p.lying) w u s)
+      → IsNamed (named its) (length p.futures) u × CanCopy (ticker_of owner.number (ATick t) p.lying) w u s)
       → suc (length p.lying) ≤ c.tells → HasLife 2 s.lines
-      → Acts its number c s p (PollTick t w)
-      (rings (rest_answer (ticker_of number (ATick t) p.lying) w s).sleeper ++ Answers Pending ∷ []) (number_after (ATick t) number s p)
-      (rested (ticker_of number (ATick t) p.lying) w s)
+      → Acts its owner c s p (PollTick t w)
+      (rings (rest_answer (ticker_of owner.number (ATick t) p.lying) w s).sleeper ++ Answers Pending ∷ [])
+      (renumbered (number_after (ATick t) owner.number s p) owner) (rested (ticker_of owner.number (ATick t) p.lying) w s)
   makes_run : c.refusal ≡ Granted → length p.runs < most_accepted
-      → Acts its number c s p NewRun (Answers Made ∷ []) number (runs.made s)
-  makes_no_run : is_granted c.refusal ≡ false → Acts its number c s p NewRun (Answers NoMemory ∷ []) number s
+      → Acts its owner c s p NewRun (Answers Made ∷ []) owner (runs.made s)
+  makes_no_run : is_granted c.refusal ≡ false → Acts its owner c s p NewRun (Answers NoMemory ∷ []) owner s
   -- as long as a run's own future is polled; no call is on a run that is polled or dropped
   run_polled : (runner : Runner) (w : SoloWaker X) → goes_on runner.number p ≡ true → is_in runner.number (busy_in p.inside) ≡ false
-      → Acts its number c s p (PollRun runner.number w) [] number (runs.begun runner s)
+      → Acts its owner c s p (PollRun runner.number w) [] owner (runs.begun runner s)
   over_polled : (r : ℕ) (w : SoloWaker X) → goes_on r p ≡ false
-      → Acts its number c s p (PollRun r w) (Answers Finished ∷ []) number s
+      → Acts its owner c s p (PollRun r w) (Answers Finished ∷ []) owner s
   own_ready : (r : ℕ) (w : SoloWaker X) (v : T) (rest : List (Code T (SoloWaker X))) → p.inside ≡ PollOwn r w ∷ rest
-      → Acts its number c s p (EndsWith v) [] number s
+      → Acts its owner c s p (EndsWith v) [] owner s
   -- its own future is pending, and it looks for one to take, or lies down
   run_looks : (runner : Runner) (w : SoloWaker X) (rest : List (Code T (SoloWaker X))) (shown : List (Event T (SoloWaker X)))
-      (now : Who → ℕ) (z : Solo F T X) → p.inside ≡ PollOwn runner.number w ∷ rest
-      → Searches its number c runner w s (record p { inside = rest }) shown now z → Acts its number c s p Pends shown now z
+      (now : Owner) (z : Solo F T X) → HasRunner runner owner → p.inside ≡ PollOwn runner.number w ∷ rest
+      → Searches its owner c runner w s (record p { inside = rest }) shown now z → Acts its owner c s p Pends shown now z
   -- the poll or drop of one that it took ends as in a try, and then the run goes on; or one is dropped first, or its output
   run_goes_on : (stage : Stage T (SoloWaker X)) (runner : Runner) (w : SoloWaker X) (rest : List (Code T (SoloWaker X)))
-      (call : Call T (SoloWaker X)) (shown others : List (Event T (SoloWaker X))) (now : Who → ℕ) (y z : Solo F T X)
-      → p.inside ≡ code_at stage (Run runner.number w) ∷ rest → IsEnding stage call
+      (call : Call T (SoloWaker X)) (shown others : List (Event T (SoloWaker X))) (now : Owner) (y z : Solo F T X)
+      → HasRunner runner owner → p.inside ≡ code_at stage (Run runner.number w) ∷ rest → IsEnding stage call
       → Makes its c s (in_try stage rest p) call (shown ++ Answers Yes ∷ []) y
-      → RunsOn its number c runner w y (record (does wakes_of c call (in_try stage rest p)) { events = p.events ++ shown }) others now z
-      → Acts its number c s p call (shown ++ others) now z
+      → RunsOn its owner c runner w y (record (does wakes_of c call (in_try stage rest p)) { events = p.events ++ shown }) others now z
+      → Acts its owner c s p call (shown ++ others) now z
   run_drops : (stage : Stage T (SoloWaker X)) (r : ℕ) (w : SoloWaker X) (rest : List (Code T (SoloWaker X))) (call : Call T (SoloWaker X))
       (shown : List (Event T (SoloWaker X))) (f : ℕ) (z : Solo F T X) → p.inside ≡ code_at stage (Run r w) ∷ rest
       → IsEnding stage call → Makes its c s (in_try stage rest p) call (shown ++ Drops f ∷ []) z
-      → Acts its number c s p call (shown ++ Drops f ∷ []) number z
+      → Acts its owner c s p call (shown ++ Drops f ∷ []) owner z
   run_loses : (stage : Stage T (SoloWaker X)) (r : ℕ) (w : SoloWaker X) (rest : List (Code T (SoloWaker X))) (call : Call T (SoloWaker X))
       (shown : List (Event T (SoloWaker X))) (v : T) (z : Solo F T X) → p.inside ≡ code_at stage (Run r w) ∷ rest
       → IsEnding stage call → Makes its c s (in_try stage rest p) call (shown ++ Loses v ∷ []) z
-      → Acts its number c s p call (shown ++ Loses v ∷ []) number z
-  run_dropped : (r : ℕ) → goes_on r p ≡ true → is_in r (busy_in p.inside) ≡ false → Acts its number c s p (DropRun r) [] number s
-  over_dropped : (r : ℕ) → goes_on r p ≡ false → Acts its number c s p (DropRun r) (Answers Done ∷ []) number s
+      → Acts its owner c s p call (shown ++ Loses v ∷ []) owner z
+  run_dropped : (r : ℕ) → goes_on r p ≡ true → is_in r (busy_in p.inside) ≡ false → Acts its owner c s p (DropRun r) [] owner s
+  over_dropped : (r : ℕ) → goes_on r p ≡ false → Acts its owner c s p (DropRun r) (Answers Done ∷ []) owner s
   run_leaves : (runner : Runner) (answer : Answer T) (rest : List (Code T (SoloWaker X)))
       → p.inside ≡ DropOwn runner.number answer ∷ rest
       → HasLife (3 * count_of_own runner.number s.runs + 5) s.lines
-      → Acts its number c s p Ends (run_shows (ticker_of number (ARun runner.number) p.lying) runner s ++ Answers answer ∷ []) number
-      (run_left (ticker_of number (ARun runner.number) p.lying) runner s)
+      → Acts its owner c s p Ends (run_shows (ticker_of owner.number (ARun runner.number) p.lying) runner s ++ Answers answer ∷ []) owner
+      (run_left (ticker_of owner.number (ARun runner.number) p.lying) runner s)
   -- of one that is refused
-  makes_no_tick : is_granted c.refusal ≡ false → Acts its number c s p NewTick (Answers NoMemory ∷ []) number s
-  tick_refused : (t : ℕ) (w : SoloWaker X) → solo.sought s ≡ None → c.first ≡ mark_of_turn s.lines.turn → c.refusal ≡ AtOnce
-      → Acts its number c s p (PollTick t w) (Answers NoMemory ∷ []) number (solo.popped s)
-  tick_lies_refused : (t : ℕ) (w : SoloWaker X) → solo.sought s ≡ None → c.first ≡ mark_of_turn s.lines.turn → c.refusal ≡ Later
-      → (find (lies (ATick t)) p.lying ≡ None → nat_lt s.sleepers.count s.sleepers.rooms ≡ true)
+  makes_no_tick : is_granted c.refusal ≡ false → Acts its owner c s p NewTick (Answers NoMemory ∷ []) owner s
+  tick_refused : (t : ℕ) (w : SoloWaker X) → has_tick t owner ≡ true → solo.sought s ≡ None → c.first ≡ mark_of_turn s.lines.turn
+      → c.refusal ≡ AtOnce
+      → Acts its owner c s p (PollTick t w) (Answers NoMemory ∷ []) owner (solo.popped s)
+  tick_lies_refused : (t : ℕ) (w : SoloWaker X) → has_tick t owner ≡ true → solo.sought s ≡ None → c.first ≡ mark_of_turn s.lines.turn
+      → c.refusal ≡ Later
       → ((u : Task) → w ≡ OfTask u → IsNamed (named its) (length p.futures) u × (solo.may_hold u s ≡ true))
-      → looks_again (slept_answer (ticker_of number (ATick t) p.lying) w s).look ≡ true → suc (length p.lying) ≤ c.tells
+      → looks_again (slept_answer (ticker_of owner.number (ATick t) p.lying) w s).look ≡ true → suc (length p.lying) ≤ c.tells
       → HasLife 2 s.lines
-      → Acts its number c s p (PollTick t w) (Answers NoMemory ∷ []) (number_after (ATick t) number s p)
-      (solo.popped (slept_once (ticker_of number (ATick t) p.lying) w s))
-  tick_leaves : (t : ℕ) → HasLife 5 s.lines
-      → Acts its number c s p (DropTick t)
-      (rings (ticks.leave_answer (ticker_of number (ATick t) p.lying) s).told.sleeper ++ Answers Done ∷ []) number
-      (ticks.left (ticker_of number (ATick t) p.lying) s)
+      → Acts its owner c s p (PollTick t w) (Answers NoMemory ∷ []) (renumbered (number_after (ATick t) owner.number s p) owner)
+      (solo.popped (slept_once (ticker_of owner.number (ATick t) p.lying) w s))
+  tick_leaves : (t : ℕ) → has_tick t owner ≡ true → HasLife 5 s.lines
+      → Acts its owner c s p (DropTick t)
+      (rings (ticks.leave_answer (ticker_of owner.number (ATick t) p.lying) s).told.sleeper ++ Answers Done ∷ []) (without_tick t owner)
+      (ticks.left (ticker_of owner.number (ATick t) p.lying) s)
 
 -- call by call; whoever lay down last is told
 pub data Leads {F T X : Type 0} (its : ℕ → Lent)
-    : List (Choice × Call T (SoloWaker X)) → (Who → ℕ) → Solo F T X → Plain T (SoloWaker X) → List (Event T (SoloWaker X)) → (Who → ℕ)
-    → Solo F T X → Type 0 where
-  stays : (number : Who → ℕ) (s : Solo F T X) (p : Plain T (SoloWaker X)) → Leads its [] number s p [] number s
-  leads : (c : Choice) (call : Call T (SoloWaker X)) (rest : List (Choice × Call T (SoloWaker X))) (before now after : Who → ℕ)
+    : List (Choice × Call T (SoloWaker X)) → Owner → Solo F T X → Plain T (SoloWaker X) → List (Event T (SoloWaker X)) → Owner → Solo F T X
+    → Type 0 where
+  stays : (owner : Owner) (s : Solo F T X) (p : Plain T (SoloWaker X)) → Leads its [] owner s p [] owner s
+  leads : (c : Choice) (call : Call T (SoloWaker X)) (rest : List (Choice × Call T (SoloWaker X))) (before now after : Owner)
       (s y z : Solo F T X) (p : Plain T (SoloWaker X)) (shown others : List (Event T (SoloWaker X))) → length p.lying ≤ c.tells
       → Acts its before c s p call shown now y → Leads its rest now y (does wakes_of c call p) others after z
       → Leads its ((c, call) ∷ rest) before s p (shown ++ others) after z

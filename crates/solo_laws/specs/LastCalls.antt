@@ -1,6 +1,5 @@
 -- The last calls of an executor: its drop, what is called while each of its futures is dropped, and what is called once all is done.
 use Rattle.std.specs.Prelude.{◌≡◌, ℕ, ◌+◌, ◌*◌, ◌≤◌, Bool, true, false, List, [], ◌∷◌, ◌++◌, length, Option}
-use Rattle.queue_steps.specs.ClosableQueue.{most_accepted}
 use Rattle.solo.specs.declared.names.SoloWaker.{SoloWaker}
 use Rattle.solo.specs.declared.owed.Lent.{Lent}
 use Rattle.solo.specs.declared.solo.Solo.{Solo}
@@ -12,7 +11,7 @@ use Rattle.solo_laws.specs.Alike.{calls}
 use Rattle.solo_laws.specs.Closing.{Drains}
 use Rattle.solo_laws.specs.Courses.{Makes}
 use Rattle.solo_laws.specs.Dropping.{ends_one}
-use Rattle.solo_laws.specs.Road.{HasLife, count_of, drops, lents, wakes as wakes_of}
+use Rattle.solo_laws.specs.Road.{HasLife, drops, lents, wakes as wakes_of}
 use Rattle.solo_laws.specs.Shown.{call_shows}
 
 -- by its waker or its handle
@@ -73,7 +72,6 @@ module _ {F T X : Type 0} (its : ℕ → Lent) (s : Solo F T X) (p : Plain T (So
     pub undropped : drops p.inside ≡ []
     pub few : length p.lying ≤ c.tells
     pub life : HasLife (6 * length s.table.entries + 2) s.lines
-    pub leaving : count_of s.leaving.accepted + length s.table.entries ≤ most_accepted
 
   -- its first future is handed out, to be dropped, if there is one
   pub data LastCalls : List (Choice × Call T (SoloWaker X)) → List (Event T (SoloWaker X)) → Solo F T X → Type 0 where

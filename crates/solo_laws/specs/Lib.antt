@@ -18,6 +18,7 @@ pub mod Shown
 pub mod Courses
 pub mod LastCalls
 pub mod Numbered
+pub mod Owner
 pub mod Ticking
 pub mod Running
 pub mod Stealing

@@ -6,9 +6,16 @@ use Rattle.solo.specs.Runs as runs
 use Rattle.plain_scheduler.specs.State.{Choice, Due, Plain, Run}
 use Rattle.plain_scheduler.specs.Moves.{chosen, looks}
 use Rattle.plain_scheduler.specs.Takes as takes
+use Rattle.solo_laws.specs.Owner.{Owner}
 use Rattle.solo_laws.specs.Road.{wakes}
 use Rattle.solo_laws.specs.RunGoing.{taken_by}
 use Rattle.solo_laws.specs.Tabled.{goes_on}
+
+-- so what its owner knows of each run's count is what that has taken, and whether it is to let others go first
+abbrev pub EachCounted : {T X : Type 0} → Owner → Plain T (SoloWaker X) → Type 0
+EachCounted owner p =
+    (r : ℕ) → ((owner.runner r).number ≡ r) × ((owner.runner r).taken ≡ (if nat_lt (taken_by r p) 200 then taken_by r p else 0))
+    × (owner.gives_way r ≡ not (nat_lt (taken_by r p) 200))
 
 module _ {T X : Type 0} (c : Choice) (p : Plain T (SoloWaker X)) where
   -- where both have counted as many, a take says that the run is to let others go first just where the plain scheduler's then does; and

@@ -1,5 +1,5 @@
 -- How a run goes on once its own future is pending, and each time that it is done with a future that it took.
-use Rattle.std.specs.Prelude.{◌≡◌, ℕ, suc, ◌≤◌, nat_lt, true, false, List, [], ◌∷◌, ◌++◌, length, find, Option, Some, None, slice_get}
+use Rattle.std.specs.Prelude.{◌≡◌, ℕ, suc, ◌≤◌, true, false, List, [], ◌∷◌, ◌++◌, length, Option, Some, None, slice_get}
 use Rattle.solo.specs.declared.names.Task.{Task}
 use Rattle.solo.specs.declared.names.SoloWaker.{SoloWaker}
 use Rattle.solo.specs.declared.names.SoloWaker.TheVariants.{Task as OfTask}
@@ -15,11 +15,11 @@ use Rattle.solo.specs.Solo as solo
 use Rattle.solo.specs.Steals as steals
 use Rattle.plain_scheduler.specs.State.{Answers, ARun, AtOnce, Choice, Code, Drop, End, Event, Granted, Later, Lose, NoMemory, Pending}
 use Rattle.plain_scheduler.specs.State.{Plain, Poll}
-use Rattle.plain_scheduler.specs.State.{Taker, Try, Who}
+use Rattle.plain_scheduler.specs.State.{Taker, Try}
 use Rattle.plain_scheduler.specs.Lists.{or}
-use Rattle.plain_scheduler.specs.Moves.{lies}
 use Rattle.plain_scheduler.specs.Calls.{Call, Ends, Pends}
 use Rattle.solo_laws.specs.Numbered.{ticker_of}
+use Rattle.solo_laws.specs.Owner.{Owner, given_way, renumbered, taken_by_run}
 use Rattle.solo_laws.specs.Road.{HasLife, IsNamed}
 use Rattle.solo_laws.specs.RunResting.{run_rest_answer, run_rested, sleep_answer, slept_from}
 use Rattle.solo_laws.specs.RunTaking.{searched_further, wake_shows, woken_by}
@@ -56,21 +56,22 @@ pub data IsEnding {T A : Type 0} : Stage T A → Call T A → Type 0 where
   drop_ends : (f : ℕ) (end : End T) → IsEnding (Dropping f end) Ends
   loss_ends : (awaiter : Option A) → IsEnding (Losing awaiter) Ends
 
-module _ {F T X : Type 0} (its : ℕ → Lent) (number : Who → ℕ) (c : Choice) (runner : Runner) (w : SoloWaker X) (s : Solo F T X)
+module _ {F T X : Type 0} (its : ℕ → Lent) (owner : Owner) (c : Choice) (runner : Runner) (w : SoloWaker X) (s : Solo F T X)
     (p : Plain T (SoloWaker X)) where
   abbrev its_ticker : Ticker
-  its_ticker = ticker_of number (ARun runner.number) p.lying
+  its_ticker = ticker_of owner.number (ARun runner.number) p.lying
 
   abbrev shows_taken : Task → Solo F T X → List (Event T (SoloWaker X))
   shows_taken task z = tick_shows (runs.found_answer runner its_ticker None task false z).ticked
 
   -- it takes what it keeps, or what nobody does, or what another keeps
-  pub data Searches : List (Event T (SoloWaker X)) → (Who → ℕ) → Solo F T X → Type 0 where
+  pub data Searches : List (Event T (SoloWaker X)) → Owner → Solo F T X → Type 0 where
     takes_own : (start : ℕ) (task : Task) → first_of runner.number s.runs ≡ Some task
         → c.keeps
         ≡ stolen_marks (runs.is_steal_due runner) runner.number (runs.told its_ticker (steals.own_popped runner.number s))
         → HasLife 5 s.lines
-        → Searches (shows_taken task (steals.own_popped runner.number s)) number (runs.searched runner its_ticker start s)
+        → Searches (shows_taken task (steals.own_popped runner.number s)) (taken_by_run runner owner)
+        (runs.searched runner its_ticker start s)
     takes_common : (start : ℕ) (task : Task) → first_of runner.number s.runs ≡ None → solo.sought s ≡ Some task
         → c.first ≡ mark_of_turn s.lines.turn
         → c.keeps
@@ -78,7 +79,8 @@ module _ {F T X : Type 0} (its : ℕ → Lent) (number : Who → ℕ) (c : Choic
         (search_answer s.lines).mark
         ++ stolen_marks (runs.is_steal_due runner) runner.number (runs.told its_ticker (searched_further runner.number s))
         → HasLife 5 s.lines
-        → Searches (shows_taken task (searched_further runner.number s)) number (runs.searched runner its_ticker start s)
+        → Searches (shows_taken task (searched_further runner.number s)) (taken_by_run runner owner)
+        (runs.searched runner its_ticker start s)
     robs_another : (start : ℕ) (task : Task) → first_of runner.number s.runs ≡ None → solo.sought s ≡ None
         → c.first ≡ mark_of_turn s.lines.turn
         → (steals.whole_round runner.number start (searched_none runner.number s)).0 ≡ Some task
@@ -88,33 +90,31 @@ module _ {F T X : Type 0} (its : ℕ → Lent) (number : Who → ℕ) (c : Choic
         ≡ stolen_marks (runs.is_steal_due runner) runner.number
         (runs.told its_ticker (steals.walked runner.number start (searched_none runner.number s)))
         → HasLife 5 s.lines
-        → Searches (shows_taken task (steals.walked runner.number start (searched_none runner.number s))) number
+        → Searches (shows_taken task (steals.walked runner.number start (searched_none runner.number s))) (taken_by_run runner owner)
         (runs.searched runner its_ticker start s)
     -- or there is none, and it lies down
     rests : (first second : ℕ) → (steals.seek_answer runner.number first s).task ≡ None → c.first ≡ mark_of_turn s.lines.turn
         → c.refusal ≡ Granted
-        → (find (lies (ARun runner.number)) p.lying ≡ None → nat_lt s.sleepers.count s.sleepers.rooms ≡ true)
         → ((u : Task) → w ≡ OfTask u → IsNamed (named its) (length p.futures) u × (solo.may_hold u s ≡ true)
         × (looks_again (sleep_answer runner.number first its_ticker w s).look ≡ true
         → solo.may_hold u (slept_from runner.number first its_ticker w s) ≡ true))
         → suc (length p.lying) ≤ c.tells → HasLife 2 s.lines
         → Searches (rings (run_rest_answer runner.number first second its_ticker w s).sleeper ++ Answers Pending ∷ [])
-        (number_after (ARun runner.number) number s p) (run_rested runner.number first second its_ticker w s)
+        (renumbered (number_after (ARun runner.number) owner.number s p) owner) (run_rested runner.number first second its_ticker w s)
     -- and is refused a copy of its waker, or another for the look once it lies
     is_refused : (start : ℕ) → (steals.seek_answer runner.number start s).task ≡ None → c.first ≡ mark_of_turn s.lines.turn
-        → c.refusal ≡ AtOnce → Searches (Answers NoMemory ∷ []) number (steals.sought runner.number start s)
+        → c.refusal ≡ AtOnce → Searches (Answers NoMemory ∷ []) owner (steals.sought runner.number start s)
     lies_refused : (first second : ℕ) → (steals.seek_answer runner.number first s).task ≡ None → c.first ≡ mark_of_turn s.lines.turn
         → c.refusal ≡ Later
-        → (find (lies (ARun runner.number)) p.lying ≡ None → nat_lt s.sleepers.count s.sleepers.rooms ≡ true)
         → ((u : Task) → w ≡ OfTask u → IsNamed (named its) (length p.futures) u × (solo.may_hold u s ≡ true))
         → looks_again (sleep_answer runner.number first its_ticker w s).look ≡ true → suc (length p.lying) ≤ c.tells → HasLife 2 s.lines
-        → Searches (Answers NoMemory ∷ []) (number_after (ARun runner.number) number s p)
+        → Searches (Answers NoMemory ∷ []) (renumbered (number_after (ARun runner.number) owner.number s p) owner)
         (steals.sought runner.number second (slept_from runner.number first its_ticker w s))
 
-  -- it looks for another, or lets others go first after 200
-  pub data RunsOn : List (Event T (SoloWaker X)) → (Who → ℕ) → Solo F T X → Type 0 where
-    looks_on : (shown : List (Event T (SoloWaker X))) (now : Who → ℕ) (z : Solo F T X) → nat_lt (taken_by runner.number p) 200 ≡ true
+  -- it looks for another, or lets others go first
+  pub data RunsOn : List (Event T (SoloWaker X)) → Owner → Solo F T X → Type 0 where
+    looks_on : (shown : List (Event T (SoloWaker X))) (now : Owner) (z : Solo F T X) → owner.gives_way runner.number ≡ false
         → Searches shown now z → RunsOn shown now z
-    gives_way : nat_lt (taken_by runner.number p) 200 ≡ false
+    gives_way : owner.gives_way runner.number ≡ true
         → ((t : Task) → w ≡ OfTask t → IsNamed (named its) (length p.futures) t) → HasLife 2 s.lines
-        → RunsOn (wake_shows w s ++ Answers Pending ∷ []) number (woken_by w s)
+        → RunsOn (wake_shows w s ++ Answers Pending ∷ []) (given_way runner.number owner) (woken_by w s)

@@ -1,5 +1,5 @@
 -- A run that finds nothing lies down: it falls asleep with a copy of its waker, and where it lies anew it looks once more.
-use Rattle.std.specs.Prelude.{◌≡◌, ℕ, suc, ◌≤◌, nat_lt, true, false, List, [], ◌∷◌, length, find, None, Some, slice_get}
+use Rattle.std.specs.Prelude.{◌≡◌, ℕ, suc, ◌≤◌, nat_lt, true, false, List, [], ◌∷◌, length, None, Some, slice_get}
 use Rattle.solo.specs.declared.names.SoloWaker.{SoloWaker}
 use Rattle.solo.specs.declared.names.SoloWaker.TheVariants.{Task as OfTask}
 use Rattle.solo.specs.declared.names.Task.{Task}
@@ -15,10 +15,10 @@ use Rattle.solo.specs.Solo.{may_hold}
 use Rattle.solo.specs.Steals.{seek_answer, sought}
 use Rattle.solo.specs.Ticks as ticks
 use Rattle.plain_scheduler.specs.State.{ARun, AtOnce, Choice, Code, Granted, Later, Plain, PollOwn, Who}
-use Rattle.plain_scheduler.specs.Moves.{lies}
 use Rattle.plain_scheduler.specs.Calls.{Pends, does}
 use Rattle.solo_laws.specs.Alike.{copies}
 use Rattle.solo_laws.specs.Numbered.{ticker_of}
+use Rattle.solo_laws.specs.Owner.{HasRoom}
 use Rattle.solo_laws.specs.Road.{HasLife, IsNamed, wakes}
 use Rattle.solo_laws.specs.Tabled.{goes_on, named}
 use Rattle.solo_laws.specs.Ticking.{IsAtRest, IsRefused, LiesRefused, looks_again, number_after}
@@ -53,7 +53,7 @@ module _ {F T X : Type 0} (its : ℕ → Lent) (number : Who → ℕ) (s : Solo 
       (c : Choice) (r : ℕ) (w : SoloWaker X) (rest : List (Code T (SoloWaker X))) (first second : ℕ) → p.inside ≡ PollOwn r w ∷ rest
       → goes_on r p ≡ true → (seek_answer r first s).task ≡ None → c.first ≡ mark_of_turn s.lines.turn → c.refusal ≡ Granted
       → let ticker = ticker_of number (ARun r) p.lying in
-      (find (lies (ARun r)) p.lying ≡ None → nat_lt s.sleepers.count s.sleepers.rooms ≡ true)
+      HasRoom (ARun r) s p
       → ((u : Task) → w ≡ OfTask u → IsNamed (named its) (length p.futures) u × (may_hold u s ≡ true)
       × (looks_again (sleep_answer r first ticker w s).look ≡ true → may_hold u (slept_from r first ticker w s) ≡ true))
       → suc (length p.lying) ≤ c.tells → HasLife 2 s.lines
@@ -73,7 +73,7 @@ module _ {F T X : Type 0} (its : ℕ → Lent) (number : Who → ℕ) (s : Solo 
       (c : Choice) (r : ℕ) (w : SoloWaker X) (rest : List (Code T (SoloWaker X))) (first second : ℕ) → p.inside ≡ PollOwn r w ∷ rest
       → goes_on r p ≡ true → (seek_answer r first s).task ≡ None → c.first ≡ mark_of_turn s.lines.turn → c.refusal ≡ Later
       → let ticker = ticker_of number (ARun r) p.lying in
-      (find (lies (ARun r)) p.lying ≡ None → nat_lt s.sleepers.count s.sleepers.rooms ≡ true)
+      HasRoom (ARun r) s p
       → ((u : Task) → w ≡ OfTask u → IsNamed (named its) (length p.futures) u × (may_hold u s ≡ true))
       → looks_again (sleep_answer r first ticker w s).look ≡ true → suc (length p.lying) ≤ c.tells → HasLife 2 s.lines
       → LiesRefused its number s (record p { inside = rest }) (ARun r) (number_after (ARun r) number s p) (sleep_answer r first ticker w s)

@@ -1,6 +1,6 @@
 -- What the plain scheduler sees of a call is what an executor of one owner hands out and answers, in the order in which its owner
 -- goes on with that: a waker from outside is called, a future polled or dropped, an output dropped.
-use Rattle.std.specs.Prelude.{◌≡◌, ℕ, zero, suc, ◌+◌, ◌*◌, ◌<◌, ◌≤◌, Bool, true, false, if◌then◌else◌, List, [], ◌∷◌, ◌++◌, length, Option}
+use Rattle.std.specs.Prelude.{◌≡◌, ℕ, zero, suc, ◌*◌, ◌<◌, ◌≤◌, Bool, true, false, if◌then◌else◌, List, [], ◌∷◌, ◌++◌, length, Option}
 use Rattle.std.specs.Prelude.{Some, None, is_some}
 use Rattle.std.specs.Prelude.{Ok}
 use Rattle.queue_steps.specs.ClosableQueue.{most_accepted}
@@ -30,7 +30,7 @@ use Rattle.plain_scheduler.specs.Calls.{Call, Spawn, TryTick, Wake, Use, Copy, R
 use Rattle.plain_scheduler.specs.Calls.{EndsWith, Ends, is_granted, does}
 use Rattle.solo_laws.specs.Alike.{cancelled, copies, lets_go, replaced_by, takes_one}
 use Rattle.solo_laws.specs.Dropping.{ends_one}
-use Rattle.solo_laws.specs.Road.{HasLife, IsNamed, count_of, wakes}
+use Rattle.solo_laws.specs.Road.{HasLife, IsNamed, wakes}
 use Rattle.solo_laws.specs.Tabled.{named}
 
 module _ {T X : Type 0} where
@@ -57,6 +57,12 @@ module _ {T X : Type 0} where
   abbrev pub loses_or : Option T → List (Event T (SoloWaker X)) → List (Event T (SoloWaker X))
   loses_or None others = others
   loses_or (Some v) others = Loses v ∷ []
+
+-- it is handed out, to be polled or dropped
+abbrev pub is_handed : {F : Type 0} → Found F → Bool
+is_handed (FoundPoll lent future) = true
+is_handed (FoundDrop lent future) = true
+is_handed _ = false
 
 -- what was found is lent as what its number has
 abbrev pub lent_as : {F : Type 0} → (ℕ → Lent) → Found F → Type 0
@@ -174,7 +180,6 @@ module _ {F T X : Type 0} (its : ℕ → Lent) (s : Solo F T X) (p : Plain T (So
   abbrev pub LeaksShown : Type 0
   LeaksShown =
       (c : Choice) → p.is_static ≡ false → length p.lying ≤ c.tells → HasLife (6 * length s.table.entries) s.lines
-      → count_of s.leaving.accepted + length s.table.entries ≤ most_accepted
       → (does wakes c Leak p).events
       ≡ p.events ++ (leak_shows (length s.table.entries) (closing.leaked s) ++ Answers Done ∷ [])
 

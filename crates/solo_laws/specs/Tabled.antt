@@ -1,7 +1,8 @@
 -- The table of an executor of one owner keeps the futures that the plain scheduler hasn't dropped, and its runs' own queues what
 -- these keep; so both stand alike.
-use Rattle.std.specs.Prelude.{◌≡◌, ℕ, ◌<◌, Bool, true, false, not, List, [], length, map, filter, slice_get}
+use Rattle.std.specs.Prelude.{◌≡◌, ℕ, ◌<◌, ◌≤◌, Bool, true, false, not, List, [], length, map, filter, slice_get}
 use Rattle.std.specs.Prelude.{Option, Some, None, is_some}
+use Rattle.queue_steps.specs.ClosableQueue.{most_accepted}
 use Rattle.executor_parts.specs.Places.{Entry, place_of}
 use Rattle.executor_parts.specs.declared.places.EntryPlace.{EntryPlace}
 use Rattle.task_moves.specs.declared.local_task.answers.FuturePlace.{FuturePlace}
@@ -20,7 +21,7 @@ use Rattle.plain_scheduler.specs.State.{Due, Plain}
 use Rattle.plain_scheduler.specs.Lists.{or}
 use Rattle.plain_scheduler.specs.Moves.{is_kept}
 use Rattle.plain_scheduler.specs.Calls.{living_from}
-use Rattle.solo_laws.specs.Road.{Follows, due_task, is_in, apart, lents, drops}
+use Rattle.solo_laws.specs.Road.{Follows, count_of, due_task, is_in, apart, lents, drops}
 
 module _ {T A : Type 0} where
   -- whether a future is dropped, or isn't there
@@ -89,6 +90,9 @@ pub record IsTableBut {F T X : Type 0} (waits : List Task) (its : ℕ → Lent) 
   pub leaving : s.leaving.items ≡ waits
   pub leaving_open : s.leaving.closed ≡ false
   pub leaving_limit : s.leaving.capacity ≡ Some p.limit
+  -- no more futures came than a queue accepts in its life; and none was put there before a leak, which makes an executor static
+  pub few : length p.futures ≤ most_accepted
+  pub unleaked : p.is_static ≡ false → count_of s.leaving.accepted ≡ 0
 
 abbrev pub IsTable : {F T X : Type 0} → (ℕ → Lent) → Solo F T X → Plain T (SoloWaker X) → Type 0
 IsTable its s p = IsTableBut [] its s p

@@ -1,5 +1,5 @@
 -- A poll of a tick is one of the plain scheduler: what is due is taken, and the tick, if it lay, gets up.
-use Rattle.std.specs.Prelude.{◌≡◌, ℕ, suc, ◌≤◌, nat_lt, if◌then◌else◌, Bool, true, false, List, [], ◌∷◌, ◌++◌, length, find, Some}
+use Rattle.std.specs.Prelude.{◌≡◌, ℕ, suc, ◌≤◌, if◌then◌else◌, Bool, true, false, List, [], ◌∷◌, ◌++◌, length, find, Some}
 use Rattle.std.specs.Prelude.{None}
 use Rattle.executor_parts.specs.Sleepers.{next_number}
 use Rattle.solo.specs.declared.names.Task.{Task}
@@ -25,8 +25,9 @@ use Rattle.plain_scheduler.specs.Moves.{is_who, lies}
 use Rattle.plain_scheduler.specs.Calls.{NewTick, DropTick, PollTick, is_granted, does}
 use Rattle.solo_laws.specs.Alike.{copies}
 use Rattle.solo_laws.specs.Numbered.{IsNumbered, ticker_of}
+use Rattle.solo_laws.specs.Owner.{HasRoom}
 use Rattle.solo_laws.specs.Road.{HasLife, IsNamed, wakes}
-use Rattle.solo_laws.specs.Shown.{rings, found_as, code_of, lent_as}
+use Rattle.solo_laws.specs.Shown.{rings, found_as, code_of, is_handed, lent_as}
 use Rattle.solo_laws.specs.Tabled.{Stands, named}
 
 abbrev pub found_in : {F : Type 0} → Look F → Found F
@@ -79,6 +80,7 @@ module _ {F T X : Type 0} (its : ℕ → Lent) (number : Who → ℕ) (s : Solo 
     pub numbered : IsNumbered number z.sleepers q.lying
     pub awake : out.ticker ≡ ticker_of number who q.lying
     pub seen : q.events ≡ p.events ++ tick_shows out
+    pub handed : is_handed (found_in out.look) ≡ true
     pub inside : q.inside ≡ code_of by (found_in out.look) ++ p.inside
     pub lent : lent_as its (found_in out.look)
 
@@ -105,7 +107,7 @@ module _ {F T X : Type 0} (its : ℕ → Lent) (number : Who → ℕ) (s : Solo 
   TicksRest =
       (c : Choice) (t : ℕ) (w : SoloWaker X) → sought s ≡ None → c.first ≡ mark_of_turn s.lines.turn → c.refusal ≡ Granted
       → let ticker = ticker_of number (ATick t) p.lying in
-      (find (lies (ATick t)) p.lying ≡ None → nat_lt s.sleepers.count s.sleepers.rooms ≡ true)
+      HasRoom (ATick t) s p
       → ((u : Task) → w ≡ OfTask u → IsNamed (named its) (length p.futures) u × CanCopy ticker w u s)
       → suc (length p.lying) ≤ c.tells → HasLife 2 s.lines
       → IsAtRest (ATick t) (number_after (ATick t) number s p) (rest_answer ticker w s) (rested ticker w s)
@@ -159,7 +161,7 @@ module _ {F T X : Type 0} (its : ℕ → Lent) (number : Who → ℕ) (s : Solo 
   TicksLieRefused =
       (c : Choice) (t : ℕ) (w : SoloWaker X) → sought s ≡ None → c.first ≡ mark_of_turn s.lines.turn → c.refusal ≡ Later
       → let ticker = ticker_of number (ATick t) p.lying in
-      (find (lies (ATick t)) p.lying ≡ None → nat_lt s.sleepers.count s.sleepers.rooms ≡ true)
+      HasRoom (ATick t) s p
       → ((u : Task) → w ≡ OfTask u → IsNamed (named its) (length p.futures) u × (may_hold u s ≡ true))
       → looks_again (slept_answer ticker w s).look ≡ true → suc (length p.lying) ≤ c.tells → HasLife 2 s.lines
       → LiesRefused (ATick t) (number_after (ATick t) number s p) (slept_answer ticker w s) (popped (slept_once ticker w s))

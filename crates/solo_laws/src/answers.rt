@@ -11,6 +11,7 @@ ghost use Rattle.solo_laws.specs.Closing.{AllThere, IsClosed};
 ghost use Rattle.solo_laws.specs.Courses.{Leads};
 ghost use Rattle.solo_laws.specs.LastCalls.{LastCalls};
 ghost use Rattle.solo_laws.specs.NoneLost.{NoneIsLost};
+ghost use Rattle.solo_laws.specs.Owner.{Owner, new_owner};
 ghost use Rattle.solo_laws.specs.Road.{drops, lents, wakes};
 ghost use Rattle.solo_laws.specs.Shown.{CancelsShown, ClosedDropsShown, CopiesShown, DetachesShown, GivenDropsShown};
 ghost use Rattle.solo_laws.specs.Shown.{GivesShown, HandleDropsShown, HandlesShown, LeaksShown, LosesShown, PendsShown, ReleasesShown};
@@ -70,8 +71,8 @@ pub fn leaks_show_alike<F, T, X>()
 /// has seen what was handed out and answered, in that order.
 pub fn lists_of_calls_lead_alike<F, T, X>()
     ensures { (its : ℕ → Lent) (limit : ℕ) (kind : Kind) (is_static : Bool) (calls : List (Choice × Call T (SoloWaker X)))
-        (first last : Solo F T X) (shown : List (Event T (SoloWaker X))) (before after : Who → ℕ) → IsNew limit kind first
-        → counts kind ≡ not is_static → Leads its calls before first (new limit is_static) shown after last
+        (first last : Solo F T X) (shown : List (Event T (SoloWaker X))) (before : Who → ℕ) (after : Owner) → IsNew limit kind first
+        → counts kind ≡ not is_static → Leads its calls (new_owner before) first (new limit is_static) shown after last
         → Stands its last (course wakes calls (new limit is_static)) × ((course wakes calls (new limit is_static)).events ≡ shown) }
 {}
 
@@ -79,12 +80,12 @@ pub fn lists_of_calls_lead_alike<F, T, X>()
 /// none has one, each entry of the table has its future.
 pub fn lists_lose_no_future<F, T, X>()
     ensures none { (its : ℕ → Lent) (limit : ℕ) (kind : Kind) (is_static : Bool) (calls : List (Choice × Call T (SoloWaker X)))
-        (first last : Solo F T X) (shown : List (Event T (SoloWaker X))) (before after : Who → ℕ) → IsNew limit kind first
-        → counts kind ≡ not is_static → Leads its calls before first (new limit is_static) shown after last
+        (first last : Solo F T X) (shown : List (Event T (SoloWaker X))) (before : Who → ℕ) (after : Owner) → IsNew limit kind first
+        → counts kind ≡ not is_static → Leads its calls (new_owner before) first (new limit is_static) shown after last
         → NoneIsLost (course wakes calls (new limit is_static)) }
     ensures there { (its : ℕ → Lent) (limit : ℕ) (kind : Kind) (is_static : Bool) (calls : List (Choice × Call T (SoloWaker X)))
-        (first last : Solo F T X) (shown : List (Event T (SoloWaker X))) (before after : Who → ℕ) → IsNew limit kind first
-        → counts kind ≡ not is_static → Leads its calls before first (new limit is_static) shown after last
+        (first last : Solo F T X) (shown : List (Event T (SoloWaker X))) (before : Who → ℕ) (after : Owner) → IsNew limit kind first
+        → counts kind ≡ not is_static → Leads its calls (new_owner before) first (new limit is_static) shown after last
         → lents (course wakes calls (new limit is_static)).inside ≡ [] → drops (course wakes calls (new limit is_static)).inside ≡ []
         → AllThere last.table.entries }
 {}
@@ -92,8 +93,9 @@ pub fn lists_lose_no_future<F, T, X>()
 /// And so after each such list that ends with the drop of the executor, with what is called while its futures are dropped.
 pub fn lists_end_alike<F, T, X>()
     ensures { (its : ℕ → Lent) (limit : ℕ) (kind : Kind) (is_static : Bool) (calls ends : List (Choice × Call T (SoloWaker X)))
-        (first middle last : Solo F T X) (shown others : List (Event T (SoloWaker X))) (before after : Who → ℕ) → IsNew limit kind first
-        → counts kind ≡ not is_static → Leads its calls before first (new limit is_static) shown after middle
+        (first middle last : Solo F T X) (shown others : List (Event T (SoloWaker X))) (before : Who → ℕ) (after : Owner)
+        → IsNew limit kind first → counts kind ≡ not is_static
+        → Leads its calls (new_owner before) first (new limit is_static) shown after middle
         → let p = course wakes calls (new limit is_static) in
         LastCalls its middle p ends others last
         → IsClosed its last (course wakes ends p) × ((course wakes ends p).events ≡ shown ++ others) }

@@ -6,8 +6,9 @@ ghost use Rattle.solo.specs.declared.solo.Solo.{Solo};
 ghost use Rattle.plain_scheduler.specs.State.{Choice, Plain, Who};
 ghost use Rattle.solo_laws.specs.Led.{IsLed};
 ghost use Rattle.solo_laws.specs.Numbered.{IsNumbered};
+ghost use Rattle.solo_laws.specs.Owner.{Owner};
 ghost use Rattle.solo_laws.specs.Running.{OversAreDropped, OversArePolled, OwnsAreReady, RunsAreDropped, RunsArePolled, RunsLeave};
-ghost use Rattle.solo_laws.specs.RunCounting.{RunsCount, RunsCountAnew};
+ghost use Rattle.solo_laws.specs.RunCounting.{EachCounted, RunsCount, RunsCountAnew};
 ghost use Rattle.solo_laws.specs.RunResting.{EachListed, RunsAreRefused, RunsLieRefused, RunsRest};
 ghost use Rattle.solo_laws.specs.RunTaking.{RunsGiveWay, RunsTakeCommon, RunsTakeOwn};
 ghost use Rattle.solo_laws.specs.Stealing.{KeepsAlike, KeepsOfBoth, RobsAlike};
@@ -80,8 +81,8 @@ pub fn runs_take_what_others_keep<F, T, X>()
 pub fn runs_rest_alike<F, T, X>()
     ensures listed { (its : ℕ → Lent) (number : Who → ℕ) (s : Solo F T X) (p : Plain T (SoloWaker X)) → Stands its s p
         → IsNumbered number s.sleepers p.lying → EachListed s.runs → RunsRest its number s p }
-    ensures led { (its : ℕ → Lent) (number : Who → ℕ) (s : Solo F T X) (p : Plain T (SoloWaker X)) → IsLed its number s p
-        → RunsRest its number s p }
+    ensures led { (its : ℕ → Lent) (owner : Owner) (s : Solo F T X) (p : Plain T (SoloWaker X)) → IsLed its owner s p
+        → RunsRest its owner.number s p }
 {}
 
 /// One that is refused a copy of its waker is as it was; where the copy for its second look is refused it lies.
@@ -90,8 +91,8 @@ pub fn runs_are_refused_alike<F, T, X>()
         → IsNumbered number s.sleepers p.lying → EachListed s.runs → RunsAreRefused its number s p }
     ensures later { (its : ℕ → Lent) (number : Who → ℕ) (s : Solo F T X) (p : Plain T (SoloWaker X)) → Stands its s p
         → IsNumbered number s.sleepers p.lying → EachListed s.runs → RunsLieRefused its number s p }
-    ensures led { (its : ℕ → Lent) (number : Who → ℕ) (s : Solo F T X) (p : Plain T (SoloWaker X)) → IsLed its number s p
-        → RunsAreRefused its number s p × RunsLieRefused its number s p }
+    ensures led { (its : ℕ → Lent) (owner : Owner) (s : Solo F T X) (p : Plain T (SoloWaker X)) → IsLed its owner s p
+        → RunsAreRefused its owner.number s p × RunsLieRefused its owner.number s p }
 {}
 
 /// Where a run has taken 200 since it last let others go first, it goes on by calling its own waker, and is pending.
@@ -100,8 +101,11 @@ pub fn runs_give_way_alike<F, T, X>()
 {}
 
 /// Where a run has counted as many as the plain scheduler's has taken, it says with its next take that it is to let others go first just
-/// where that one then does, and both have counted as many again; once they have, both count anew.
-pub fn runs_count_alike<T, X>()
+/// where that one then does, and both have counted as many again; once they have, both count anew. So both have counted as many wherever
+/// a list of calls leads, in which runs let others go first as their takes have said.
+pub fn runs_count_alike<F, T, X>()
     ensures takes { (c : Choice) (p : Plain T (SoloWaker X)) → RunsCount c p }
     ensures anew { (c : Choice) (p : Plain T (SoloWaker X)) → RunsCountAnew c p }
+    ensures led { (its : ℕ → Lent) (owner : Owner) (s : Solo F T X) (p : Plain T (SoloWaker X)) → IsLed its owner s p
+        → EachCounted owner p }
 {}

@@ -1,5 +1,5 @@
 -- A new executor stands where the new plain scheduler does.
-use Rattle.std.proofs.Common.{◌≡◌, ℕ, Bool, false, not, Some, [], map, refl, ap, ◌∙◌, arith}
+use Rattle.std.proofs.Common.{◌≡◌, ℕ, ◌==◌, if◌then◌else◌, Bool, true, false, not, None, Some, [], map, refl, ap, ◌∙◌, arith}
 use Rattle.queue_steps.specs.ClosableQueue.{ClosableQueue}
 use Rattle.executor_parts.specs.Sleepers.{Sleepers}
 use Rattle.executor_parts.specs.declared.mark.Mark.{Mark}
@@ -15,7 +15,7 @@ use Rattle.solo.specs.Table.{TableValue}
 use Rattle.solo.specs.Lines.{line_of, new_lines}
 use Rattle.solo.specs.Solo as solo
 use Rattle.plain_scheduler.specs.Calls.{new}
-use Rattle.solo_laws.specs.Road.{Follows, apart}
+use Rattle.solo_laws.specs.Road.{count_of, Follows, apart}
 use Rattle.solo_laws.specs.Tabled.{Stands, named, row}
 
 module _ {F T X : Type 0} (name : ℕ → Task) where
@@ -82,5 +82,11 @@ module _ {F T X : Type 0} (its : ℕ → Lent) where
       leaving = ap (λ (q : ClosableQueue Task). q.items) fresh.leaving;
       leaving_open = ap (λ (q : ClosableQueue Task). q.closed) fresh.leaving;
       leaving_limit = ap (λ (q : ClosableQueue Task). q.capacity) fresh.leaving;
+      few = omega arith;
+      unleaked = λ owned. ap (λ (q : ClosableQueue Task). count_of q.accepted) fresh.leaving ∙ none (limit == 1);
     },
   )
+    where
+      none : (b : Bool) → count_of (if b then None else Some 0) ≡ 0
+      none true = refl
+      none false = refl

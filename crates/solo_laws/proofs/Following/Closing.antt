@@ -27,6 +27,7 @@ use Rattle.solo_laws.proofs.Following.Leaving.{heads, tails}
 use Rattle.solo_laws.proofs.Following.Lines.{accepts_more, pushed_life}
 use Rattle.solo_laws.proofs.Following.Leaking.{pushed_is}
 use Rattle.solo_laws.proofs.Following.Sparing.{dropped_spared}
+use Rattle.solo_laws.proofs.Following.Tabling.{leaves_few}
 
 module _ {F T X : Type 0} (name : ℕ → Task) where
   -- tables and wakers that are to be called are nothing to the tasks
@@ -75,9 +76,8 @@ module _ {F T X : Type 0} (its : ℕ → Lent) where
         ∙ (ap (λ rows. length rows) both.1.rows ∙ length_map (row_of its (not p.is_static) (at_home its s.cells)) fs)
 
     -- the table is taken out
-    pub begins : count_of s.leaving.accepted + length s.table.entries ≤ most_accepted
-        → IsClosing its fs [] fs (closing.closed s) p
-    begins life = record {
+    pub begins : IsClosing its fs [] fs (closing.closed s) p
+    begins = record {
       whole = p;
       same = refl;
       follows = elsewhere (named its) s.going s.table s.leaving s p both.0;
@@ -93,7 +93,7 @@ module _ {F T X : Type 0} (its : ℕ → Lent) where
       leaving = both.1.leaving;
       leaving_open = both.1.leaving_open;
       leaving_limit = both.1.leaving_limit;
-      leaving_life = subst (λ n. count_of s.leaving.accepted + n ≤ most_accepted) entries_long life;
+      leaving_life = subst (λ n. count_of s.leaving.accepted + n ≤ most_accepted) entries_long (leaves_few its s p both owned);
     }
 
   -- the codes of a close have nothing in hand

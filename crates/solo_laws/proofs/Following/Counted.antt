@@ -71,6 +71,8 @@ module _ {F T X : Type 0} (its : ℕ → Lent) (h : Running → Running) (still 
               leaving = t.leaving;
               leaving_open = t.leaving_open;
               leaving_limit = t.leaving_limit;
+              few = t.few;
+              unleaked = t.unleaked;
             },
           )
         where

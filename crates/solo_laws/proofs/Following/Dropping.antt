@@ -1,6 +1,7 @@
 -- The end of a drop is one of the plain scheduler: the future's entry leaves the table, with its waker, and then its task ends.
 use Rattle.std.proofs.Common.{◌≡◌, ℕ, ◌<◌, ◌≤◌, ◌==◌, not, if◌then◌else◌, Bool, true, false, List, ◌++◌, length, map, Option, Some, None}
 use Rattle.std.proofs.Common.{is_some, slice_get, slice_set, append-nil, refl, sym, ap, subst, ◌∙◌, arith}
+use Rattle.queue_steps.specs.ClosableQueue.{most_accepted}
 use Rattle.executor_parts.specs.Places.{Entry, entry_in, left_by, parts_of}
 use Rattle.task_moves.specs.AbstractTask as abstract
 use Rattle.task_moves.specs.AbstractTask.{AbstractTask}
@@ -268,6 +269,8 @@ module _ {F T X : Type 0} (its : ℕ → Lent) (s : Solo F T X) (p : Plain T (So
           leaving = t.leaving;
           leaving_open = t.leaving_open;
           leaving_limit = t.leaving_limit;
+          few = subst (λ n. n ≤ most_accepted) (sym long) t.few;
+          unleaked = t.unleaked;
           keys_apart =
               ap (λ fs. apart (map (key_of its) fs)) living
               ∙ apart_less (key_of its) f (living_from 0 p.futures) t.keys_apart;

@@ -20,14 +20,14 @@ use Rattle.solo.specs.Turns as turns
 use Rattle.solo.specs.Lines.{line_of}
 use Rattle.solo.specs.Table.{first_parts, rest_of}
 use Rattle.solo.specs.Closing as closing
-use Rattle.queue_steps.specs.ClosableQueue.{ClosableQueue, most_accepted}
+use Rattle.queue_steps.specs.ClosableQueue.{ClosableQueue}
 use Rattle.plain_scheduler.specs.State.{Future, Answers, Done, Code, Close, Choice, Plain}
 use Rattle.plain_scheduler.specs.Lists.{each}
 use Rattle.plain_scheduler.specs.Moves.{task, tell, wake}
 use Rattle.plain_scheduler.specs.Calls as calls
 use Rattle.plain_scheduler.specs.Calls.{DropExecutor, Ends, living_from}
 use Rattle.solo_laws.specs.Closing.{IsClosing, Finishes, GoesOn, AllThere, Drains, one_more, opened, spared, waits}
-use Rattle.solo_laws.specs.Road.{Follows, Lined, TaskIs, HasLife, count_of, is_in, wakes}
+use Rattle.solo_laws.specs.Road.{Follows, Lined, TaskIs, HasLife, is_in, wakes}
 use Rattle.solo_laws.specs.Shown.{rings}
 use Rattle.solo_laws.specs.Tabled.{Stands, named, row}
 use Rattle.solo_laws.proofs.Following.Lists.{get_below}
@@ -306,10 +306,10 @@ module _ {F T X : Type 0} (its : ℕ → Lent) (c : Choice) where
 
   module _ (s : Solo F T X) (p : Plain T (SoloWaker X)) where
     pub closes_alike : Stands its s p → p.is_static ≡ false → AllThere s.table.entries → length p.lying ≤ c.tells
-        → HasLife (6 * length s.table.entries + 2) s.lines → count_of s.leaving.accepted + length s.table.entries ≤ most_accepted
+        → HasLife (6 * length s.table.entries + 2) s.lines
         → GoesOn its (closing.closed s) p (calls.does wakes c DropExecutor p) (living_from 0 p.futures) [] (living_from 0 p.futures)
-    closes_alike both owned all few life leaving =
-        goes_by (living_from 0 p.futures) [] (living_from 0 p.futures) (closing.closed s) p (begins its s p both owned all leaving) few
+    closes_alike both owned all few life =
+        goes_by (living_from 0 p.futures) [] (living_from 0 p.futures) (closing.closed s) p (begins its s p both owned all) few
         (subst (λ n. HasLife (6 * n + 2) s.lines) (entries_long its s p both owned all) life)
 
     pub goes_on_alike : (all gone left : List ℕ) (rest : List (Code T (SoloWaker X))) → IsClosing its all gone left s p

@@ -28,7 +28,7 @@ less_one a b c is next = omega (arith, is, next)
 given_back : (a f c : ℕ) → suc c ≡ a → (a - 1) + (f + 1) ≡ a + f
 given_back a f c is = omega (arith, is)
 
-apart_first : (xs ys : List ℕ) → apart (xs ++ ys) ≡ true → apart xs ≡ true
+pub apart_first : (xs ys : List ℕ) → apart (xs ++ ys) ≡ true → apart xs ≡ true
 apart_first xs [] is = ap apart (sym (append-nil xs)) ∙ is
 apart_first xs (y ∷ ys) is = apart_first xs ys (apart_fewer xs ys y is).0
 
@@ -94,6 +94,8 @@ sleeps_tabled its s p sleepers notified lying t = record {
   leaving = t.leaving;
   leaving_open = t.leaving_open;
   leaving_limit = t.leaving_limit;
+  few = t.few;
+  unleaked = t.unleaked;
 }
 
 module _ {F T X : Type 0} (aside : Option Due) (name : ℕ → Task) (number : Who → ℕ) (s : Solo F T X) (p : Plain T (SoloWaker X))

@@ -1,5 +1,5 @@
 -- Calls that are no ticks' leave each that lies its number.
-use Rattle.std.proofs.Common.{◌≡◌, ℕ, ◌≤◌, nat_lt, if◌then◌else◌, Bool, true, false, List, [], ◌∷◌, length, find}
+use Rattle.std.proofs.Common.{◌≡◌, ℕ, ◌≤◌, nat_lt, if◌then◌else◌, Bool, true, false, List, [], ◌∷◌, ◌++◌, length, find}
 use Rattle.std.proofs.Common.{Option}
 use Rattle.std.proofs.Common.{Some, None, is_some, refl, sym, ap, subst, ◌∙◌}
 use Rattle.executor_parts.specs.declared.mark.Mark.{Mark}
@@ -27,6 +27,7 @@ use Rattle.plain_scheduler.specs.Calls as plain
 use Rattle.plain_scheduler.specs.Calls.{Call, does, is_granted, living_from}
 use Rattle.solo_laws.specs.Alike as alike
 use Rattle.solo_laws.specs.Alike.{takes_one}
+use Rattle.solo_laws.specs.Busy.{run_of}
 use Rattle.solo_laws.specs.Courses.{Makes, spawns, refuses, takes as takes_it, looks as looks_at, wakes as wakes_it, uses, releases, copies}
 use Rattle.solo_laws.specs.Courses.{polls, cancels, detaches, drops_handle, leaks, pends, gives, ends_given, ends_closed, loses}
 use Rattle.solo_laws.specs.Numbered.{IsNumbered}
@@ -40,6 +41,7 @@ use Rattle.solo_laws.proofs.Following.GettingUp.{numbered_kept}
 use Rattle.solo_laws.proofs.Following.Resleeping.{Lies, Sleeps, after, as_before, of_still, ended_lies, dropped_lies, lost_lies, next_lies}
 use Rattle.solo_laws.proofs.Following.Resleeping.{scheduled_if_sleeps, scheduled_sleeps, let_go_sleeps, calls_sleeps, lets_go_sleeps}
 use Rattle.solo_laws.proofs.Following.Resleeping.{given_sleeps, closed_sleeps, pends_sleeps, takes_sleeps, leaks_sleeps}
+use Rattle.solo_laws.proofs.Following.Takings.{none_if, none_of, takings}
 use Rattle.solo_laws.proofs.Following.Using.{put_lying}
 
 abbrev a_try : (X : Type 0) → Taker (SoloWaker X)
@@ -65,20 +67,25 @@ module _ {T X : Type 0} (c : Choice) where
           else answers NoMemory p) else answers Full p)
       by true true =
           let q = appended (length p.futures) (plain.entered wakes c mark p) in
-          after c (as_before c p q refl)
-          (after c (of_still c (tell_still c q)) (as_before c (tell wakes c q) (answers Made (tell wakes c q)) refl))
-      by true false = as_before c p (answers NoMemory p) refl
-      by false g = as_before c p (answers Full p) refl
+          after c (as_before c p q refl refl refl)
+          (after c (of_still c (tell_still c q)) (as_before c (tell wakes c q) (answers Made (tell wakes c q)) refl refl refl))
+      by true false = as_before c p (answers NoMemory p) refl refl refl
+      by false g = as_before c p (answers Full p) refl refl refl
 
-  run_lies : (f : ℕ) (taker : Taker (SoloWaker X)) (q : Plain T (SoloWaker X)) → Lies c q (takes.run wakes c f taker q)
-  run_lies f taker q = by (task f q).closed
+  run_lies : (f : ℕ) (taker : Taker (SoloWaker X)) → takes_one taker ≡ true → (q : Plain T (SoloWaker X))
+      → Lies c q (takes.run wakes c f taker q)
+  run_lies f taker one q = by (task f q).closed
     where
+      no_more : (cs : List (Code T (SoloWaker X))) → run_of taker ++ takings cs ≡ takings cs
+      no_more cs = ap (λ ns. ns ++ takings cs) (none_of taker one)
+
       by : (b : Bool) → Lies c q (if b then takes.dropping wakes c f Closed taker q
           else enters (Poll f taker) (see (Polls f) (put f (abstract.begin_run (task f q)) q)))
-      by true = as_before c q (takes.dropping wakes c f Closed taker q) refl
+      by true = as_before c q (takes.dropping wakes c f Closed taker q) refl refl (no_more q.inside)
       by false =
           as_before c q (enters (Poll f taker) (see (Polls f) (put f (abstract.begin_run (task f q)) q)))
-          (put_lying f (abstract.begin_run (task f q)) q)
+          (put_lying f (abstract.begin_run (task f q)) q) (put_still c f (abstract.begin_run (task f q)) q).runs
+          (ap (λ cs. run_of taker ++ takings cs) (put_still c f (abstract.begin_run (task f q)) q).inside ∙ no_more q.inside)
 
   try_lies : (p : Plain T (SoloWaker X)) → Lies c p (does wakes c Call.TryTick p)
   try_lies p = by (find (chosen (looks c (a_try X)) p.due) p.due)
@@ -86,10 +93,11 @@ module _ {T X : Type 0} (c : Choice) where
       by : (o : Option Due)
           → Lies c p (or o (λ d. takes.takes wakes c Try d (record p { due = without (chosen (looks c (a_try X)) p.due) p.due }))
           (takes.nothing wakes c Try p))
-      by None = as_before c p (answers No p) refl
+      by None = as_before c p (answers No p) refl refl refl
       by (Some d) =
           let left : Plain T (SoloWaker X) = record p { due = without (chosen (looks c (a_try X)) p.due) p.due } in
-          after c (as_before c p left refl) (after c (of_still c (tell_still c left)) (run_lies d.future Try (tell wakes c left)))
+          after c (as_before c p left refl refl refl)
+          (after c (of_still c (tell_still c left)) (run_lies d.future Try refl (tell wakes c left)))
 
   detach_lies : (f : ℕ) (p : Plain T (SoloWaker X)) → Lies c p (plain.detach wakes c f p)
   detach_lies f p =
@@ -98,7 +106,7 @@ module _ {T X : Type 0} (c : Choice) where
       after c (becomes_lies f left.task p) (ended_lies c f (record left { task = task f q }) None refl q)
 
   freed_lies : (fs : List ℕ) (p : Plain T (SoloWaker X)) → Lies c p (each fs (plain.freed wakes c) p)
-  freed_lies [] p = as_before c p p refl
+  freed_lies [] p = as_before c p p refl refl refl
   freed_lies (f ∷ fs) p =
       let q = wake wakes loud f p in
       after c (becomes_lies f (abstract.wake (task f p)) p)
@@ -106,9 +114,12 @@ module _ {T X : Type 0} (c : Choice) where
 
   pends_lies : (e : abstract.PendingEnd) (f : ℕ) (by : Taker (SoloWaker X)) → takes_one by ≡ true → (q : Plain T (SoloWaker X))
       → Lies c q (plain.pending_by wakes c e f by q)
-  pends_lies EndDrops f by one q = as_before c q (plain.pending_by wakes c EndDrops f by q) refl
+  pends_lies EndDrops f by one q =
+      as_before c q (plain.pending_by wakes c EndDrops f by q) refl refl (ap (λ ns. ns ++ takings q.inside) (none_of by one))
   pends_lies EndForgets f by one q =
+      let still = put_still c f (record (task f q) { phase = Finished; closed = true }) q in
       as_before c q (plain.pending_by wakes c EndForgets f by q) (put_lying f (record (task f q) { phase = Finished; closed = true }) q)
+      still.runs (ap (λ cs. run_of by ++ takings cs) still.inside ∙ ap (λ ns. ns ++ takings q.inside) (none_of by one))
   pends_lies EndQueues f by one q =
       let z = becomes wakes loud f (abstract.end_pending (task f q)).task q in
       after c (becomes_lies f (abstract.end_pending (task f q)).task q) (next_lies c by one z)
@@ -145,23 +156,24 @@ module _ {F T X : Type 0} (its : ℕ → Lent) (c : Choice) (s : Solo F T X) (p 
       scheduled_if_sleeps s (is_some (asked cells.detach_queues None t z.cells)) t (turns.turned cells.detached t z) slept
 
   answered : (q : Plain T (SoloWaker X)) → Lies c p q → Lies c p (answers Done q)
-  answered q is = after c is (as_before c q (answers Done q) refl)
+  answered q is = after c is (as_before c q (answers Done q) refl refl refl)
 
   copy_lies : (f : ℕ) → Lies c p (does wakes c (Call.Copy f) p)
   copy_lies f = by (is_granted c.refusal)
     where
       by : (g : Bool) → Lies c p (if g then answers Made (put f (abstract.copy (task f p)) p) else answers NoMemory p)
       by true =
-          as_before c p (answers Made (put f (abstract.copy (task f p)) p)) (put_lying f (abstract.copy (task f p)) p)
-      by false = as_before c p (answers NoMemory p) refl
+          let q = put f (abstract.copy (task f p)) p in
+          after c (put_lies c f (abstract.copy (task f p)) p) (as_before c q (answers Made q) refl refl refl)
+      by false = as_before c p (answers NoMemory p) refl refl refl
 
   -- in whatever code it stands
   module _ (rest : List (Code T (SoloWaker X))) where
     abbrev out : Plain T (SoloWaker X)
     out = record p { inside = rest }
 
-    within : (q : Plain T (SoloWaker X)) → Lies c out q → Lies c p q
-    within q is = after c (as_before c p out refl) is
+    within : takings rest ≡ takings p.inside → (q : Plain T (SoloWaker X)) → Lies c out q → Lies c p q
+    within same q is = after c (as_before c p out refl refl same) is
 
   abbrev pub Kept : Call T (SoloWaker X) → Solo F T X → Type 0
   Kept call z = Sleeps s z × Lies c p (does wakes c call p)
@@ -177,7 +189,7 @@ module _ {F T X : Type 0} (its : ℕ → Lent) (c : Choice) (s : Solo F T X) (p 
   keeps call shown z (refuses mark future refused y so fits) =
       (same_slept y (record s { table = y.table; cells = y.cells }) so.1 as_slept, spawn_lies c mark p)
   keeps call shown z (takes_it first life) = (takes_sleeps s s as_slept, try_lies c p)
-  keeps call shown z looks_at = (as_slept, as_before c p (does wakes c Call.IsEmpty p) refl)
+  keeps call shown z looks_at = (as_slept, as_before c p (does wakes c Call.IsEmpty p) refl refl refl)
   keeps call shown z (wakes_it f at life) = (
     scheduled_if_sleeps s (asked cells.wake_queues false (named its f) s.cells) (named its f) (turns.turned cells.woken (named its f) s)
         as_slept,
@@ -205,37 +217,41 @@ module _ {F T X : Type 0} (its : ℕ → Lent) (c : Choice) (s : Solo F T X) (p 
     detached_slept (named its f) (alike.cancelled (named its f) s) (cancelled_slept (named its f)),
     after c (of_still c (cancel_still c f p)) (detach_lies c f (plain.cancel wakes c f p)),
   )
-  keeps call shown z (leaks owned life leaving) =
+  keeps call shown z (leaks owned life) =
       let static : Plain T (SoloWaker X) = record p { is_static = true } in
       let q = each (living_from 0 p.futures) (plain.freed wakes c) static in (
         leaks_sleeps s (length s.table.entries) (closing.leaked s) as_slept,
-        answered q (after c (as_before c p static refl) (freed_lies c (living_from 0 p.futures) static)),
+        answered q (after c (as_before c p static refl refl refl) (freed_lies c (living_from 0 p.futures) static)),
       )
   keeps call shown z (pends f by rest future one stands_in life) = (
     pends_sleeps s (its f) future s as_slept,
     subst (λ cs. Lies c p (plain.innermost wakes c cs (plain.pends wakes c) p)) (sym stands_in)
-        (within rest (plain.pending_by wakes c (abstract.pending_end (task f p)) f by (out rest))
+        (within rest (sym (ap (λ cs. takings cs) stands_in ∙ ap (λ ns. ns ++ takings rest) (none_of by one)))
+        (plain.pending_by wakes c (abstract.pending_end (task f p)) f by (out rest))
         (pends_lies c (abstract.pending_end (task f p)) f by one (out rest))),
   )
   keeps call shown z (gives f by rest v stands_in) = (
     as_slept,
     subst (λ cs. Lies c p (plain.innermost wakes c cs (plain.gives wakes c v) p)) (sym stands_in)
-        (as_before c p (takes.dropping wakes c f (Gave v) by (out rest)) refl),
+        (as_before c p (takes.dropping wakes c f (Gave v) by (out rest)) refl refl (sym (ap (λ cs. takings cs) stands_in))),
   )
   keeps call shown z (ends_given f v by rest one stands_in life) = (
     given_sleeps s (its f) v s as_slept,
     subst (λ cs. Lies c p (plain.innermost wakes c cs (plain.ends wakes c) p)) (sym stands_in)
-        (within rest (takes.dropped wakes c f (Gave v) by (out rest)) (dropped_lies c f (Gave v) by one (out rest))),
+        (within rest (sym (ap (λ cs. takings cs) stands_in ∙ ap (λ ns. ns ++ takings rest) (none_of by one)))
+        (takes.dropped wakes c f (Gave v) by (out rest)) (dropped_lies c f (Gave v) by one (out rest))),
   )
   keeps call shown z (ends_closed f by rest one stands_in life) = (
     closed_sleeps s (its f) s as_slept,
     subst (λ cs. Lies c p (plain.innermost wakes c cs (plain.ends wakes c) p)) (sym stands_in)
-        (within rest (takes.dropped wakes c f Closed by (out rest)) (dropped_lies c f Closed by one (out rest))),
+        (within rest (sym (ap (λ cs. takings cs) stands_in ∙ ap (λ ns. ns ++ takings rest) (none_of by one)))
+        (takes.dropped wakes c f Closed by (out rest)) (dropped_lies c f Closed by one (out rest))),
   )
   keeps call shown z (loses awaiter by rest one stands_in life) = (
     calls_sleeps s awaiter s as_slept,
     subst (λ cs. Lies c p (plain.innermost wakes c cs (plain.ends wakes c) p)) (sym stands_in)
-        (within rest (takes.lost wakes c awaiter by (out rest)) (lost_lies c awaiter by one (out rest))),
+        (within rest (sym (ap (λ cs. takings cs) stands_in ∙ ap (λ ns. ns ++ takings rest) (none_if by one)))
+        (takes.lost wakes c awaiter by (out rest)) (lost_lies c awaiter by one (out rest))),
   )
 
   -- so who lies keeps its number

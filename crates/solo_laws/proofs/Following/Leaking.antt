@@ -36,7 +36,7 @@ use Rattle.solo_laws.proofs.Following.Rows.{living_below}
 use Rattle.solo_laws.proofs.Following.Waking as waking
 use Rattle.solo_laws.proofs.Following.Frames.{chain, becomes_still, tell_still}
 use Rattle.solo_laws.proofs.Following.Bases as bases
-use Rattle.solo_laws.proofs.Following.Tabling.{tabled}
+use Rattle.solo_laws.proofs.Following.Tabling.{leaves_few, tabled}
 use Rattle.solo_laws.proofs.Following.Losing.{sees}
 use Rattle.solo_laws.proofs.Showing.Telling.{step, woken_shows, released_shows}
 
@@ -195,6 +195,8 @@ module _ {F T X : Type 0} (its : ℕ → Lent) (c : Choice) where
         leaving = ap (λ (ts : List Task). drop 1 ts) both.1.leaving;
         leaving_open = both.1.leaving_open;
         leaving_limit = both.1.leaving_limit;
+        few = both.1.few;
+        unleaked = both.1.unleaked;
       }
 
   -- and so all
@@ -240,8 +242,8 @@ module _ {F T X : Type 0} (its : ℕ → Lent) (c : Choice) where
         ∙ (ap (map bare) both.1.rows ∙ map_twice (row_of its (not p.is_static) (at_home its s.cells)) bare fs))
 
     -- the wakers are out
-    begins : count_of s.leaving.accepted + length s.table.entries ≤ most_accepted → Stand (map (named its) fs) (closing.leaked s) static
-    begins life = (
+    begins : Stand (map (named its) fs) (closing.leaked s) static
+    begins = (
       record {
         numbered = both.0.numbered;
         tasks = both.0.tasks;
@@ -270,6 +272,8 @@ module _ {F T X : Type 0} (its : ℕ → Lent) (c : Choice) where
         leaving = out.0 ∙ ap (λ ts. ts ++ map (named its) fs) both.1.leaving;
         leaving_open = out.1;
         leaving_limit = out.2;
+        few = both.1.few;
+        unleaked = λ owned. absurd cc;
       },
     )
       where
@@ -279,18 +283,19 @@ module _ {F T X : Type 0} (its : ℕ → Lent) (c : Choice) where
             (subst (λ n. 0 + n ≤ p.limit) (sym entries_long) (let it = both.0.within in omega (arith, it)))
 
         out : Pushed (pushed_all s.table.entries s.leaving) s.leaving (map (named its) fs) p.limit
-        out = pushes s.table.entries (map (named its) fs) s.leaving p.limit its_wakers both.1.leaving_open both.1.leaving_limit room life
+        out =
+            pushes s.table.entries (map (named its) fs) s.leaving p.limit its_wakers both.1.leaving_open both.1.leaving_limit room
+            (leaves_few its s p both owned)
 
   module _ (s : Solo F T X) (p : Plain T (SoloWaker X)) (both : Stands its s p) (owned : p.is_static ≡ false)
-      (many : length p.lying ≤ c.tells) (life : HasLife (6 * length s.table.entries) s.lines)
-      (leaving : count_of s.leaving.accepted + length s.table.entries ≤ most_accepted) where
+      (many : length p.lying ≤ c.tells) (life : HasLife (6 * length s.table.entries) s.lines) where
     abbrev after : Plain T (SoloWaker X)
     after = each (living_from 0 p.futures) (freed c) (record p { is_static = true })
 
     leaks : Stand [] (leaked (length (living_from 0 p.futures)) s) after
         × (after.events ≡ p.events ++ leak_shows (length (living_from 0 p.futures)) (closing.leaked s))
     leaks =
-        wakes_all (living_from 0 p.futures) (closing.leaked s) (record p { is_static = true }) (begins s p both owned leaving)
+        wakes_all (living_from 0 p.futures) (closing.leaked s) (record p { is_static = true }) (begins s p both owned)
         (λ f has. let below = living_below p.futures 0 f has in omega (arith, below)) many
         (subst (λ n. HasLife (6 * n) s.lines) (entries_long s p both owned) life)
 

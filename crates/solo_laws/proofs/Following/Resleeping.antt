@@ -32,19 +32,30 @@ use Rattle.solo_laws.proofs.Prompt.{chosen}
 use Rattle.solo_laws.proofs.Following.Bases.{Slept}
 use Rattle.solo_laws.proofs.Following.Frames.{Still, all_waiting, becomes_still, called_still, let_go_still, put_still, tell_still}
 use Rattle.solo_laws.proofs.Following.Lists.{take_twice}
+use Rattle.solo_laws.proofs.Following.Takings.{none_if, takings}
 
 module _ {T X : Type 0} (c : Choice) where
-  -- all lie still, and of those that weren't called some are
+  -- all lie still, and of those that weren't called some are; and runs are as they were
   pub record Lies (p q : Plain T (SoloWaker X)) : Type 0 where
     pub whos : map (λ (l : Lying (SoloWaker X)). l.who) q.lying ≡ map (λ (l : Lying (SoloWaker X)). l.who) p.lying
     pub long : length q.lying ≡ length p.lying
     pub waits : length p.lying ≤ c.tells → (n : ℕ) × (waiting q.lying ≡ take n (waiting p.lying))
+    pub runs : q.runs ≡ p.runs
+    pub takings_are : takings q.inside ≡ takings p.inside
 
   pub of_still : {p q : Plain T (SoloWaker X)} → Still c p q → Lies p q
-  of_still s = record { whos = s.whos; long = s.lying; waits = s.waits }
+  of_still s = record {
+    whos = s.whos;
+    long = s.lying;
+    waits = s.waits;
+    runs = s.runs;
+    takings_are = ap (λ cs. takings cs) s.inside;
+  }
 
-  pub as_before : (p q : Plain T (SoloWaker X)) → q.lying ≡ p.lying → Lies p q
-  as_before p q same = record {
+  pub as_before : (p q : Plain T (SoloWaker X)) → q.lying ≡ p.lying → q.runs ≡ p.runs → takings q.inside ≡ takings p.inside → Lies p q
+  as_before p q same runs takings_are = record {
+    runs = runs;
+    takings_are = takings_are;
     whos = ap (map (λ (l : Lying (SoloWaker X)). l.who)) same;
     long = ap (λ (ls : List (Lying (SoloWaker X))). length ls) same;
     waits = λ many. let it = all_waiting p.lying in (it.0, ap (λ ls. waiting ls) same ∙ it.1);
@@ -54,6 +65,8 @@ module _ {T X : Type 0} (c : Choice) where
   after {p} {q} {z} a b = record {
     whos = b.whos ∙ a.whos;
     long = b.long ∙ a.long;
+    runs = b.runs ∙ a.runs;
+    takings_are = b.takings_are ∙ a.takings_are;
     waits = λ many.
         let one = a.waits many in
         let two = b.waits (subst (λ n. n ≤ c.tells) (sym a.long) many) in
@@ -66,25 +79,27 @@ module _ {T X : Type 0} (c : Choice) where
     where
       by : (o : Option (Future T (SoloWaker X)))
           → Lies p (on o (λ x p. record p { futures = slice_set p.futures f (h x) }) p)
-      by None = as_before p p refl
-      by (Some x) = as_before p (record p { futures = slice_set p.futures f (h x) }) refl
+      by None = as_before p p refl refl refl
+      by (Some x) = as_before p (record p { futures = slice_set p.futures f (h x) }) refl refl refl
 
   called_lies : (o : Option (SoloWaker X)) (p : Plain T (SoloWaker X)) → Lies p (on o (called wakes (tell wakes c)) p)
-  called_lies None p = as_before p p refl
+  called_lies None p = as_before p p refl refl refl
   called_lies (Some w) p = of_still (called_still c (tell wakes c) (tell_still c) w p)
 
   let_go_lies : (o : Option (SoloWaker X)) (p : Plain T (SoloWaker X)) → Lies p (on o (let_go wakes (tell wakes c)) p)
-  let_go_lies None p = as_before p p refl
+  let_go_lies None p = as_before p p refl refl refl
   let_go_lies (Some w) p = of_still (let_go_still c (tell wakes c) (tell_still c) w p)
 
   pub next_lies : (by : Taker (SoloWaker X)) → takes_one by ≡ true → (q : Plain T (SoloWaker X)) → Lies q (takes.next wakes c by q)
-  next_lies Try one q = as_before q (takes.next wakes c Try q) refl
-  next_lies (Tick t w) one q = as_before q (takes.next wakes c (Tick t w) q) refl
+  next_lies Try one q = as_before q (takes.next wakes c Try q) refl refl refl
+  next_lies (Tick t w) one q = as_before q (takes.next wakes c (Tick t w) q) refl refl refl
   next_lies (Run r w) one q = absurd cc
 
   pub lost_lies : (o : Option (SoloWaker X)) (by : Option (Taker (SoloWaker X))) → ends_one by ≡ true → (p : Plain T (SoloWaker X))
       → Lies p (takes.lost wakes c o by p)
-  lost_lies o None one p = after (called_lies o p) (as_before (on o (called wakes (tell wakes c)) p) (takes.lost wakes c o None p) refl)
+  lost_lies o None one p =
+      after (called_lies o p)
+      (as_before (on o (called wakes (tell wakes c)) p) (takes.lost wakes c o None p) refl refl refl)
   lost_lies o (Some by) one p = after (called_lies o p) (next_lies by one (on o (called wakes (tell wakes c)) p))
 
   out_lies : (left : Left T (SoloWaker X)) (by : Option (Taker (SoloWaker X))) → ends_one by ≡ true → (p : Plain T (SoloWaker X))
@@ -96,7 +111,9 @@ module _ {T X : Type 0} (c : Choice) where
           (takes.lost wakes c left.called by (on left.let_go (let_go wakes (tell wakes c)) p)))
       which None =
           after (let_go_lies left.let_go p) (lost_lies left.called by one (on left.let_go (let_go wakes (tell wakes c)) p))
-      which (Some v) = as_before p (record p { events = p.events ++ Loses v ∷ []; inside = Lose left.called by ∷ p.inside }) refl
+      which (Some v) =
+          as_before p (record p { events = p.events ++ Loses v ∷ []; inside = Lose left.called by ∷ p.inside }) refl refl
+          (ap (λ ns. ns ++ takings p.inside) (none_if by one))
 
   pub ended_lies : (f : ℕ) (left : Left T (SoloWaker X)) (by : Option (Taker (SoloWaker X))) → ends_one by ≡ true
       → (p : Plain T (SoloWaker X)) → Lies p (takes.ended wakes c f left by p)
@@ -114,7 +131,7 @@ module _ {T X : Type 0} (c : Choice) where
       given p = which p.is_static
         where
           which : (b : Bool) → Lies p (if b then p else becomes wakes (takes.tell wakes c) f (abstract.release (task f p)) p)
-          which true = as_before p p refl
+          which true = as_before p p refl refl refl
           which false = of_still (becomes_still c (takes.tell wakes c) (tell_still c) f (abstract.release (task f p)) p)
 
 module _ {F T X : Type 0} (old : Solo F T X) where

@@ -1,6 +1,6 @@
 -- The future of one entry is taken out, or put back: the others have theirs as before.
 use Rattle.std.proofs.Common.{◌≡◌, ℕ, suc, ◌+◌, ◌<◌, ◌==◌, cond, not, Bool, true, false, List, [], ◌∷◌, length, map, Option, is_some, refl}
-use Rattle.std.proofs.Common.{sym, ap, subst, ◌∙◌, arith}
+use Rattle.std.proofs.Common.{◌≤◌, if◌then◌else◌, sym, ap, subst, ◌∙◌, arith}
 use Rattle.executor_parts.specs.Places.{Entry, with_future, where_there, set_future}
 use Rattle.solo.specs.declared.names.Task.{Task}
 use Rattle.solo.specs.declared.owed.Lent.{Lent}
@@ -17,6 +17,16 @@ map_same_in f g [] same = refl
 map_same_in f g (n ∷ ns) same =
     ap (λ x. x ∷ map f ns) (same n (ap (λ b. cond b true (is_in n ns)) (equal n n refl)))
     ∙ ap (λ xs. g n ∷ xs) (map_same_in f g ns (λ m has. same m (later (m == n) (is_in m ns) has)))
+
+-- no more live than came
+pub living_long : {T A : Type 0} (fs : List (Future T A)) (n : ℕ) → length (living_from n fs) ≤ length fs
+living_long [] n = omega arith
+living_long (f ∷ fs) n = by f.is_dropped (living_long fs (suc n))
+  where
+    by : (b : Bool) → length (living_from (suc n) fs) ≤ length fs
+        → length (if b then living_from (suc n) fs else n ∷ living_from (suc n) fs) ≤ suc (length fs)
+    by true few = omega (arith, few)
+    by false few = omega (arith, few)
 
 pub living_below : {T A : Type 0} (fs : List (Future T A)) (n j : ℕ) → is_in j (living_from n fs) ≡ true → j < n + length fs
 living_below [] n j has = absurd cc

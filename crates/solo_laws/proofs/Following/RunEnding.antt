@@ -1,5 +1,6 @@
 -- The poll or drop of a future that a run took ends as in a try, but that the run then goes on.
-use Rattle.std.proofs.Common.{◌≡◌, ℕ, ◌≤◌, Bool, true, false, List, [], ◌∷◌, ◌++◌, length, Option, Some, None, append_assoc, refl, sym}
+use Rattle.std.proofs.Common.{◌≡◌, ℕ, ◌≤◌, nat_lt, not, Bool, true, false, List, [], ◌∷◌, ◌++◌, length, Option, Some, None, append_assoc}
+use Rattle.std.proofs.Common.{refl, sym}
 use Rattle.std.proofs.Common.{ap, subst, ◌∙◌}
 use Rattle.task_moves.specs.AbstractTask as abstract
 use Rattle.task_moves.specs.AbstractTask.{Left}
@@ -8,15 +9,17 @@ use Rattle.solo.specs.declared.names.SoloWaker.{SoloWaker}
 use Rattle.solo.specs.declared.owed.Lent.{Lent}
 use Rattle.solo.specs.declared.runs.Runner.{Runner}
 use Rattle.solo.specs.declared.solo.Solo.{Solo}
-use Rattle.plain_scheduler.specs.State.{Answers, Choice, Closed, Code, Drops, Event, Gave, Loses, Plain, Run, Taker, Try, Who, Yes}
+use Rattle.plain_scheduler.specs.State.{Answers, ARun, Choice, Closed, Code, Drops, Event, Gave, Loses, Plain, Run, Taker, Try, Yes}
 use Rattle.plain_scheduler.specs.Lists.{on, or}
 use Rattle.plain_scheduler.specs.Moves.{answers, becomes, called, changed, let_go, put, task, tell}
 use Rattle.plain_scheduler.specs.Takes as takes
 use Rattle.plain_scheduler.specs.Calls as calls
 use Rattle.plain_scheduler.specs.Calls.{Call, Ends, Pends, does}
 use Rattle.solo_laws.specs.Numbered.{IsNumbered}
+use Rattle.solo_laws.specs.Owner.{HasRoom, Owner}
 use Rattle.solo_laws.specs.Road.{awaiters, drops, lents, wakes}
 use Rattle.solo_laws.specs.RunGoing.{Dropping, IsEnding, Losing, Polling, RunsOn, Stage, code_at, drop_ends, in_try, loss_ends, poll_ends}
+use Rattle.solo_laws.specs.RunGoing.{taken_by}
 use Rattle.solo_laws.specs.RunResting.{EachListed}
 use Rattle.solo_laws.specs.Tabled.{Stands, goes_on}
 use Rattle.solo_laws.proofs.Following.Counted.{other_events}
@@ -40,11 +43,11 @@ module _ {A : Type 0} where
       (ap (λ u. u ∷ xs) (heads z v (xs ++ x ∷ []) (ys ++ y ∷ []) is) ∙ ap (λ us. v ∷ us) it.0, it.1)
 
 module _ {T X : Type 0} where
-  abbrev is_answer : Event T (SoloWaker X) → Bool
+  abbrev pub is_answer : Event T (SoloWaker X) → Bool
   is_answer (Answers answer) = true
   is_answer _ = false
 
-  unlike : (e d : Event T (SoloWaker X)) → is_answer e ≡ true → is_answer d ≡ false → e ≡ d → ⊥
+  pub unlike : (e d : Event T (SoloWaker X)) → is_answer e ≡ true → is_answer d ≡ false → e ≡ d → ⊥
   unlike e d one two same = clash (sym one ∙ (ap is_answer same ∙ two))
     where
       clash : true ≡ false → ⊥
@@ -113,8 +116,9 @@ module _ {T X : Type 0} where
   same_lents (Dropping f (Gave v)) by other rest = (refl, refl, refl)
   same_lents (Losing awaiter) by other rest = (refl, refl, refl)
 
-module _ {F T X : Type 0} (its : ℕ → Lent) (number : Who → ℕ) (c : Choice) (s : Solo F T X) (p : Plain T (SoloWaker X))
-    (both : Stands its s p) (n : IsNumbered number s.sleepers p.lying) (many : length p.lying ≤ c.tells) (stage : Stage T (SoloWaker X))
+module _ {F T X : Type 0} (its : ℕ → Lent) (owner : Owner) (c : Choice) (s : Solo F T X) (p : Plain T (SoloWaker X))
+    (both : Stands its s p) (n : IsNumbered owner.number s.sleepers p.lying) (many : length p.lying ≤ c.tells)
+    (stage : Stage T (SoloWaker X))
     (r : ℕ) (w : SoloWaker X) (rest : List (Code T (SoloWaker X))) (call : Call T (SoloWaker X))
     (is : p.inside ≡ code_at stage (Run r w) ∷ rest) (ends : IsEnding stage call) where
   abbrev tried : Plain T (SoloWaker X)
@@ -137,14 +141,14 @@ module _ {F T X : Type 0} (its : ℕ → Lent) (number : Who → ℕ) (c : Choic
 
   -- where the last that is shown is no answer, both are in that code
   pub stays_alike : (shown : List (Event T (SoloWaker X))) (e : Event T (SoloWaker X)) (z : Solo F T X) → is_answer e ≡ false
-      → Stands its z a → a.events ≡ p.events ++ (shown ++ e ∷ []) → IsNumbered number z.sleepers a.lying
-      → Reached its p (shown ++ e ∷ []) number z b
+      → Stands its z a → a.events ≡ p.events ++ (shown ++ e ∷ []) → IsNumbered owner.number z.sleepers a.lying
+      → Reached its p (shown ++ e ∷ []) owner.number z b
   stays_alike shown e z unanswered stands seen numbered = by how
     where
       seen_so : a.events ≡ (p.events ++ shown) ++ e ∷ []
       seen_so = seen ∙ sym (append_assoc p.events shown (e ∷ []))
 
-      by : EndsAs c r w a b → Reached its p (shown ++ e ∷ []) number z b
+      by : EndsAs c r w a b → Reached its p (shown ++ e ∷ []) owner.number z b
       by (is_over q one two) =
           absurd (unlike (Answers Yes) e refl unanswered
           (same_last q.events (p.events ++ shown) (Answers Yes) e
@@ -152,26 +156,48 @@ module _ {F T X : Type 0} (its : ℕ → Lent) (number : Who → ℕ) (c : Choic
       by (stays_in stage' q events e' not_so last one two) =
           let same = same_lents stage' (Run r w) Try q.inside in
           let there : Stands its z (record q { inside = code_at stage' Try ∷ q.inside }) = subst (Stands its z) one stands in
-          subst (λ q. Reached its p (shown ++ e ∷ []) number z q) (sym two) (
+          subst (λ q. Reached its p (shown ++ e ∷ []) owner.number z q) (sym two) (
             (
               same_hands its z (record q { inside = code_at stage' Try ∷ q.inside }) there c (code_at stage' (Run r w) ∷ q.inside) same.0
                   same.1 same.2,
               sym (ap (λ (q : Plain T (SoloWaker X)). q.events) one) ∙ seen,
             ),
-            subst (λ (q : Plain T (SoloWaker X)). IsNumbered number z.sleepers q.lying) one numbered,
+            subst (λ (q : Plain T (SoloWaker X)). IsNumbered owner.number z.sleepers q.lying) one numbered,
           )
 
   -- where it is an answer the run goes on
-  pub goes_alike : (runner : Runner) → runner.number ≡ r → (shown others : List (Event T (SoloWaker X))) (now : Who → ℕ)
-      (y z : Solo F T X) → Stands its y a → a.events ≡ p.events ++ (shown ++ Answers Yes ∷ []) → IsNumbered number y.sleepers a.lying
-      → EachListed y.runs → has_own r y.runs ≡ true → length a.lying ≤ c.tells
-      → RunsOn its number c runner w y (record a { events = p.events ++ shown }) others now z
-      → Reached its p (shown ++ others) now z b
-  goes_alike runner same shown others now y z stands seen numbered listed has few on = by how
+  pub goes_next : (shown : List (Event T (SoloWaker X))) → a.events ≡ p.events ++ (shown ++ Answers Yes ∷ [])
+      → takes.next wakes c (Run r w) (record a { events = p.events ++ shown }) ≡ b
+  goes_next shown seen = by how
     where
       seen_so : a.events ≡ (p.events ++ shown) ++ Answers Yes ∷ []
       seen_so = seen ∙ sym (append_assoc p.events shown (Answers Yes ∷ []))
 
+      by : EndsAs c r w a b → takes.next wakes c (Run r w) (record a { events = p.events ++ shown }) ≡ b
+      by (stays_in stage' q events e not_so last one two) =
+          absurd (unlike (Answers Yes) e refl not_so
+          (sym (same_last events (p.events ++ shown) e (Answers Yes)
+          (sym last ∙ (sym (ap (λ (q : Plain T (SoloWaker X)). q.events) one) ∙ seen_so))).1))
+      by (is_over q one two) =
+          let before =
+          (same_last q.events (p.events ++ shown) (Answers Yes) (Answers Yes)
+          (sym (ap (λ (q : Plain T (SoloWaker X)). q.events) one) ∙ seen_so)).0 in
+          let mid_is : record a { events = p.events ++ shown } ≡ q =
+          ap (λ (q : Plain T (SoloWaker X)). record q { events = p.events ++ shown }) one
+          ∙ ap (λ es. record q { events = es }) (sym before) in
+          ap (takes.next wakes c (Run r w)) mid_is ∙ sym two
+
+  pub goes_alike : (runner : Runner) → runner.number ≡ r → (shown others : List (Event T (SoloWaker X))) (now : Owner)
+      (y z : Solo F T X) → Stands its y a → a.events ≡ p.events ++ (shown ++ Answers Yes ∷ []) → IsNumbered owner.number y.sleepers a.lying
+      → EachListed y.runs → has_own r y.runs ≡ true → HasRoom (ARun runner.number) y a
+      → nat_lt (taken_by runner.number a) 200 ≡ not (owner.gives_way runner.number) → length a.lying ≤ c.tells
+      → RunsOn its owner c runner w y (record a { events = p.events ++ shown }) others now z
+      → Reached its p (shown ++ others) now.number z b
+  goes_alike runner same shown others now y z stands seen numbered listed has room way few on =
+      let it =
+      subst (λ q. Reached its mid others now.number z q) (ap (λ m. takes.next wakes c (Run m w) mid) same ∙ goes_next shown seen) next in
+      ((it.0.0, it.0.1 ∙ append_assoc p.events shown others), it.1)
+    where
       mid : Plain T (SoloWaker X)
       mid = record a { events = p.events ++ shown }
 
@@ -181,22 +207,5 @@ module _ {F T X : Type 0} (its : ℕ → Lent) (number : Who → ℕ) (c : Choic
       goes : goes_on runner.number mid ≡ true
       goes = going_there its y mid mid_both runner.number (ap (λ n. has_own n y.runs) same ∙ has)
 
-      next : Reached its mid others now z (takes.next wakes c (Run runner.number w) mid)
-      next = runs_on_alike its number c runner w y mid mid_both numbered listed few goes others now z on
-
-      by : EndsAs c r w a b → Reached its p (shown ++ others) now z b
-      by (stays_in stage' q events e not_so last one two) =
-          absurd (unlike (Answers Yes) e refl not_so
-          (sym (same_last events (p.events ++ shown) e (Answers Yes)
-          (sym last ∙ (sym (ap (λ (q : Plain T (SoloWaker X)). q.events) one) ∙ seen_so))).1))
-      by (is_over q one two) =
-          let before =
-          (same_last q.events (p.events ++ shown) (Answers Yes) (Answers Yes)
-          (sym (ap (λ (q : Plain T (SoloWaker X)). q.events) one) ∙ seen_so)).0 in
-          let mid_is : mid ≡ q =
-          ap (λ (q : Plain T (SoloWaker X)). record q { events = p.events ++ shown }) one
-          ∙ ap (λ es. record q { events = es }) (sym before) in
-          let end : takes.next wakes c (Run runner.number w) mid ≡ b =
-          ap (λ m. takes.next wakes c (Run m w) mid) same ∙ (ap (takes.next wakes c (Run r w)) mid_is ∙ sym two) in
-          let it = subst (λ q. Reached its mid others now z q) end next in
-          ((it.0.0, it.0.1 ∙ append_assoc p.events shown others), it.1)
+      next : Reached its mid others now.number z (takes.next wakes c (Run runner.number w) mid)
+      next = runs_on_alike its owner c runner w y mid mid_both numbered listed few goes room way others now z on

@@ -383,6 +383,8 @@ module _ {F T X : Type 0} (its : ℕ → Lent) (number : Who → ℕ) (s : Solo 
           leaving = t.leaving;
           leaving_open = t.leaving_open;
           leaving_limit = t.leaving_limit;
+          few = t.few;
+          unleaked = t.unleaked;
         }
       where
         queue : (b : Bool) (j : ℕ) → (j == r) ≡ b

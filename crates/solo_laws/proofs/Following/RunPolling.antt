@@ -83,6 +83,8 @@ module _ {F T X : Type 0} (its : ℕ → Lent) (s : Solo F T X) (p : Plain T (So
           leaving = t.leaving;
           leaving_open = t.leaving_open;
           leaving_limit = t.leaving_limit;
+          few = t.few;
+          unleaked = t.unleaked;
         },
       )
 

@@ -239,6 +239,7 @@ module _ {F T X : Type 0} (its : ℕ → Lent) (number : Who → ℕ) (s : Solo 
         awake = it.awake;
         seen = it.seen;
         inside = it.inside;
+        handed = it.handed;
         lent = it.lent;
       })
 
@@ -279,6 +280,7 @@ module _ {F T X : Type 0} (its : ℕ → Lent) (number : Who → ℕ) (s : Solo 
         awake = it.awake;
         seen = it.seen;
         inside = it.inside;
+        handed = it.handed;
         lent = it.lent;
       })
 
@@ -386,6 +388,7 @@ module _ {F T X : Type 0} (its : ℕ → Lent) (number : Who → ℕ) (s : Solo 
         awake = it.awake;
         seen = it.seen;
         inside = it.inside;
+        handed = it.handed;
         lent = it.lent;
       }))))
 

@@ -200,7 +200,8 @@ module _ {F T X : Type 0} (its : ℕ → Lent) (number : Who → ℕ) (c : Choic
             begun.1
             ∙ ap (λ cs. code_of (Run r w) found ++ cs)
             (ap (λ (q : Plain T (SoloWaker X)). q.inside) is ∙ (still.inside ∙ (u.still.inside ∙ inside)));
-        lent = begun.2;
+        handed = begun.2;
+        lent = begun.3;
       }
     where
       gone : (q' : Plain T (SoloWaker X)) → Moved (tell wakes c (up wakes c who p)) q'
@@ -269,6 +270,8 @@ module _ {F T X : Type 0} (its : ℕ → Lent) (number : Who → ℕ) (s : Solo 
           leaving = t.leaving;
           leaving_open = t.leaving_open;
           leaving_limit = t.leaving_limit;
+          few = t.few;
+          unleaked = t.unleaked;
         }
 
   -- what is found of a run's own queue
@@ -354,6 +357,7 @@ module _ {F T X : Type 0} (its : ℕ → Lent) (number : Who → ℕ) (s : Solo 
         awake = out.awake;
         seen = out.seen;
         inside = out.inside;
+        handed = out.handed;
         lent = out.lent;
       })) in
       subst

@@ -171,6 +171,7 @@ module _ {F T X : Type 0} (its : ℕ → Lent) (number : Who → ℕ) (s : Solo 
           awake = it.awake;
           seen = it.seen;
           inside = it.inside;
+          handed = it.handed;
           lent = it.lent;
         }))))
 

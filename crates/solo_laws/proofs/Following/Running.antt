@@ -135,6 +135,8 @@ module _ {F T X : Type 0} (its : ℕ → Lent) (number : Who → ℕ) (s : Solo 
           leaving = t.leaving;
           leaving_open = t.leaving_open;
           leaving_limit = t.leaving_limit;
+          few = t.few;
+          unleaked = t.unleaked;
         }
 
   made_by : (c : Choice) → many < most_accepted → IsMade its number s p (runs.made s) (answers Made after)

@@ -259,6 +259,8 @@ module _ {F T X : Type 0} (its : ℕ → Lent) (s : Solo F T X) (p : Plain T (So
     leaving = t.leaving;
     leaving_open = t.leaving_open;
     leaving_limit = t.leaving_limit;
+    few = subst (λ m. m ≤ most_accepted) (sym long) (omega (arith, few));
+    unleaked = t.unleaked;
     keys_apart =
         ap (λ fs. apart (map (key_of its) fs)) lives
         ∙ (ap apart (map_append (key_of its) (living_from 0 p.futures) (n ∷ []))

@@ -237,6 +237,8 @@ module _ {F T X : Type 0} (aside : Option Due) (its : ℕ → Lent) (r : ℕ) (s
           leaving = t.leaving;
           leaving_open = t.leaving_open;
           leaving_limit = t.leaving_limit;
+          few = t.few;
+          unleaked = t.unleaked;
         }
 
     moves : StandsBut aside its after (record p { due = now })

@@ -1,13 +1,13 @@
 -- The calls on tasks leave the table as the plain scheduler's futures, and the own queues as what its runs keep.
 use Rattle.std.proofs.Common.{◌≡◌, ℕ, ◌<◌, ◌==◌, not, cond, if◌then◌else◌, Bool, true, false, List, [], ◌∷◌, ◌++◌, length, map, filter}
-use Rattle.std.proofs.Common.{Option, Some, None, is_some, slice_get, refl, sym, ap, subst, ◌∙◌, arith}
+use Rattle.std.proofs.Common.{◌+◌, ◌≤◌, Option, Some, None, is_some, slice_get, refl, sym, ap, subst, ◌∙◌, arith}
 use Rattle.task_moves.specs.AbstractTask as abstract
 use Rattle.task_moves.specs.LocalTask as local
 use Rattle.task_moves.specs.LocalTask.{is_home, is_queued}
 use Rattle.task_moves.specs.declared.local_task.answers.FuturePlace.{FuturePlace}
 use Rattle.task_moves.specs.declared.local_task.answers.FuturePlace.TheVariants.{Home, Lent as IsLent, Dropping, Gone}
 use Rattle.task_moves.specs.declared.local_task.answers.Start.TheVariants.{Poll as StartPoll, Drop as StartDrop}
-use Rattle.queue_steps.specs.ClosableQueue.{ClosableQueue}
+use Rattle.queue_steps.specs.ClosableQueue.{ClosableQueue, most_accepted}
 use Rattle.executor_parts.specs.declared.places.EntryPlace.{EntryPlace}
 use Rattle.executor_parts.specs.Places.{set_future}
 use Rattle.solo.specs.declared.names.Task.{Task}
@@ -29,14 +29,15 @@ use Rattle.plain_scheduler.specs.Lists.{or, without}
 use Rattle.plain_scheduler.specs.Moves.{task, put, tell, becomes, is_kept}
 use Rattle.plain_scheduler.specs.Takes as takes
 use Rattle.plain_scheduler.specs.Calls as calls
-use Rattle.solo_laws.specs.Road.{IsTaskOf, Follows, is_in, apart, lents, drops, wakes, stands}
-use Rattle.solo_laws.specs.Tabled.{IsTable, IsTableBut, named, at_home, home_by, home_of, own_of, row_of, key_of, is_dropped, goes_on}
-use Rattle.solo_laws.proofs.Following.Lists.{get_below}
+use Rattle.solo_laws.specs.Road.{IsTaskOf, Follows, count_of, is_in, apart, lents, drops, wakes, stands}
+use Rattle.solo_laws.specs.Tabled.{IsTable, IsTableBut, Stands, named, at_home, home_by, home_of, own_of, row, row_of, key_of, is_dropped}
+use Rattle.solo_laws.specs.Tabled.{goes_on}
+use Rattle.solo_laws.proofs.Following.Lists.{get_below, length_map}
 use Rattle.solo_laws.proofs.Following.Lines.{without_other}
 use Rattle.solo_laws.proofs.Following.Due.{both_true, later, equal, lives}
 use Rattle.solo_laws.proofs.Following.Cells.{same_number, found, of_found, asks_found, changed_found, found_here, found_there}
 use Rattle.solo_laws.proofs.Following.Homes.{home_in}
-use Rattle.solo_laws.proofs.Following.Rows.{map_same_in, living_below, but_one, rows_set}
+use Rattle.solo_laws.proofs.Following.Rows.{map_same_in, living_below, living_long, but_one, rows_set}
 use Rattle.solo_laws.proofs.Following.Changing.{kept, task_is}
 use Rattle.solo_laws.proofs.Following.Frames.{Still, chain, put_still, becomes_still, tell_still, seen_still, due_still}
 use Rattle.solo_laws.proofs.Following.Bases.{Base, same}
@@ -89,6 +90,8 @@ module _ {F T X : Type 0} (its : ℕ → Lent) (c : Choice) where
     leaving = ap (λ (q : ClosableQueue Task). q.items) base.8 ∙ t.leaving;
     leaving_open = ap (λ (q : ClosableQueue Task). q.closed) base.8 ∙ t.leaving_open;
     leaving_limit = ap (λ (q : ClosableQueue Task). q.capacity) base.8 ∙ (t.leaving_limit ∙ ap (λ n. Some n) (sym stays.limit));
+    few = subst (λ n. n ≤ most_accepted) (sym stays.futures) t.few;
+    unleaked = λ owned. ap (λ (q : ClosableQueue Task). count_of q.accepted) base.8 ∙ t.unleaked (sym stays.static ∙ owned);
   }
     where
       going_on : ℕ → List Running → Bool
@@ -122,6 +125,8 @@ module _ {F T X : Type 0} (its : ℕ → Lent) (c : Choice) where
     leaving = t.leaving;
     leaving_open = t.leaving_open;
     leaving_limit = t.leaving_limit;
+    few = t.few;
+    unleaked = t.unleaked;
   }
 
   -- one more
@@ -215,6 +220,8 @@ module _ {F T X : Type 0} (its : ℕ → Lent) (c : Choice) where
         leaving = t.leaving;
         leaving_open = t.leaving_open;
         leaving_limit = t.leaving_limit;
+        few = t.few;
+        unleaked = t.unleaked;
       }
         where
           at : (b : Bool) (j : ℕ) (place : EntryPlace) → j < length p.futures → (f == j) ≡ b → home_of (named its j) now ≡ Some place
@@ -334,3 +341,16 @@ module _ {F T X : Type 0} (its : ℕ → Lent) (c : Choice) where
           (handed s p (p.events ++ Drops f ∷ []) (Drop f (Gave v) by ∷ rest)
           (λ j has. t.lent j (ap (λ cs. is_in j (lents cs)) stands_in ∙ has))
           (λ j has. t.dropping j (ap (λ cs. is_in j (drops cs)) stands_in ∙ has)) t)
+
+-- a leak, or the drop of the executor, takes out no more than a queue accepts
+pub leaves_few : {F T X : Type 0} (its : ℕ → Lent) (s : Solo F T X) (p : Plain T (SoloWaker X)) → Stands its s p → p.is_static ≡ false
+    → count_of s.leaving.accepted + length s.table.entries ≤ most_accepted
+leaves_few its s p both owned =
+    let long =
+    sym (length_map row s.table.entries)
+    ∙ (ap (λ rows. length rows) both.1.rows
+    ∙ length_map (row_of its (not p.is_static) (at_home its s.cells)) (calls.living_from 0 p.futures)) in
+    let none = both.1.unleaked owned in
+    let few = living_long p.futures 0 in
+    let life = both.1.few in
+    omega (arith, long, none, few, life)

@@ -149,7 +149,8 @@ module _ {F T X : Type 0} (its : ℕ → Lent) (number : Who → ℕ) (s : Solo 
                 step p.events (rings (ticks.tell_unless_answer dropped.told.sleeper y)) (found_as found)
                 (told_so.seen p.events u.seen) begun.0;
             inside = begun.1 ∙ ap (λ cs. code_of (Tick t w) found ++ cs) (still.inside ∙ u.still.inside);
-            lent = begun.2;
+            handed = begun.2;
+            lent = begun.3;
           })
         where
           same_task : (a b : Task) → ◌≡◌ {A = Option Task} (Some a) (Some b) → a ≡ b

@@ -4,7 +4,6 @@ use Rattle.solo.specs.declared.names.SoloWaker.{SoloWaker}
 use Rattle.solo.specs.declared.owed.Lent.{Lent}
 use Rattle.solo.specs.declared.solo.Solo.{Solo}
 use Rattle.plain_scheduler.specs.State.{Choice, Closed, Code, Drop, DropOwn, End, Event, Gave, Lose, Plain, Poll, PollOwn, Run, Taker}
-use Rattle.plain_scheduler.specs.State.{Who}
 use Rattle.plain_scheduler.specs.Calls.{Call, EndsWith, Ends, Pends, course, does, new}
 use Rattle.plain_scheduler.specs.Calls as plain
 use Rattle.solo_laws.specs.Courses.{Acts, Leads, Makes, cancels, copies, detaches, drops_handle, ends_closed, ends_given, gives, leads}
@@ -13,6 +12,7 @@ use Rattle.solo_laws.specs.Courses.{over_polled, own_ready, pends, polls, refuse
 use Rattle.solo_laws.specs.Courses.{run_leaves, run_looks, run_loses, run_polled, spawns, stays, takes, tick_leaves, tick_lies_refused}
 use Rattle.solo_laws.specs.Courses.{tick_refused, tick_rests, tick_takes, uses, wakes}
 use Rattle.solo_laws.specs.NoneLost.{NoneIsLost}
+use Rattle.solo_laws.specs.Owner.{Owner}
 use Rattle.solo_laws.specs.Road.{wakes as wakes_of}
 use Rattle.solo_laws.specs.RunGoing.{Dropping, IsEnding, Polling, Stage, code_at, drop_ends, loss_ends, poll_ends}
 use Rattle.solo_laws.proofs.Following.Kept.{Kept, more_aside}
@@ -88,7 +88,7 @@ module _ {F T X : Type 0} (its : ℕ → Lent) where
   makes_kept c s z p call shown (cancels f at life) = any_call c (plain.Call.Cancel f) p refl
   makes_kept c s z p call shown (detaches f at life) = any_call c (plain.Call.Detach f) p refl
   makes_kept c s z p call shown (drops_handle f at life) = any_call c (plain.Call.DropHandle f) p refl
-  makes_kept c s z p call shown (leaks owned life leaving) = any_call c plain.Call.Leak p refl
+  makes_kept c s z p call shown (leaks owned life) = any_call c plain.Call.Leak p refl
   makes_kept c s z p call shown (pends f by rest future one is life) = ends_kept c p (Polling f) by rest Pends is (poll_ends f)
   makes_kept c s z p call shown (gives f by rest v is) =
       λ has. giving c p (Poll f by) rest is v
@@ -101,48 +101,48 @@ module _ {F T X : Type 0} (its : ℕ → Lent) where
       λ has. ending c p (Lose awaiter by) rest is
       (lost_kept c awaiter by (record p { inside = rest }) nobody (none_left c p (Lose awaiter by) rest (λ g. refl) is nobody has))
 
-  acts_kept : (number : Who → ℕ) (c : Choice) (s : Solo F T X) (p : Plain T (SoloWaker X)) (now : Who → ℕ) (z : Solo F T X)
-      (call : Call T (SoloWaker X)) (shown : List (Event T (SoloWaker X))) → Acts its number c s p call shown now z → Calls c call p
-  acts_kept number c s p now z call shown (makes call' shown' z' how) = makes_kept c s z' p call' shown' how
-  acts_kept number c s p now z call shown (makes_tick granted) = any_call c plain.Call.NewTick p refl
-  acts_kept number c s p now z call shown (tick_takes t w task found first life) = any_call c (plain.Call.PollTick t w) p refl
-  acts_kept number c s p now z call shown (tick_rests t w none first granted room names more life) =
+  acts_kept : (owner : Owner) (c : Choice) (s : Solo F T X) (p : Plain T (SoloWaker X)) (now : Owner) (z : Solo F T X)
+      (call : Call T (SoloWaker X)) (shown : List (Event T (SoloWaker X))) → Acts its owner c s p call shown now z → Calls c call p
+  acts_kept owner c s p now z call shown (makes call' shown' z' how) = makes_kept c s z' p call' shown' how
+  acts_kept owner c s p now z call shown (makes_tick t new granted) = any_call c plain.Call.NewTick p refl
+  acts_kept owner c s p now z call shown (tick_takes t w task lives found first life) = any_call c (plain.Call.PollTick t w) p refl
+  acts_kept owner c s p now z call shown (tick_rests t w lives none first granted names more life) =
       any_call c (plain.Call.PollTick t w) p refl
-  acts_kept number c s p now z call shown (makes_run granted few) = any_call c plain.Call.NewRun p refl
-  acts_kept number c s p now z call shown (makes_no_run refused) = any_call c plain.Call.NewRun p refl
-  acts_kept number c s p now z call shown (run_polled runner w going free) = any_call c (plain.Call.PollRun runner.number w) p refl
-  acts_kept number c s p now z call shown (over_polled r w over) = any_call c (plain.Call.PollRun r w) p refl
-  acts_kept number c s p now z call shown (own_ready r w v rest is) =
+  acts_kept owner c s p now z call shown (makes_run granted few) = any_call c plain.Call.NewRun p refl
+  acts_kept owner c s p now z call shown (makes_no_run refused) = any_call c plain.Call.NewRun p refl
+  acts_kept owner c s p now z call shown (run_polled runner w going free) = any_call c (plain.Call.PollRun runner.number w) p refl
+  acts_kept owner c s p now z call shown (over_polled r w over) = any_call c (plain.Call.PollRun r w) p refl
+  acts_kept owner c s p now z call shown (own_ready r w v rest is) =
       λ has. giving c p (PollOwn r w) rest is v (none_left c p (PollOwn r w) rest (λ g. refl) is nobody has)
-  acts_kept number c s p now z call shown (run_looks runner w rest shown' now' z' is how) = run_kept c p runner.number w rest is
-  acts_kept number c s p now z call shown (run_goes_on stage runner w rest call' first others now' y z' is ends how on) =
+  acts_kept owner c s p now z call shown (run_looks runner w rest shown' now' z' its_runner is how) = run_kept c p runner.number w rest is
+  acts_kept owner c s p now z call shown (run_goes_on stage runner w rest call' first others now' y z' its_runner is ends how on) =
       ends_kept c p stage (Run runner.number w) rest call' is ends
-  acts_kept number c s p now z call shown (run_drops stage r w rest call' first f z' is ends how) =
+  acts_kept owner c s p now z call shown (run_drops stage r w rest call' first f z' is ends how) =
       ends_kept c p stage (Run r w) rest call' is ends
-  acts_kept number c s p now z call shown (run_loses stage r w rest call' first v z' is ends how) =
+  acts_kept owner c s p now z call shown (run_loses stage r w rest call' first v z' is ends how) =
       ends_kept c p stage (Run r w) rest call' is ends
-  acts_kept number c s p now z call shown (run_dropped r going free) = any_call c (plain.Call.DropRun r) p refl
-  acts_kept number c s p now z call shown (over_dropped r over) = any_call c (plain.Call.DropRun r) p refl
-  acts_kept number c s p now z call shown (run_leaves runner answer rest is life) =
+  acts_kept owner c s p now z call shown (run_dropped r going free) = any_call c (plain.Call.DropRun r) p refl
+  acts_kept owner c s p now z call shown (over_dropped r over) = any_call c (plain.Call.DropRun r) p refl
+  acts_kept owner c s p now z call shown (run_leaves runner answer rest is life) =
       λ has. ending c p (DropOwn runner.number answer) rest is
       (goes_kept c runner.number (record p { inside = rest }) nobody
       (none_left c p (DropOwn runner.number answer) rest (λ g. refl) is nobody has))
-  acts_kept number c s p now z call shown (makes_no_tick refused) = any_call c plain.Call.NewTick p refl
-  acts_kept number c s p now z call shown (tick_refused t w none first refused) = any_call c (plain.Call.PollTick t w) p refl
-  acts_kept number c s p now z call shown (tick_lies_refused t w none first refused room names again more life) =
+  acts_kept owner c s p now z call shown (makes_no_tick refused) = any_call c plain.Call.NewTick p refl
+  acts_kept owner c s p now z call shown (tick_refused t w lives none first refused) = any_call c (plain.Call.PollTick t w) p refl
+  acts_kept owner c s p now z call shown (tick_lies_refused t w lives none first refused names again more life) =
       any_call c (plain.Call.PollTick t w) p refl
-  acts_kept number c s p now z call shown (tick_leaves t life) = any_call c (plain.Call.DropTick t) p refl
+  acts_kept owner c s p now z call shown (tick_leaves t lives life) = any_call c (plain.Call.DropTick t) p refl
 
-  leads_kept : (list : List (Choice × Call T (SoloWaker X))) (number last : Who → ℕ) (s z : Solo F T X) (p : Plain T (SoloWaker X))
-      (shown : List (Event T (SoloWaker X))) → NoneIsLost p → Leads its list number s p shown last z
+  leads_kept : (list : List (Choice × Call T (SoloWaker X))) (owner last : Owner) (s z : Solo F T X) (p : Plain T (SoloWaker X))
+      (shown : List (Event T (SoloWaker X))) → NoneIsLost p → Leads its list owner s p shown last z
       → NoneIsLost (course wakes_of list p)
-  leads_kept list number last s z p shown has (stays number' s' p') = has
-  leads_kept list number last s z p shown has (leads c call rest before now later s' y z' p' first others many acts how) =
+  leads_kept list owner last s z p shown has (stays owner' s' p') = has
+  leads_kept list owner last s z p shown has (leads c call rest before now later s' y z' p' first others many acts how) =
       leads_kept rest now later y z' (does wakes_of c call p') others (acts_kept before c s' p' now y call first acts has) how
 
   -- from a new one on
-  pub none_lost : (limit : ℕ) (is_static : Bool) (list : List (Choice × Call T (SoloWaker X))) (number last : Who → ℕ)
-      (s z : Solo F T X) (shown : List (Event T (SoloWaker X))) → Leads its list number s (new limit is_static) shown last z
+  pub none_lost : (limit : ℕ) (is_static : Bool) (list : List (Choice × Call T (SoloWaker X))) (owner last : Owner)
+      (s z : Solo F T X) (shown : List (Event T (SoloWaker X))) → Leads its list owner s (new limit is_static) shown last z
       → NoneIsLost (course wakes_of list (new limit is_static))
-  none_lost limit is_static list number last s z shown how =
-      leads_kept list number last s z (new limit is_static) shown (new_kept T X limit is_static) how
+  none_lost limit is_static list owner last s z shown how =
+      leads_kept list owner last s z (new limit is_static) shown (new_kept T X limit is_static) how

@@ -115,7 +115,7 @@ module _ {F T X : Type 0} (its : ℕ → Lent) where
           (calling.handle_drops_shown its s r.whole r.follows c f (within.below its all gone left s p r f at)
           (within.few its all gone left s p r c many) life),
     )
-    on_task_alike c s z p call shown r many on (leaks owned life leaving) = absurd cc
+    on_task_alike c s z p call shown r many on (leaks owned life) = absurd cc
     on_task_alike c s z p call shown r many on (pends f by rest future one stands_in life) = absurd cc
     on_task_alike c s z p call shown r many on (gives f by rest v stands_in) = absurd cc
     on_task_alike c s z p call shown r many on (ends_given f v by rest one stands_in life) = absurd cc
@@ -160,7 +160,7 @@ module _ {F T X : Type 0} (its : ℕ → Lent) where
       ((calls_after_close its s p r).5 c f at many life, after.detaches_seen its s p r c f at many life)
   after_on_task c s z p call shown r many on (drops_handle f at life) =
       ((calls_after_close its s p r).7 c f at many life, after.handle_drops_seen its s p r c f at many life)
-  after_on_task c s z p call shown r many on (leaks owned life leaving) = absurd cc
+  after_on_task c s z p call shown r many on (leaks owned life) = absurd cc
   after_on_task c s z p call shown r many on (pends f by rest future one stands_in life) = absurd cc
   after_on_task c s z p call shown r many on (gives f by rest v stands_in) = absurd cc
   after_on_task c s z p call shown r many on (ends_given f v by rest one stands_in life) = absurd cc
@@ -215,8 +215,7 @@ module _ {F T X : Type 0} (its : ℕ → Lent) where
   last_calls_alike list s z p shown so all (first_drop c f left rest z' others living ready on) =
       let it : GoesOn its (closing.closed s) p (does wakes_of c DropExecutor p) (f ∷ left) [] (f ∷ left) =
       subst (λ fs. GoesOn its (closing.closed s) p (does wakes_of c DropExecutor p) fs [] fs) living
-      (closes_alike its c s p so ready.owned (all_there its s p so all ready.unpolled ready.undropped) ready.few ready.life
-      ready.leaving) in
+      (closes_alike its c s p so ready.owned (all_there its s p so all ready.unpolled ready.undropped) ready.few ready.life) in
       let then_so =
       close_alike (f ∷ left) rest (f ∷ []) left (closing.drained (closing.closed s)) z' (does wakes_of c DropExecutor p) others
       it.stands on in
@@ -224,8 +223,7 @@ module _ {F T X : Type 0} (its : ℕ → Lent) where
   last_calls_alike list s z p shown so all (no_drop c rest y z' more others living ready how on) =
       let it : Finishes its (closing.closed s) p (does wakes_of c DropExecutor p) =
       subst (λ fs. GoesOn its (closing.closed s) p (does wakes_of c DropExecutor p) fs [] fs) living
-      (closes_alike its c s p so ready.owned (all_there its s p so all ready.unpolled ready.undropped) ready.few ready.life
-      ready.leaving) in
+      (closes_alike its c s p so ready.owned (all_there its s p so all ready.unpolled ready.undropped) ready.few ready.life) in
       let same = drains_same (closing.closed s) it.last y it.shown more it.drains how in
       let closed : IsClosed its y (does wakes_of c DropExecutor p) =
       subst (λ (z : Solo F T X). IsClosed its z (does wakes_of c DropExecutor p)) same.0 it.closed in

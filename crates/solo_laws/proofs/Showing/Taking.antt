@@ -19,7 +19,7 @@ use Rattle.plain_scheduler.specs.Moves.{task, put, tell, enters, see}
 use Rattle.plain_scheduler.specs.Takes as takes
 use Rattle.plain_scheduler.specs.Calls as calls
 use Rattle.solo_laws.specs.Road.{FollowsBut, HasLife, wakes}
-use Rattle.solo_laws.specs.Shown.{rings, found_as, code_of, lent_as, TakesShown}
+use Rattle.solo_laws.specs.Shown.{rings, found_as, code_of, is_handed, lent_as, TakesShown}
 use Rattle.solo_laws.specs.Tabled.{Stands, named, home_by, home_of, at_home, is_dropped}
 use Rattle.solo_laws.proofs.Following.Due.{found_stands}
 use Rattle.solo_laws.proofs.Following.Cells.{of_found, asks_found}
@@ -43,7 +43,8 @@ module _ {F T X : Type 0} (its : ℕ → Lent) (c : Choice) where
   -- of what was found, where this was so before
   abbrev pub So : Taker (SoloWaker X) → Plain T (SoloWaker X) → Found F → Plain T (SoloWaker X) → Type 0
   So taker p found q =
-      (q.events ≡ p.events ++ found_as found) × (q.inside ≡ code_of taker found ++ p.inside) × lent_as its found
+      (q.events ≡ p.events ++ found_as found) × (q.inside ≡ code_of taker found ++ p.inside) × (is_handed found ≡ true)
+      × lent_as its found
 
   -- one that is ready is handed out, to be polled or dropped
   module _ (s : Solo F T X) (p : Plain T (SoloWaker X)) (both : Stands its s p) (f : ℕ) (live : is_dropped f p ≡ false)
@@ -82,6 +83,7 @@ module _ {F T X : Type 0} (its : ℕ → Lent) (c : Choice) where
             (sym its_future.1) (
               ap (λ n. p.events ++ Drops n ∷ []) (sym number),
               ap (λ n. Drop n Closed taker ∷ p.inside) (sym number),
+              refl,
               ap its (sym number),
             )
         by false =
@@ -92,6 +94,7 @@ module _ {F T X : Type 0} (its : ℕ → Lent) (c : Choice) where
                   ∙ ap (λ n. p.events ++ Polls n ∷ []) (sym number),
               ap (λ cs. Poll f taker ∷ cs) (put_inside f (abstract.begin_run (task f p)) p)
                   ∙ ap (λ n. Poll n taker ∷ p.inside) (sym number),
+              refl,
               ap its (sym number),
             )
 
@@ -141,5 +144,5 @@ module _ {F T X : Type 0} (its : ℕ → Lent) (s : Solo F T X) (p : Plain T (So
             step p.events (rings (turns.told_waker (solo.popped s))) (found_as (turns.begin_answer (named its d.future) z))
                 (told_shows (Some d) (named its) c (solo.popped s) left many some.1) begun.0,
             begun.1 ∙ ap (λ cs. code_of Try (turns.begin_answer (named its d.future) z) ++ cs) still.inside,
-            begun.2,
+            begun.3,
           )

@@ -11,9 +11,9 @@ pub returns-clause-later : goal.returns-clause-later
 returns-clause-later g c its number s p both n listed = runs_lie_refused its number s p both n listed
 
 pub returns-clause-led : goal.returns-clause-led
-returns-clause-led g c its number s p led =
-    let known = led_known its number s p led in
+returns-clause-led g c its owner s p led =
+    let known = led_known its owner s p led in
     let listed = each_listed (polled p) (busy p) s.runs known.listed in (
-      runs_refused its number s p known.stands known.numbered listed,
-      runs_lie_refused its number s p known.stands known.numbered listed,
+      runs_refused its owner.number s p known.stands known.numbered listed,
+      runs_lie_refused its owner.number s p known.stands known.numbered listed,
     )

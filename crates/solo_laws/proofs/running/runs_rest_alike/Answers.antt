@@ -8,6 +8,6 @@ pub returns-clause-listed : goal.returns-clause-listed
 returns-clause-listed g c its number s p both n listed = runs_rest its number s p both n listed
 
 pub returns-clause-led : goal.returns-clause-led
-returns-clause-led g c its number s p led =
-    let known = led_known its number s p led in
-    runs_rest its number s p known.stands known.numbered (each_listed (polled p) (busy p) s.runs known.listed)
+returns-clause-led g c its owner s p led =
+    let known = led_known its owner s p led in
+    runs_rest its owner.number s p known.stands known.numbered (each_listed (polled p) (busy p) s.runs known.listed)

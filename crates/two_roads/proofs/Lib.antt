@@ -1,0 +1,5 @@
+pub mod Words
+pub mod Tasks
+pub mod Moving
+pub mod Taking
+pub mod Calling

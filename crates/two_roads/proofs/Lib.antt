@@ -3,3 +3,4 @@ pub mod Tasks
 pub mod Moving
 pub mod Taking
 pub mod Calling
+pub mod Both

@@ -3,3 +3,4 @@
 #![tactic(auto)]
 
 pub mod names;
+pub mod together;

@@ -17,17 +17,23 @@ use Rattle.machine_roads.specs.Lone.{Ended, ends as ends_with, over}
 use Rattle.machine_roads.specs.Road.{Follows}
 use Rattle.machine_roads.specs.Seeing.{heard_in, shown as shown_alike}
 use Rattle.machine_roads.specs.View.{Output, wakes as wakes_in}
+use Rattle.solo_laws.specs.Closing.{IsClosed}
 use Rattle.solo_laws.specs.Courses.{Leads}
+use Rattle.solo_laws.specs.LastCalls.{LastCalls}
 use Rattle.solo_laws.specs.Road.{wakes}
+use Rattle.solo_laws.specs.Tabled.{Stands}
+use Rattle.solo_laws.proofs.Showing.AllThere.{none_lost}
 use Rattle.solo_laws.proofs.Showing.Courses.{leads_alike, new_known}
+use Rattle.solo_laws.proofs.Showing.LastCalls.{last_calls_alike}
 use Rattle.two_roads.specs.Renaming.{AreSame, event_as}
-use Rattle.two_roads.specs.Together.{AreAlike, as_heard, as_machines, ends_by, left_by, made_by, nothing, numbered}
+use Rattle.two_roads.specs.Together.{TellsOf, as_heard, as_machines, ends_by, left_by, made_by, nothing, numbered}
 use Rattle.two_roads.proofs.Calling.{courses_same}
 
-course_of_both : (xs ys : List (Choice × Call Output Waker)) (q : Plain Output Waker)
-    → course wakes_in (xs ++ ys) q ≡ course wakes_in ys (course wakes_in xs q)
-course_of_both [] ys q = refl
-course_of_both (x ∷ xs) ys q = course_of_both xs ys (does wakes_in x.0 x.1 q)
+module _ {T A : Type 0} (wakes_of : A → Option ℕ) where
+  course_of_both : (xs ys : List (Choice × Call T A)) (q : Plain T A)
+      → course wakes_of (xs ++ ys) q ≡ course wakes_of ys (course wakes_of xs q)
+  course_of_both [] ys q = refl
+  course_of_both (x ∷ xs) ys q = course_of_both xs ys (does wakes_of x.0 x.1 q)
 
 ends_lead : (q r : Plain Output Waker) (e : Ended q r) → course wakes_in (ends_by e) q ≡ r
 ends_lead q r (over z) = refl
@@ -41,7 +47,7 @@ leaves_so s q (l ∷ ls) go =
     let by = go.1.1 in
     let rest = made_by l.left go.1.0 ls go.1.2 in
     subst (λ z. Follows (left_by l.left ls).world z)
-    (sym (course_of_both (ends_by by.ended) rest (does wakes_in by.choice by.made q)
+    (sym (course_of_both wakes_in (ends_by by.ended) rest (does wakes_in by.choice by.made q)
     ∙ ap (course wakes_in rest) (ends_lead (does wakes_in by.choice by.made q) go.1.0 by.ended)))
     (leaves_so l.left go.1.0 ls go.1.2)
 
@@ -54,31 +60,60 @@ map_twice : {A B C : Type 0} (f : A → B) (g : B → C) (xs : List A) → map g
 map_twice f g [] = refl
 map_twice f g (x ∷ xs) = ap (λ ys. g (f x) ∷ ys) (map_twice f g xs)
 
-module _ {F T X : Type 0} (its : ℕ → Lent) (number : X → ℕ) where
-  pub together : (limit : ℕ) (kind : MachineKind) (solo_kind : Kind) (parties : ℕ) (ls : List Lone)
-      (go : GoAlike (start limit kind parties) (new limit (is_static_kind kind)) ls)
-      (calls : List (Choice × Call T (SoloWaker X))) (first last : Solo F T X) (shown : List (Event T (SoloWaker X)))
-      (before after : Who → ℕ) → IsNew limit solo_kind first → counts solo_kind ≡ not (is_static_kind kind)
-      → Leads its calls before first (new limit (is_static_kind kind)) shown after last
-      → AreSame nothing (numbered number) wakes calls (new limit (is_static_kind kind))
-      (made_by (start limit kind parties) (new limit (is_static_kind kind)) ls go)
-      → AreAlike its number (left_by (start limit kind parties) ls) last (course wakes calls (new limit (is_static_kind kind))) shown
-  together limit kind solo_kind parties ls go calls first last shown before after is_new counted led are =
-      let still = is_static_kind kind in
-      let p : Plain T (SoloWaker X) = new limit still in
-      let z : Plain T (SoloWaker X) = course wakes calls p in
-      let both =
-      leads_alike its calls before after first last p shown (new_known its before limit solo_kind still first is_new counted) led in
-      let named = courses_same nothing (numbered number) wakes wakes_in (wakes_so number) calls p
-          (made_by (start limit kind parties) (new limit still) ls go) are in
+module _ {T X : Type 0} (number : X → ℕ) (limit : ℕ) (kind : MachineKind) (parties : ℕ) (ls : List Lone)
+    (go : GoAlike (start limit kind parties) (new limit (is_static_kind kind)) ls) where
+  -- the same calls lead the other plain scheduler there, and what is shown is seen so
+  tells_of : (cs : List (Choice × Call T (SoloWaker X))) (shown : List (Event T (SoloWaker X)))
+      → AreSame nothing (numbered number) wakes cs (new limit (is_static_kind kind)) (made_by (start limit kind parties) (new limit (is_static_kind kind)) ls go)
+      → (course wakes cs (new limit (is_static_kind kind))).events ≡ shown
+      → TellsOf number (left_by (start limit kind parties) ls) (course wakes cs (new limit (is_static_kind kind))) shown
+  tells_of cs shown are seen =
+      let z : Plain T (SoloWaker X) = course wakes cs (new limit (is_static_kind kind)) in
+      let named = courses_same nothing (numbered number) wakes wakes_in (wakes_so number) cs (new limit (is_static_kind kind))
+          (made_by (start limit kind parties) (new limit (is_static_kind kind)) ls go) are in
       let follows : Follows (left_by (start limit kind parties) ls).world (as_machines number z) =
       subst (λ q. Follows (left_by (start limit kind parties) ls).world q) (sym named)
-      (leaves_so (start limit kind parties) (new limit still) ls go) in
+      (leaves_so (start limit kind parties) (new limit (is_static_kind kind)) ls go) in
       record {
-        stands = both.0.stands;
         follows = follows;
         seen =
             follows.seen
             ∙ (map_twice (event_as nothing (numbered number)) shown_alike z.events
-            ∙ ap (as_heard number) both.1);
+            ∙ ap (λ es. as_heard number es) seen);
       }
+
+  module _ {F : Type 0} (its : ℕ → Lent) (solo_kind : Kind) (first last : Solo F T X) (is_new : IsNew limit solo_kind first)
+      (counted : counts solo_kind ≡ not (is_static_kind kind)) (calls : List (Choice × Call T (SoloWaker X)))
+      (before after : Who → ℕ) where
+    pub together : (shown : List (Event T (SoloWaker X))) → Leads its calls before first (new limit (is_static_kind kind)) shown after last
+        → AreSame nothing (numbered number) wakes calls (new limit (is_static_kind kind)) (made_by (start limit kind parties) (new limit (is_static_kind kind)) ls go)
+        → Stands its last (course wakes calls (new limit (is_static_kind kind)))
+        × TellsOf number (left_by (start limit kind parties) ls) (course wakes calls (new limit (is_static_kind kind))) shown
+    together shown led are =
+        let both =
+        leads_alike its calls before after first last (new limit (is_static_kind kind)) shown
+        (new_known its before limit solo_kind (is_static_kind kind) first is_new counted) led in
+        (both.0.stands, tells_of calls shown are both.1)
+
+    -- and so with the executor's drop behind them
+    pub end_together : (ends : List (Choice × Call T (SoloWaker X))) (shown others : List (Event T (SoloWaker X))) (middle : Solo F T X)
+        → Leads its calls before first (new limit (is_static_kind kind)) shown after middle
+        → LastCalls its middle (course wakes calls (new limit (is_static_kind kind))) ends others last
+        → AreSame nothing (numbered number) wakes (calls ++ ends) (new limit (is_static_kind kind))
+        (made_by (start limit kind parties) (new limit (is_static_kind kind)) ls go)
+        → IsClosed its last (course wakes (calls ++ ends) (new limit (is_static_kind kind)))
+        × TellsOf number (left_by (start limit kind parties) ls) (course wakes (calls ++ ends) (new limit (is_static_kind kind))) (shown ++ others)
+    end_together ends shown others middle led then_so are =
+        let p : Plain T (SoloWaker X) = course wakes calls (new limit (is_static_kind kind)) in
+        let both =
+        leads_alike its calls before after first middle (new limit (is_static_kind kind)) shown
+        (new_known its before limit solo_kind (is_static_kind kind) first is_new counted) led in
+        let it =
+        last_calls_alike its ends middle last p others both.0.stands
+        (none_lost its limit (is_static_kind kind) calls before after first middle shown led) then_so in
+        let on = course_of_both wakes calls ends (new limit (is_static_kind kind)) in
+        (
+          subst (λ z. IsClosed its last z) (sym on) it.0,
+          tells_of (calls ++ ends) (shown ++ others) are
+          (ap (λ (z : Plain T (SoloWaker X)). z.events) on ∙ (it.1 ∙ ap (λ es. es ++ others) both.1)),
+        )

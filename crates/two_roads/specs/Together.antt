@@ -5,8 +5,6 @@ use Rattle.executor_model.specs.declared.op.Waker.TheVariants.{Task as TaskWaker
 use Rattle.executor_model.specs.Steps.{Machine}
 use Rattle.solo.specs.declared.names.SoloWaker.{SoloWaker}
 use Rattle.solo.specs.declared.names.SoloWaker.TheVariants.{Task as OfTask, Outside}
-use Rattle.solo.specs.declared.owed.Lent.{Lent}
-use Rattle.solo.specs.declared.solo.Solo.{Solo}
 use Rattle.plain_scheduler.specs.State.{Choice, Event, Plain}
 use Rattle.plain_scheduler.specs.Calls.{Call}
 use Rattle.machine_roads.specs.Course.{GoAlike, GoesBy, Lone}
@@ -14,7 +12,6 @@ use Rattle.machine_roads.specs.Lone.{Ended, ends as ends_with, over}
 use Rattle.machine_roads.specs.Road.{Follows}
 use Rattle.machine_roads.specs.Seeing.{heard_in, shown as shown_alike}
 use Rattle.machine_roads.specs.View.{Output}
-use Rattle.solo_laws.specs.Tabled.{Stands}
 use Rattle.two_roads.specs.Renaming.{event_as, renamed}
 
 -- the ends of user code, one after the other, each with what is chosen
@@ -49,10 +46,9 @@ module _ {T X : Type 0} (number : X → ℕ) where
   abbrev pub as_heard : List (Event T (SoloWaker X)) → List (Event Output Waker)
   as_heard es = map (λ e. shown_alike (event_as nothing (numbered number) e)) es
 
--- both stand where one plain scheduler does, and the trace of the one tells of the polls, drops, calls of wakers from outside and
--- answers that the other shows, in that order
-pub record AreAlike {F T X : Type 0} (its : ℕ → Lent) (number : X → ℕ) (m : Machine) (s : Solo F T X) (p : Plain T (SoloWaker X))
-    (shown : List (Event T (SoloWaker X))) : Type 0 where
-  pub stands : Stands its s p
+-- the machine stands where this plain scheduler does, but for names, and its trace tells of the polls, drops, calls of wakers from
+-- outside and answers that were shown, in that order
+pub record TellsOf {T X : Type 0} (number : X → ℕ) (m : Machine) (p : Plain T (SoloWaker X)) (shown : List (Event T (SoloWaker X))) : Type 0
+    where
   pub follows : Follows m.world (as_machines number p)
   pub seen : heard_in m.world.trace ≡ as_heard number shown

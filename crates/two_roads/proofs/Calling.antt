@@ -15,13 +15,14 @@ use Rattle.plain_scheduler.specs.Moves.{let_go, put, release, runs, see, task, t
 use Rattle.plain_scheduler.specs.Takes as takes
 use Rattle.plain_scheduler.specs.Calls as calls
 use Rattle.plain_scheduler.specs.Calls.{Call, course, does, is_granted, is_none, living_from}
-use Rattle.two_roads.specs.Renaming.{AreSame, ChooseAlike, answer_as, call_as, code_as, event_as, future_as, renamed, taker_as}
+use Rattle.two_roads.specs.Renaming.{AreSame, CallsAlike, ChooseAlike, EndsAlike, GoesOnAlike, InnermostAlike}
+use Rattle.two_roads.specs.Renaming.{answer_as, call_as, code_as, event_as, future_as, renamed, taker_as}
 use Rattle.two_roads.specs.Renaming.{more, none}
 use Rattle.two_roads.proofs.Words.{length_map, map_append}
 use Rattle.two_roads.proofs.Tasks.{asks_so, cancels_so, detaches_so, left_as, pends_so, polled_as, polls_so}
 use Rattle.two_roads.proofs.Moving.{Alike, Few, Goes, Setting, andthen, appended_alike, becomes_alike, called_alike, changed_alike}
 use Rattle.two_roads.proofs.Moving.{copied_alike, each_alike, enters_alike, given_back_alike, goes_alike, if_alike, its_task, leaves_alike}
-use Rattle.two_roads.proofs.Moving.{now, on_alike, other, put_alike, put_so, release_alike, repeat_alike, runs_alike, see_alike, stays}
+use Rattle.two_roads.proofs.Moving.{now, on_alike, put_alike, put_so, release_alike, repeat_alike, runs_alike, see_alike, stays}
 use Rattle.two_roads.proofs.Moving.{task_alike, tell_alike, used_alike, wake_alike}
 use Rattle.two_roads.proofs.Taking.{Same, answers_same, dropped_same, dropping_alike, ended_same, if_same, into, left, lost_same, next_same}
 use Rattle.two_roads.proofs.Taking.{see_same, take_same, taker, tells, tells_as}
@@ -31,7 +32,7 @@ module _ {T U A B : Type 0} (k : Setting T U A B) where
   c = k.choice
 
   abbrev d : Choice
-  d = other k
+  d = k.other
 
   abbrev future : Future T A → Future U B
   future x = future_as k.output k.waker x
@@ -49,10 +50,12 @@ module _ {T U A B : Type 0} (k : Setting T U A B) where
       ap (λ ns. cond x.is_dropped ns (n ∷ ns)) (living_so (suc n) xs)
 
   granted_same : (x : Plain T A) (y : Plain U B) (p : Plain T A) → Same k x y
-      → Same k (cond (is_granted c.refusal) x (answers NoMemory p)) (cond (is_granted c.refusal) y (answers NoMemory (now k p)))
+      → Same k (cond (is_granted c.refusal) x (answers NoMemory p)) (cond (is_granted d.refusal) y (answers NoMemory (now k p)))
   granted_same x y p one =
-      if_same k (is_granted c.refusal) x (answers NoMemory p) y (answers NoMemory (now k p)) one
-      (answers_same k NoMemory p (now k p) refl)
+      subst
+      (λ r. Same k (cond (is_granted c.refusal) x (answers NoMemory p)) (cond (is_granted r) y (answers NoMemory (now k p)))) k.refusal
+      (if_same k (is_granted c.refusal) x (answers NoMemory p) y (answers NoMemory (now k p)) one
+      (answers_same k NoMemory p (now k p) refl))
 
   -- spawns
   entered_alike : (mark : Mark) → Goes k (calls.entered k.wakes c mark) (calls.entered k.wakes_as d mark)
@@ -70,19 +73,19 @@ module _ {T U A B : Type 0} (k : Setting T U A B) where
       subst
       (λ n. Same k (calls.spawn k.wakes c mark p)
       (cond (nat_lt (length n) p.limit)
-      (cond (is_granted c.refusal) (answers Made (made_as (length (map future p.futures)) (now k p))) (answers NoMemory (now k p)))
+      (cond (is_granted d.refusal) (answers Made (made_as (length (map future p.futures)) (now k p))) (answers NoMemory (now k p)))
       (answers Full (now k p))))
       (sym (living_so 0 p.futures))
       (subst
       (λ n. Same k (calls.spawn k.wakes c mark p)
       (cond (nat_lt (length (living_from 0 p.futures)) p.limit)
-      (cond (is_granted c.refusal) (answers Made (made_as n (now k p))) (answers NoMemory (now k p)))
+      (cond (is_granted d.refusal) (answers Made (made_as n (now k p))) (answers NoMemory (now k p)))
       (answers Full (now k p))))
       (sym (length_map future p.futures))
       (if_same k (nat_lt (length (living_from 0 p.futures)) p.limit)
       (cond (is_granted c.refusal) (answers Made (made (length p.futures) p)) (answers NoMemory p))
       (answers Full p)
-      (cond (is_granted c.refusal) (answers Made (made_as (length p.futures) (now k p))) (answers NoMemory (now k p)))
+      (cond (is_granted d.refusal) (answers Made (made_as (length p.futures) (now k p))) (answers NoMemory (now k p)))
       (answers Full (now k p))
       (granted_same (answers Made (made (length p.futures) p)) (answers Made (made_as (length p.futures) (now k p))) p
       (says Made (made (length p.futures) p) (made_as (length p.futures) (now k p))
@@ -192,7 +195,7 @@ module _ {T U A B : Type 0} (k : Setting T U A B) where
           (becomes_alike k (tells k) (tells_as k) (tell_alike k) f l.task (its_task k l.task) refl p few)
           (λ q few.
           ended_same k f (record l { task = task f q }) (record (left k l) { task = task f (now k q) })
-          (ap (λ (t : AbstractTask U B). record (left k l) { task = t }) (task_alike k f q)) None q few)
+          (ap (λ (t : AbstractTask U B). record (left k l) { task = t }) (task_alike k f q)) None tt q few)
 
   -- a run that goes
   gone_alike : (r : ℕ) → Goes k (calls.gone k.wakes c r) (calls.gone k.wakes_as d r)
@@ -257,42 +260,42 @@ module _ {T U A B : Type 0} (k : Setting T U A B) where
       (enters_alike k (Closing fs all))).same
 
   -- the ends of users' code
-  goes_on_same : (f : ℕ) (by : Taker A) (p : Plain T A) → Few k p
+  goes_on_same : (f : ℕ) (by : Taker A) → GoesOnAlike c d by → (p : Plain T A) → Few k p
       → Same k (takes.next k.wakes c by (becomes k.wakes (tells k) f (abstract.end_pending (task f p)).task p))
       (takes.next k.wakes_as d (taker k by) (becomes k.wakes_as (tells_as k) f (abstract.end_pending (task f (now k p))).task (now k p)))
-  goes_on_same f by p few =
+  goes_on_same f by on_so p few =
       into k (takes.next k.wakes c by) (takes.next k.wakes_as d (taker k by))
       (becomes_alike k (tells k) (tells_as k) (tell_alike k) f (abstract.end_pending (task f p)).task
       (abstract.end_pending (task f (now k p))).task
       (ap (λ (l : abstract.Left U B). l.task)
       (pends_so k.output k.waker (task f p) ∙ ap (λ (t : AbstractTask U B). abstract.end_pending t) (task_alike k f p)))
       p few)
-      (next_same k by)
+      (next_same k by on_so)
 
-  pending_same : (e : abstract.PendingEnd) (f : ℕ) (by : Taker A) (p : Plain T A) → Few k p
+  pending_same : (e : abstract.PendingEnd) (f : ℕ) (by : Taker A) → GoesOnAlike c d by → (p : Plain T A) → Few k p
       → Same k (calls.pending_by k.wakes c e f by p) (calls.pending_by k.wakes_as d e f (taker k by) (now k p))
-  pending_same abstract.PendingEnd.Drops f by p few = (dropping_alike k f Closed by p few).same
-  pending_same abstract.PendingEnd.Forgets f by p few =
+  pending_same abstract.PendingEnd.Drops f by on_so p few = (dropping_alike k f Closed by p few).same
+  pending_same abstract.PendingEnd.Forgets f by on_so p few =
       into k (takes.dropping k.wakes c f Closed by) (takes.dropping k.wakes_as d f Closed (taker k by))
       (put_so k f (record (task f p) { phase = abstract.Phase.Finished; closed = true })
       (record (task f (now k p)) { phase = abstract.Phase.Finished; closed = true })
       (ap (λ (t : AbstractTask U B). record t { phase = abstract.Phase.Finished; closed = true }) (task_alike k f p)) p few)
       (λ q few. (dropping_alike k f Closed by q few).same)
-  pending_same abstract.PendingEnd.Queues f by p few = goes_on_same f by p few
-  pending_same abstract.PendingEnd.Rests f by p few = goes_on_same f by p few
+  pending_same abstract.PendingEnd.Queues f by on_so p few = goes_on_same f by on_so p few
+  pending_same abstract.PendingEnd.Rests f by on_so p few = goes_on_same f by on_so p few
 
-  pends_same : (code : Code T A) (p : Plain T A) → Few k p
+  pends_same : (code : Code T A) → EndsAlike c d code → (p : Plain T A) → Few k p
       → Same k (calls.pends k.wakes c code p) (calls.pends k.wakes_as d (code_so code) (now k p))
-  pends_same (Poll f by) p few =
+  pends_same (Poll f by) alike p few =
       subst
       (λ (t : AbstractTask U B). Same k (calls.pends k.wakes c (Poll f by) p)
       (calls.pending_by k.wakes_as d (abstract.pending_end t) f (taker k by) (now k p)))
-      (task_alike k f p) (pending_same (abstract.pending_end (task f p)) f by p few)
-  pends_same (PollOwn r w) p few = take_same k (Run r w) p few
-  pends_same (Drop f end by) p few = refl
-  pends_same (Lose awaiter by) p few = refl
-  pends_same (DropOwn r answer) p few = refl
-  pends_same (Closing fs all) p few = refl
+      (task_alike k f p) (pending_same (abstract.pending_end (task f p)) f by alike p few)
+  pends_same (PollOwn r w) alike p few = take_same k (Run r w) p alike few
+  pends_same (Drop f end by) alike p few = refl
+  pends_same (Lose awaiter by) alike p few = refl
+  pends_same (DropOwn r answer) alike p few = refl
+  pends_same (Closing fs all) alike p few = refl
 
   gives_same : (v : T) (code : Code T A) (p : Plain T A) → Few k p
       → Same k (calls.gives k.wakes c v code p) (calls.gives k.wakes_as d (k.output v) (code_so code) (now k p))
@@ -303,22 +306,28 @@ module _ {T U A B : Type 0} (k : Setting T U A B) where
   gives_same v (DropOwn r answer) p few = refl
   gives_same v (Closing fs all) p few = refl
 
-  ends_same : (code : Code T A) (p : Plain T A) → Few k p
+  ends_same : (code : Code T A) → EndsAlike c d code → (p : Plain T A) → Few k p
       → Same k (calls.ends k.wakes c code p) (calls.ends k.wakes_as d (code_so code) (now k p))
-  ends_same (Drop f end by) p few = dropped_same k f end by p few
-  ends_same (Lose awaiter by) p few = lost_same k awaiter by p few
-  ends_same (DropOwn r answer) p few =
+  ends_same (Drop f end by) alike p few = dropped_same k f end by alike p few
+  ends_same (Lose awaiter by) alike p few = lost_same k awaiter by alike p few
+  ends_same (DropOwn r answer) alike p few =
       says answer (calls.gone k.wakes c r p) (calls.gone k.wakes_as d r (now k p)) (gone_alike r p few)
-  ends_same (Closing fs all) p few = close_same fs all p few
-  ends_same (Poll f by) p few = refl
-  ends_same (PollOwn r w) p few = refl
+  ends_same (Closing fs all) alike p few = close_same fs all p few
+  ends_same (Poll f by) alike p few = refl
+  ends_same (PollOwn r w) alike p few = refl
 
   innermost_same : (end : Code T A → Plain T A → Plain T A) (end_as : Code U B → Plain U B → Plain U B)
-      → ((code : Code T A) (p : Plain T A) → Few k p → Same k (end code p) (end_as (code_so code) (now k p)))
-      → (codes : List (Code T A)) (p : Plain T A) → Few k p
+      → ((code : Code T A) → EndsAlike c d code → (p : Plain T A) → Few k p → Same k (end code p) (end_as (code_so code) (now k p)))
+      → (codes : List (Code T A)) → InnermostAlike c d codes → (p : Plain T A) → Few k p
       → Same k (calls.innermost k.wakes c codes end p) (calls.innermost k.wakes_as d (map code_so codes) end_as (now k p))
-  innermost_same end end_as both [] p few = refl
-  innermost_same end end_as both (code ∷ rest) p few = both code (record p { inside = rest }) few
+  innermost_same end end_as both [] alike p few = refl
+  innermost_same end end_as both (code ∷ rest) alike p few = both code alike (record p { inside = rest }) few
+
+  gives_innermost : (v : T) (codes : List (Code T A)) (p : Plain T A) → Few k p
+      → Same k (calls.innermost k.wakes c codes (calls.gives k.wakes c v) p)
+      (calls.innermost k.wakes_as d (map code_so codes) (calls.gives k.wakes_as d (k.output v)) (now k p))
+  gives_innermost v [] p few = refl
+  gives_innermost v (code ∷ rest) p few = gives_same v code (record p { inside = rest }) few
 
   over_same : (r : ℕ) (a : Answer T) (code : Code T A) (p : Plain T A) → Few k p
       → Same k (cond (or (slice_get p.runs r) (λ run. run.is_over) true) (answers a p) (enters code p))
@@ -328,11 +337,11 @@ module _ {T U A B : Type 0} (k : Setting T U A B) where
       (answers (answer_as k.output a) (now k p)) (enters (code_so code) (now k p)) (answers_same k a p (now k p) refl) refl
 
   -- each call
-  call_same : (call : Call T A) (p : Plain T A) → Few k p
+  call_same : (call : Call T A) (p : Plain T A) → CallsAlike c d p call → Few k p
       → Same k (does k.wakes c call p) (does k.wakes_as d (call_as k.output k.waker call) (now k p))
-  call_same (calls.Spawn mark) p few = spawn_same mark p few
-  call_same calls.TryTick p few = take_same k Try p few
-  call_same calls.IsEmpty p few =
+  call_same (calls.Spawn mark) p alike few = spawn_same mark p few
+  call_same calls.TryTick p alike few = take_same k Try p alike few
+  call_same calls.IsEmpty p alike few =
       answers_same k (cond (is_none (living_from 0 p.futures)) Yes No) p (now k p) refl
       ∙ ap (λ (a : Answer U). answers a (now k p))
       (by (is_none (living_from 0 p.futures))
@@ -341,65 +350,52 @@ module _ {T U A B : Type 0} (k : Setting T U A B) where
       by : (b : Bool) → answer_as k.output (cond b Yes No) ≡ cond b Yes No
       by true = refl
       by false = refl
-  call_same (calls.Wake f) p few =
+  call_same (calls.Wake f) p alike few =
       says Done (wake k.wakes (tells k) f p) (wake k.wakes_as (tells_as k) f (now k p))
       (wake_alike k (tells k) (tells_as k) (tell_alike k) f p few)
-  call_same (calls.Use f) p few =
+  call_same (calls.Use f) p alike few =
       says Done (used k.wakes (tells k) f p) (used k.wakes_as (tells_as k) f (now k p))
       (used_alike k (tells k) (tells_as k) (tell_alike k) f p few)
-  call_same (calls.Copy f) p few =
+  call_same (calls.Copy f) p alike few =
       granted_same (answers Made (put f (abstract.copy (task f p)) p)) (answers Made (put f (abstract.copy (task f (now k p))) (now k p))) p
       (says Made (put f (abstract.copy (task f p)) p) (put f (abstract.copy (task f (now k p))) (now k p))
       (put_so k f (abstract.copy (task f p)) (abstract.copy (task f (now k p)))
       (ap (λ (t : AbstractTask U B). abstract.copy t) (task_alike k f p)) p few))
-  call_same (calls.Release f) p few =
+  call_same (calls.Release f) p alike few =
       says Done (release k.wakes (tells k) f p) (release k.wakes_as (tells_as k) f (now k p))
       (release_alike k (tells k) (tells_as k) (tell_alike k) f p few)
-  call_same (calls.PollHandle f w) p few = handle_same f w p few
-  call_same (calls.Cancel f) p few =
+  call_same (calls.PollHandle f w) p alike few = handle_same f w p few
+  call_same (calls.Cancel f) p alike few =
       says Done (calls.cancel k.wakes c f p) (calls.cancel k.wakes_as d f (now k p)) (cancel_alike f p few)
-  call_same (calls.Detach f) p few = detach_same f p few
-  call_same (calls.DropHandle f) p few =
+  call_same (calls.Detach f) p alike few = detach_same f p few
+  call_same (calls.DropHandle f) p alike few =
       into k (calls.detach k.wakes c f) (calls.detach k.wakes_as d f) (cancel_alike f p few) (detach_same f)
-  call_same calls.NewTick p few =
+  call_same calls.NewTick p alike few =
       granted_same (answers Made p) (answers Made (now k p)) p (answers_same k Made p (now k p) refl)
-  call_same (calls.PollTick t w) p few = take_same k (Tick t w) p few
-  call_same (calls.DropTick t) p few =
+  call_same (calls.PollTick t w) p alike few = take_same k (Tick t w) p alike few
+  call_same (calls.DropTick t) p alike few =
       says Done (leaves k.wakes c (ATick t) p) (leaves k.wakes_as d (ATick t) (now k p)) (leaves_alike k (ATick t) p few)
-  call_same calls.NewRun p few =
+  call_same calls.NewRun p alike few =
       let more : Plain T A = record p { runs = p.runs ++ record { taken = 0; is_over = false } ∷ [] } in
       granted_same (answers Made more) (answers Made (now k more)) p (answers_same k Made more (now k more) refl)
-  call_same (calls.PollRun r w) p few = over_same r Finished (PollOwn r w) p few
-  call_same (calls.DropRun r) p few = over_same r Done (DropOwn r Done) p few
-  call_same calls.Leak p few = says Done (calls.leak k.wakes c p) (calls.leak k.wakes_as d (now k p)) (leak_alike p few)
-  call_same calls.DropExecutor p few =
+  call_same (calls.PollRun r w) p alike few = over_same r Finished (PollOwn r w) p few
+  call_same (calls.DropRun r) p alike few = over_same r Done (DropOwn r Done) p few
+  call_same calls.Leak p alike few = says Done (calls.leak k.wakes c p) (calls.leak k.wakes_as d (now k p)) (leak_alike p few)
+  call_same calls.DropExecutor p alike few =
       subst (λ ns. Same k (does k.wakes c calls.DropExecutor p) (calls.close k.wakes_as d ns ns (now k p)))
       (sym (living_so 0 p.futures)) (close_same (living_from 0 p.futures) (living_from 0 p.futures) p few)
-  call_same calls.Pends p few =
-      innermost_same (calls.pends k.wakes c) (calls.pends k.wakes_as d) pends_same p.inside p few
-  call_same (calls.EndsWith v) p few =
-      innermost_same (calls.gives k.wakes c v) (calls.gives k.wakes_as d (k.output v)) (gives_same v) p.inside p few
-  call_same calls.Ends p few =
-      innermost_same (calls.ends k.wakes c) (calls.ends k.wakes_as d) ends_same p.inside p few
-
--- two that choose alike are one, but for whom they tell
-one_choice : (c d : Choice) → ChooseAlike c d → record c { tells = d.tells } ≡ d
-one_choice c d alike =
-    ap (λ first. record c { first = first; tells = d.tells }) alike.first
-    ∙ (ap (λ keeps. record c { first = d.first; keeps = keeps; tells = d.tells }) alike.keeps
-    ∙ (ap (λ robs. record d { robs = robs; moves = c.moves; refusal = c.refusal }) alike.robs
-    ∙ (ap (λ moves. record d { moves = moves; refusal = c.refusal }) alike.moves
-    ∙ ap (λ refusal. record d { refusal = refusal }) alike.refusal)))
+  call_same calls.Pends p alike few =
+      innermost_same (calls.pends k.wakes c) (calls.pends k.wakes_as d) pends_same p.inside alike p few
+  call_same (calls.EndsWith v) p alike few = gives_innermost v p.inside p few
+  call_same calls.Ends p alike few =
+      innermost_same (calls.ends k.wakes c) (calls.ends k.wakes_as d) ends_same p.inside alike p few
 
 module _ {T U A B : Type 0} (output : T → U) (waker : A → B) (wakes : A → Option ℕ) (wakes_as : B → Option ℕ)
     (same : (a : A) → wakes_as (waker a) ≡ wakes a) where
-  pub calls_same : (c d : Choice) → ChooseAlike c d → (call : Call T A) (p : Plain T A) → length p.lying ≤ c.tells
-      → length p.lying ≤ d.tells
+  calls_same : (c d : Choice) (call : Call T A) (p : Plain T A) → ChooseAlike c d p call
       → renamed output waker (does wakes c call p) ≡ does wakes_as d (call_as output waker call) (renamed output waker p)
-  calls_same c d alike call p few few_as =
-      subst (λ d. renamed output waker (does wakes c call p) ≡ does wakes_as d (call_as output waker call) (renamed output waker p))
-      (one_choice c d alike)
-      (call_same
+  calls_same c d call p alike =
+      call_same
       (record {
         output = output;
         waker = waker;
@@ -407,12 +403,13 @@ module _ {T U A B : Type 0} (output : T → U) (waker : A → B) (wakes : A → 
         wakes_as = wakes_as;
         same = same;
         choice = c;
-        tells = d.tells;
+        other = d;
         many = length p.lying;
-        low = few;
-        low_as = few_as;
+        low = alike.tells;
+        low_as = alike.tells_so;
+        refusal = alike.refusal;
       })
-      call p (least (length p.lying)))
+      call p alike.takes (least (length p.lying))
     where
       least : (n : ℕ) → n ≤ n
       least n = omega arith
@@ -420,5 +417,5 @@ module _ {T U A B : Type 0} (output : T → U) (waker : A → B) (wakes : A → 
   pub courses_same : (cs : List (Choice × Call T A)) (p : Plain T A) (ds : List (Choice × Call U B)) → AreSame output waker wakes cs p ds
       → renamed output waker (course wakes cs p) ≡ course wakes_as ds (renamed output waker p)
   courses_same cs p ds (none q) = refl
-  courses_same cs p ds (more c d call cs1 q ds1 alike few few_as rest) =
-      courses_same cs1 (does wakes c call q) ds1 rest ∙ ap (course wakes_as ds1) (calls_same c d alike call q few few_as)
+  courses_same cs p ds (more c d call cs1 q ds1 alike rest) =
+      courses_same cs1 (does wakes c call q) ds1 rest ∙ ap (course wakes_as ds1) (calls_same c d call q alike)

@@ -16,7 +16,7 @@ use Rattle.two_roads.specs.Renaming.{answer_as, code_as, event_as, future_as, ly
 use Rattle.two_roads.proofs.Words.{any_map, at_most, fewer_without, find_map, last_at, length_map, length_set, map_append, set_map, without_map}
 use Rattle.two_roads.proofs.Tasks.{releases_so, uses_so, wakes_so}
 
--- the names, what is chosen, how many the other tells of, and how many may lie
+-- the names, what is chosen here and there, and how many may lie
 pub record Setting (T U A B : Type 0) : Type 0 where
   pub output : T → U
   pub waker : A → B
@@ -24,15 +24,13 @@ pub record Setting (T U A B : Type 0) : Type 0 where
   pub wakes_as : B → Option ℕ
   pub same : (a : A) → wakes_as (waker a) ≡ wakes a
   pub choice : Choice
-  pub tells : ℕ
+  pub other : Choice
   pub many : ℕ
   pub low : many ≤ choice.tells
-  pub low_as : many ≤ tells
+  pub low_as : many ≤ other.tells
+  pub refusal : choice.refusal ≡ other.refusal
 
 module _ {T U A B : Type 0} (k : Setting T U A B) where
-  abbrev pub other : Choice
-  other = record k.choice { tells = k.tells }
-
   abbrev pub its_task : AbstractTask T A → AbstractTask U B
   its_task t = task_as k.output k.waker t
 
@@ -256,50 +254,50 @@ module _ {T U A B : Type 0} (k : Setting T U A B) where
       (on_alike k.waker l.waker (option_map k.waker l.waker) refl (called k.wakes (λ s. s)) (called k.wakes_as (λ s. s)) p1 few1
       (λ w. called_alike (λ s. s) (λ s. s) stays w p1 few1)))
 
-  pub tell_alike : Goes (tell k.wakes k.choice) (tell k.wakes_as other)
+  pub tell_alike : Goes (tell k.wakes k.choice) (tell k.wakes_as k.other)
   tell_alike p few =
       let n = length p.lying in
-      let its : min k.choice.tells (n - 1) ≡ min k.tells (length (map lain p.lying) - 1) =
+      let its : min k.choice.tells (n - 1) ≡ min k.other.tells (length (map lain p.lying) - 1) =
       last_at k.choice.tells n (at_most n k.many k.choice.tells few k.low)
-      ∙ (sym (last_at k.tells n (at_most n k.many k.tells few k.low_as))
-      ∙ ap (λ n. min k.tells (n - 1)) (sym (length_map lain p.lying))) in
+      ∙ (sym (last_at k.other.tells n (at_most n k.many k.other.tells few k.low_as))
+      ∙ ap (λ n. min k.other.tells (n - 1)) (sym (length_map lain p.lying))) in
       subst
       (λ b. Alike (tell k.wakes k.choice p)
-      (cond b (now p) (told_at k.wakes_as (min k.tells (length (map lain p.lying) - 1)) (now p))))
+      (cond b (now p) (told_at k.wakes_as (min k.other.tells (length (map lain p.lying) - 1)) (now p))))
       (sym (any_map lain is_called is_called called_so p.lying))
       (subst (λ i. Alike (tell k.wakes k.choice p) (cond (any is_called p.lying) (now p) (told_at k.wakes_as i (now p)))) its
       (if_alike (any is_called p.lying) (stays p few) (told_alike (min k.choice.tells (n - 1)) p few)))
 
-  pub goes_alike : (w : A) → Goes (let_go k.wakes (tell k.wakes k.choice) w) (let_go k.wakes_as (tell k.wakes_as other) (k.waker w))
-  goes_alike w p few = let_go_alike (tell k.wakes k.choice) (tell k.wakes_as other) tell_alike w p few
+  pub goes_alike : (w : A) → Goes (let_go k.wakes (tell k.wakes k.choice) w) (let_go k.wakes_as (tell k.wakes_as k.other) (k.waker w))
+  goes_alike w p few = let_go_alike (tell k.wakes k.choice) (tell k.wakes_as k.other) tell_alike w p few
 
   pub fewer : (test : Lying A → Bool) (p : Plain T A) → Few p → length (without test p.lying) ≤ k.many
   fewer test p few = at_most (length (without test p.lying)) (length p.lying) k.many (fewer_without test p.lying) few
 
-  pub up_alike : (who : Who) → Goes (up k.wakes k.choice who) (up k.wakes_as other who)
+  pub up_alike : (who : Who) → Goes (up k.wakes k.choice who) (up k.wakes_as k.other who)
   up_alike who p few =
       on_alike lain (find (lies who) p.lying) (find (lies who) (map lain p.lying)) (find_map lain (lies who) (lies who) (λ l. refl) p.lying)
       (λ l p. on l.waker (let_go k.wakes (tell k.wakes k.choice)) (record p { lying = without (lies who) p.lying }))
-      (λ l p. on l.waker (let_go k.wakes_as (tell k.wakes_as other)) (record p { lying = without (lies who) p.lying })) p few
+      (λ l p. on l.waker (let_go k.wakes_as (tell k.wakes_as k.other)) (record p { lying = without (lies who) p.lying })) p few
       (λ l.
       let p1 : Plain T A = record p { lying = without (lies who) p.lying } in
       let few1 : Few p1 = fewer (lies who) p few in
       subst
       (λ ls. Alike (on l.waker (let_go k.wakes (tell k.wakes k.choice)) p1)
-      (on (option_map k.waker l.waker) (let_go k.wakes_as (tell k.wakes_as other)) (record (now p) { lying = ls })))
+      (on (option_map k.waker l.waker) (let_go k.wakes_as (tell k.wakes_as k.other)) (record (now p) { lying = ls })))
       (without_map lain (lies who) (lies who) (λ l. refl) p.lying)
       (on_alike k.waker l.waker (option_map k.waker l.waker) refl (let_go k.wakes (tell k.wakes k.choice))
-      (let_go k.wakes_as (tell k.wakes_as other)) p1 few1 (λ w. goes_alike w p1 few1)))
+      (let_go k.wakes_as (tell k.wakes_as k.other)) p1 few1 (λ w. goes_alike w p1 few1)))
 
-  pub leaves_alike : (who : Who) → Goes (leaves k.wakes k.choice who) (leaves k.wakes_as other who)
+  pub leaves_alike : (who : Who) → Goes (leaves k.wakes k.choice who) (leaves k.wakes_as k.other who)
   leaves_alike who p few =
       on_alike lain (find (lies who) p.lying) (find (lies who) (map lain p.lying)) (find_map lain (lies who) (lies who) (λ l. refl) p.lying)
       (λ l p. cond (is_called l) (tell k.wakes k.choice (up k.wakes k.choice who p)) (up k.wakes k.choice who p))
-      (λ l p. cond (is_called l) (tell k.wakes_as other (up k.wakes_as other who p)) (up k.wakes_as other who p)) p few
+      (λ l p. cond (is_called l) (tell k.wakes_as k.other (up k.wakes_as k.other who p)) (up k.wakes_as k.other who p)) p few
       (λ l.
       let one = up_alike who p few in
       subst
       (λ b. Alike (cond (is_called l) (tell k.wakes k.choice (up k.wakes k.choice who p)) (up k.wakes k.choice who p))
-      (cond b (tell k.wakes_as other (up k.wakes_as other who (now p))) (up k.wakes_as other who (now p))))
+      (cond b (tell k.wakes_as k.other (up k.wakes_as k.other who (now p))) (up k.wakes_as k.other who (now p))))
       (sym (called_so l))
-      (if_alike (is_called l) (andthen (tell k.wakes k.choice) (tell k.wakes_as other) one tell_alike) one))
+      (if_alike (is_called l) (andthen (tell k.wakes k.choice) (tell k.wakes_as k.other) one tell_alike) one))

@@ -3,6 +3,8 @@ use Rattle.std.proofs.Common.{◌≡◌, ℕ, suc, ◌+◌, ◌==◌, ◌≤◌,
 use Rattle.std.proofs.Common.{Option, Some, None, slice_get, refl, sym, ap, subst, ◌∙◌}
 use Rattle.std.specs.Option.{option_map}
 use Rattle.executor_parts.specs.declared.mark.Mark.{Mark}
+use Rattle.executor_parts.specs.declared.mark.Mark.TheVariants.{Plain as PlainMark, Urgent}
+use Rattle.executor_parts.specs.Marks.{other}
 use Rattle.task_moves.specs.AbstractTask as abstract
 use Rattle.task_moves.specs.AbstractTask.{AbstractTask, Left}
 use Rattle.task_moves.specs.LocalTask.{finish}
@@ -10,22 +12,50 @@ use Rattle.plain_scheduler.specs.State.{Answer, Answers, ARun, ATick, AtOnce, Ca
 use Rattle.plain_scheduler.specs.State.{Granted, Later, Lose, Loses, Lying, No, NoMemory, Pending, Plain, Poll, Polls, Ready, Refusal, Run}
 use Rattle.plain_scheduler.specs.State.{Running, Taker, Tick, Try, Who, Yes}
 use Rattle.plain_scheduler.specs.Lists.{any, each, on, or, repeat, without}
-use Rattle.plain_scheduler.specs.Moves.{answers, called, changed, chosen, copied, enters, is_common, is_kept, keeps, let_go, lies, looks, put}
+use Rattle.plain_scheduler.specs.Moves.{answers, called, changed, chosen, copied, enters, is_common, is_due, is_kept, keeps, let_go, lies, looks}
+use Rattle.plain_scheduler.specs.Moves.{put}
 use Rattle.plain_scheduler.specs.Moves.{release, runs, see, task, tell, up, wake}
 use Rattle.plain_scheduler.specs.Takes as takes
+use Rattle.two_roads.specs.Renaming.{AreBothDue, GoesOnAlike, GoesOnIf, RunsAlike, TakesAlike}
 use Rattle.two_roads.specs.Renaming.{answer_as, code_as, end_as, event_as, future_as, lying_as, renamed, taker_as}
 use Rattle.two_roads.proofs.Words.{find_map, map_append, without_map}
 use Rattle.two_roads.proofs.Tasks.{begins_so, finishes_so, left_as, ready_so}
 use Rattle.two_roads.proofs.Moving.{Alike, Few, Goes, Setting, andthen, called_alike, changed_alike, copied_alike, each_alike, enters_alike}
-use Rattle.two_roads.proofs.Moving.{goes_alike, if_alike, its_task, keeps_alike, now, on_alike, on_here, other, put_alike, put_so}
+use Rattle.two_roads.proofs.Moving.{goes_alike, if_alike, its_task, keeps_alike, now, on_alike, on_here, put_alike, put_so}
 use Rattle.two_roads.proofs.Moving.{release_alike, repeat_alike, runs_alike, see_alike, stays, task_alike, tell_alike, up_alike, wake_alike}
+
+-- at which mark is looked first is nothing where futures of one alone are due
+in_either_order : (due : List Due) → ¬ AreBothDue due
+    → chosen (is_common PlainMark ∷ is_common Urgent ∷ []) due ≡ chosen (is_common Urgent ∷ is_common PlainMark ∷ []) due
+in_either_order due alone = by (any (is_common PlainMark) due) refl (any (is_common Urgent) due) refl
+  where
+    by : (a : Bool) → any (is_common PlainMark) due ≡ a → (b : Bool) → any (is_common Urgent) due ≡ b
+        → ◌≡◌ {A = Due → Bool} (λ d. cond a (is_common PlainMark d) (cond b (is_common Urgent d) false))
+        (λ d. cond b (is_common Urgent d) (cond a (is_common PlainMark d) false))
+    by true plain true urgent = absurd (alone (record { plain = plain; urgent = urgent }))
+    by true plain false urgent = refl
+    by false plain true urgent = refl
+    by false plain false urgent = refl
+
+looks_alike : (m n : Mark) (due : List Due) → (AreBothDue due → m ≡ n)
+    → chosen (is_common m ∷ is_common (other m) ∷ []) due ≡ chosen (is_common n ∷ is_common (other n) ∷ []) due
+looks_alike PlainMark PlainMark due alike = refl
+looks_alike Urgent Urgent due alike = refl
+looks_alike PlainMark Urgent due alike = in_either_order due (λ both. apart (alike both))
+  where
+    apart : PlainMark ≡ Urgent → ⊥
+    apart is = cc
+looks_alike Urgent PlainMark due alike = sym (in_either_order due (λ both. apart (alike both)))
+  where
+    apart : Urgent ≡ PlainMark → ⊥
+    apart is = cc
 
 module _ {T U A B : Type 0} (k : Setting T U A B) where
   abbrev c : Choice
   c = k.choice
 
   abbrev d : Choice
-  d = other k
+  d = k.other
 
   abbrev lain_as : Lying A → Lying B
   lain_as l = lying_as k.waker l
@@ -37,7 +67,7 @@ module _ {T U A B : Type 0} (k : Setting T U A B) where
   tells p = tell k.wakes k.choice p
 
   abbrev pub tells_as : Plain U B → Plain U B
-  tells_as p = tell k.wakes_as (other k) p
+  tells_as p = tell k.wakes_as k.other p
 
   -- at the end of a call one more may lie
   abbrev pub Same : Plain T A → Plain U B → Type 0
@@ -81,35 +111,42 @@ module _ {T U A B : Type 0} (k : Setting T U A B) where
       (see_alike k (Polls f)))
       (enters_alike k (Poll f by))))
 
-  robbed_alike : (r : ℕ) (keeper : Option ℕ) → Goes k (takes.robbed k.wakes c r keeper) (takes.robbed k.wakes_as d r keeper)
-  robbed_alike r keeper p few =
-      on_here k keeper (λ one p. cond (r == one) p (repeat c.moves (keeps r (is_kept one)) p))
+  robbed_alike : RunsAlike c d → (r : ℕ) (keeper : Option ℕ)
+      → Goes k (takes.robbed k.wakes c r keeper) (takes.robbed k.wakes_as d r keeper)
+  robbed_alike run r keeper p few =
+      subst
+      (λ n. Alike k (takes.robbed k.wakes c r keeper p)
+      (on keeper (λ one p. cond (r == one) p (repeat n (keeps r (is_kept one)) p)) (now k p)))
+      run.moves
+      (on_here k keeper (λ one p. cond (r == one) p (repeat c.moves (keeps r (is_kept one)) p))
       (λ one p. cond (r == one) p (repeat c.moves (keeps r (is_kept one)) p)) p few
       (λ one. if_alike k (r == one) (stays k p few)
       (repeat_alike k c.moves (keeps r (is_kept one)) (keeps r (is_kept one)) (keeps_alike k r (is_kept one)) p (now k p)
-      (stays k p few)))
+      (stays k p few))))
 
-  kept_alike : (r : ℕ) → Goes k (takes.kept k.wakes c r) (takes.kept k.wakes_as d r)
-  kept_alike r p few =
-      each_alike k c.keeps (λ mark. keeps r (is_common mark)) (λ mark. keeps r (is_common mark))
-      (λ mark. keeps_alike k r (is_common mark)) p (now k p) (stays k p few)
+  kept_alike : RunsAlike c d → (r : ℕ) → Goes k (takes.kept k.wakes c r) (takes.kept k.wakes_as d r)
+  kept_alike run r p few =
+      subst (λ ms. Alike k (takes.kept k.wakes c r p) (each ms (λ mark. keeps r (is_common mark)) (now k p))) run.keeps
+      (each_alike k c.keeps (λ mark. keeps r (is_common mark)) (λ mark. keeps r (is_common mark))
+      (λ mark. keeps_alike k r (is_common mark)) p (now k p) (stays k p few))
 
-  takes_alike : (by : Taker A) (due : Due) → Goes k (takes.takes k.wakes c by due) (takes.takes k.wakes_as d (taker by) due)
-  takes_alike Try due p few =
+  takes_alike : (by : Taker A) (due : Due) → GoesOnAlike c d by
+      → Goes k (takes.takes k.wakes c by due) (takes.takes k.wakes_as d (taker by) due)
+  takes_alike Try due on p few =
       andthen k (takes.run k.wakes c due.future Try) (takes.run k.wakes_as d due.future Try) (tell_alike k p few)
       (run_alike due.future Try)
-  takes_alike (Tick t w) due p few =
+  takes_alike (Tick t w) due on p few =
       andthen k (takes.run k.wakes c due.future (Tick t w)) (takes.run k.wakes_as d due.future (Tick t (k.waker w)))
       (andthen k tells tells_as (up_alike k (ATick t) p few) (tell_alike k))
       (run_alike due.future (Tick t w))
-  takes_alike (Run r w) due p few =
+  takes_alike (Run r w) due on p few =
       andthen k (takes.run k.wakes c due.future (Run r w)) (takes.run k.wakes_as d due.future (Run r (k.waker w)))
       (andthen k (takes.counted k.wakes c r) (takes.counted k.wakes_as d r)
       (andthen k (takes.kept k.wakes c r) (takes.kept k.wakes_as d r)
       (andthen k tells tells_as
-      (andthen k (up k.wakes c (ARun r)) (up k.wakes_as d (ARun r)) (robbed_alike r due.keeper p few) (up_alike k (ARun r)))
+      (andthen k (up k.wakes c (ARun r)) (up k.wakes_as d (ARun r)) (robbed_alike on r due.keeper p few) (up_alike k (ARun r)))
       (tell_alike k))
-      (kept_alike r))
+      (kept_alike on r))
       (runs_alike k (λ run. record run { taken = run.taken + 1 }) r))
       (run_alike due.future (Run r w))
 
@@ -197,29 +234,42 @@ module _ {T U A B : Type 0} (k : Setting T U A B) where
       answers_same NoMemory (takes.lies_down k.wakes c who w p) (takes.lies_down k.wakes_as d who (k.waker w) (now k p))
       (lies_down_same who w p few)
 
+  rests_so : (who : Who) (w : A) (p : Plain T A) → Few k p
+      → Same (takes.rests k.wakes c c.refusal who w p) (takes.rests k.wakes_as d d.refusal who (k.waker w) (now k p))
+  rests_so who w p few =
+      subst (λ r. Same (takes.rests k.wakes c c.refusal who w p) (takes.rests k.wakes_as d r who (k.waker w) (now k p))) k.refusal
+      (rests_same c.refusal who w p few)
+
   nothing_same : (by : Taker A) (p : Plain T A) → Few k p
       → Same (takes.nothing k.wakes c by p) (takes.nothing k.wakes_as d (taker by) (now k p))
   nothing_same Try p few = answers_same No p (now k p) refl
-  nothing_same (Tick t w) p few = rests_same c.refusal (ATick t) w p few
-  nothing_same (Run r w) p few = rests_same c.refusal (ARun r) w p few
+  nothing_same (Tick t w) p few = rests_so (ATick t) w p few
+  nothing_same (Run r w) p few = rests_so (ARun r) w p few
 
-  pub take_same : (by : Taker A) (p : Plain T A) → Few k p
+  pub take_same : (by : Taker A) (p : Plain T A) → TakesAlike c d by p.due → Few k p
       → Same (takes.take k.wakes c by p) (takes.take k.wakes_as d (taker by) (now k p))
-  take_same by p few =
+  take_same by p alike few =
       subst
-      (λ tests. Same (takes.take k.wakes c by p)
-      (or (find (chosen tests p.due) p.due)
-      (λ due. takes.takes k.wakes_as d (taker by) due (record (now k p) { due = without (chosen tests p.due) p.due }))
+      (λ test. Same (takes.take k.wakes c by p)
+      (or (find test p.due)
+      (λ due. takes.takes k.wakes_as d (taker by) due (record (now k p) { due = without test p.due }))
       (takes.nothing k.wakes_as d (taker by) (now k p))))
-      (looked by) (found (find test p.due))
+      (looked by alike) (found (find test p.due))
     where
       test : Due → Bool
       test = chosen (looks c by) p.due
 
-      looked : (by : Taker A) → looks c by ≡ looks d (taker by)
-      looked Try = refl
-      looked (Tick t w) = refl
-      looked (Run r w) = refl
+      looked : (by : Taker A) → TakesAlike c d by p.due → chosen (looks c by) p.due ≡ chosen (looks d (taker by)) p.due
+      looked Try alike = looks_alike c.first d.first p.due alike
+      looked (Tick t w) alike = looks_alike c.first d.first p.due alike
+      looked (Run r w) alike =
+          ap (λ first. chosen (is_kept r ∷ is_common first ∷ is_common (other first) ∷ is_kept c.robs ∷ is_due ∷ []) p.due) alike.first
+          ∙ ap (λ robs. chosen (is_kept r ∷ is_common d.first ∷ is_common (other d.first) ∷ is_kept robs ∷ is_due ∷ []) p.due) alike.robs
+
+      goes_on : (by : Taker A) → TakesAlike c d by p.due → GoesOnAlike c d by
+      goes_on Try alike = tt
+      goes_on (Tick t w) alike = tt
+      goes_on (Run r w) alike = alike
 
       found : (o : Option Due)
           → Same
@@ -227,7 +277,7 @@ module _ {T U A B : Type 0} (k : Setting T U A B) where
           (or o (λ due. takes.takes k.wakes_as d (taker by) due (record (now k p) { due = without test p.due }))
           (takes.nothing k.wakes_as d (taker by) (now k p)))
       found None = nothing_same by p few
-      found (Some due) = (takes_alike by due (record p { due = without test p.due }) few).same
+      found (Some due) = (takes_alike by due (goes_on by alike) (record p { due = without test p.due }) few).same
 
   -- what goes on after a future
   gives_way_same : (r : ℕ) (w : A) (p : Plain T A) → Few k p
@@ -258,23 +308,23 @@ module _ {T U A B : Type 0} (k : Setting T U A B) where
       by p few None = (see_alike k (Calls w) p few).same
       by p few (Some f) = (wake_alike k tells tells_as (tell_alike k) f p few).same
 
-  pub next_same : (by : Taker A) (p : Plain T A) → Few k p
+  pub next_same : (by : Taker A) → GoesOnAlike c d by → (p : Plain T A) → Few k p
       → Same (takes.next k.wakes c by p) (takes.next k.wakes_as d (taker by) (now k p))
-  next_same Try p few = answers_same Yes p (now k p) refl
-  next_same (Tick t w) p few = answers_same Ready p (now k p) refl
-  next_same (Run r w) p few =
+  next_same Try on p few = answers_same Yes p (now k p) refl
+  next_same (Tick t w) on p few = answers_same Ready p (now k p) refl
+  next_same (Run r w) on p few =
       if_same (nat_lt (or (slice_get p.runs r) (λ run. run.taken) 0) 200) (takes.take k.wakes c (Run r w) p)
       (takes.gives_way k.wakes c r w p) (takes.take k.wakes_as d (Run r (k.waker w)) (now k p))
-      (takes.gives_way k.wakes_as d r (k.waker w) (now k p)) (take_same (Run r w) p few) (gives_way_same r w p few)
+      (takes.gives_way k.wakes_as d r (k.waker w) (now k p)) (take_same (Run r w) p on few) (gives_way_same r w p few)
 
-  pub lost_same : (awaiter : Option A) (by : Option (Taker A)) (p : Plain T A) → Few k p
+  pub lost_same : (awaiter : Option A) (by : Option (Taker A)) → GoesOnIf c d by → (p : Plain T A) → Few k p
       → Same (takes.lost k.wakes c awaiter by p)
       (takes.lost k.wakes_as d (option_map k.waker awaiter) (option_map (taker_as k.waker) by) (now k p))
-  lost_same awaiter by p few =
+  lost_same awaiter by on_so p few =
       into (goes_on by) (goes_as (option_map (taker_as k.waker) by))
       (on_alike k k.waker awaiter (option_map k.waker awaiter) refl (called k.wakes tells) (called k.wakes_as tells_as) p few
       (λ w. called_alike k tells tells_as (tell_alike k) w p few))
-      (next_if by)
+      (next_if by on_so)
     where
       goes_on : Option (Taker A) → Plain T A → Plain T A
       goes_on by q = or by (λ taker. takes.next k.wakes c taker q) (answers Done q)
@@ -282,18 +332,18 @@ module _ {T U A B : Type 0} (k : Setting T U A B) where
       goes_as : Option (Taker B) → Plain U B → Plain U B
       goes_as by q = or by (λ taker. takes.next k.wakes_as d taker q) (answers Done q)
 
-      next_if : (by : Option (Taker A)) (p : Plain T A) → Few k p
+      next_if : (by : Option (Taker A)) → GoesOnIf c d by → (p : Plain T A) → Few k p
           → Same (goes_on by p) (goes_as (option_map (taker_as k.waker) by) (now k p))
-      next_if None p few = answers_same Done p (now k p) refl
-      next_if (Some by) p few = next_same by p few
+      next_if None on_so p few = answers_same Done p (now k p) refl
+      next_if (Some by) on_so p few = next_same by on_so p few
 
   -- what goes out of a task
   abbrev pub left : Left T A → Left U B
   left l = left_as k.output k.waker l
 
-  out_same : (l : Left T A) (by : Option (Taker A)) (p : Plain T A) → Few k p
+  out_same : (l : Left T A) (by : Option (Taker A)) → GoesOnIf c d by → (p : Plain T A) → Few k p
       → Same (takes.out k.wakes c l by p) (takes.out k.wakes_as d (left l) (option_map (taker_as k.waker) by) (now k p))
-  out_same l by p few = dropped l.dropped
+  out_same l by on_so p few = dropped l.dropped
     where
       goes : Option A → Plain T A → Plain T A
       goes o p = on o (let_go k.wakes tells) p
@@ -312,20 +362,20 @@ module _ {T U A B : Type 0} (k : Setting T U A B) where
           (takes.lost k.wakes_as d (option_map k.waker l.called) (option_map (taker_as k.waker) by))
           (on_alike k k.waker l.let_go (option_map k.waker l.let_go) refl (let_go k.wakes tells) (let_go k.wakes_as tells_as) p few
           (λ w. goes_alike k w p few))
-          (lost_same l.called by)
+          (lost_same l.called by on_so)
       dropped (Some v) =
           (andthen k (enters (Lose l.called by)) (enters (Lose (option_map k.waker l.called) (option_map (taker_as k.waker) by)))
           (see_alike k (Loses v) p few) (enters_alike k (Lose l.called by))).same
 
-  pub ended_same : (f : ℕ) (l : Left T A) (l_as : Left U B) → left l ≡ l_as → (by : Option (Taker A)) (p : Plain T A) → Few k p
+  pub ended_same : (f : ℕ) (l : Left T A) (l_as : Left U B) → left l ≡ l_as → (by : Option (Taker A)) → GoesOnIf c d by → (p : Plain T A) → Few k p
       → Same (takes.ended k.wakes c f l by p) (takes.ended k.wakes_as d f l_as (option_map (taker_as k.waker) by) (now k p))
-  ended_same f l l_as is by p few =
+  ended_same f l l_as is by on_so p few =
       subst
       (λ l_as. Same (takes.ended k.wakes c f l by p)
       (takes.ended k.wakes_as d f l_as (option_map (taker_as k.waker) by) (now k p)))
       is
       (into (takes.out k.wakes c l by) (takes.out k.wakes_as d (left l) (option_map (taker_as k.waker) by))
-      (put_alike k f l.task p few) (out_same l by))
+      (put_alike k f l.task p few) (out_same l by on_so))
 
   given_up_alike : (f : ℕ) → Goes k (takes.given_up k.wakes c f) (takes.given_up k.wakes_as d f)
   given_up_alike f p few =
@@ -336,9 +386,9 @@ module _ {T U A B : Type 0} (k : Setting T U A B) where
   left_so Closed t = finishes_so k.output k.waker t
   left_so (Gave v) t = ready_so k.output k.waker v t
 
-  pub dropped_same : (f : ℕ) (end : End T) (by : Taker A) (p : Plain T A) → Few k p
+  pub dropped_same : (f : ℕ) (end : End T) (by : Taker A) → GoesOnAlike c d by → (p : Plain T A) → Few k p
       → Same (takes.dropped k.wakes c f end by p) (takes.dropped k.wakes_as d f (end_as k.output end) (taker by) (now k p))
-  dropped_same f end by p few =
+  dropped_same f end by on_so p few =
       into
       (λ q. takes.ended k.wakes c f (takes.left_by k.wakes c end (task f q)) (Some by) q)
       (λ q. takes.ended k.wakes_as d f (takes.left_by k.wakes_as d (end_as k.output end) (task f q)) (Some (taker by)) q)
@@ -350,4 +400,4 @@ module _ {T U A B : Type 0} (k : Setting T U A B) where
       (takes.left_by k.wakes_as d (end_as k.output end) (task f (now k q)))
       (left_so end (task f q)
       ∙ ap (λ (t : AbstractTask U B). takes.left_by k.wakes_as d (end_as k.output end) t) (task_alike k f q))
-      (Some by) q few)
+      (Some by) on_so q few)

@@ -1,10 +1,13 @@
 -- The plain scheduler with other outputs and other wakers in the place of its own.
-use Rattle.std.specs.Prelude.{◌≡◌, ℕ, ◌≤◌, List, [], ◌∷◌, map, length, Option}
+use Rattle.std.specs.Prelude.{◌≡◌, ℕ, ◌≤◌, true, List, [], ◌∷◌, map, length, Option, Some, None}
 use Rattle.std.specs.Option.{option_map}
+use Rattle.executor_parts.specs.declared.mark.Mark.TheVariants.{Plain as PlainMark, Urgent}
 use Rattle.task_moves.specs.AbstractTask.{AbstractTask}
-use Rattle.plain_scheduler.specs.State.{Future, Lying, Taker, Try, Tick, Run, End, Closed, Gave, Code, Poll, Drop, Lose, PollOwn, DropOwn}
+use Rattle.plain_scheduler.specs.State.{Due, Future, Lying, Taker, Try, Tick, Run, End, Closed, Gave, Code, Poll, Drop, Lose, PollOwn, DropOwn}
 use Rattle.plain_scheduler.specs.State.{Close, Event, Polls, Drops, Loses, Calls, Answers, Choice, Plain}
 use Rattle.plain_scheduler.specs.State.{Answer, Made, Full, NoMemory, Yes, No, Pending, Ready, Gives, Cancelled, Finished, Done}
+use Rattle.plain_scheduler.specs.Lists.{any}
+use Rattle.plain_scheduler.specs.Moves.{is_common}
 use Rattle.plain_scheduler.specs.Calls.{Call, Spawn, TryTick, IsEmpty, Wake, Use, Copy, Release, PollHandle, Cancel, Detach, DropHandle}
 use Rattle.plain_scheduler.specs.Calls.{NewTick, PollTick, DropTick, NewRun, PollRun, DropRun, Leak, DropExecutor, Pends, EndsWith, Ends}
 use Rattle.plain_scheduler.specs.Calls.{does}
@@ -104,18 +107,71 @@ module _ {T U A B : Type 0} (output : T → U) (waker : A → B) where
   call_as (EndsWith v) = EndsWith (output v)
   call_as Ends = Ends
 
--- two choose alike where but for who is told all is the same
-pub record ChooseAlike (c d : Choice) : Type 0 where
+-- futures of both marks are due that no run keeps
+pub record AreBothDue (due : List Due) : Type 0 where
+  pub plain : any (is_common PlainMark) due ≡ true
+  pub urgent : any (is_common Urgent) due ≡ true
+
+-- what a run's poll takes and keeps
+pub record RunsAlike (c d : Choice) : Type 0 where
   pub first : c.first ≡ d.first
   pub keeps : c.keeps ≡ d.keeps
   pub robs : c.robs ≡ d.robs
   pub moves : c.moves ≡ d.moves
-  pub refusal : c.refusal ≡ d.refusal
 
--- the same calls but for these names, by choices that are alike; both tell who lay down last
+-- which of the two choices have to be the same: at which mark is looked first matters where a try or a tick takes a future while
+-- futures of both are due; how a run takes and keeps matters only to a run
+module _ (c d : Choice) where
+  abbrev pub FirstAlike : List Due → Type 0
+  FirstAlike due = AreBothDue due → c.first ≡ d.first
+
+  module _ {A : Type 0} where
+    abbrev pub TakesAlike : Taker A → List Due → Type 0
+    TakesAlike Try due = FirstAlike due
+    TakesAlike (Tick t w) due = FirstAlike due
+    TakesAlike (Run r w) due = RunsAlike c d
+
+    -- behind a future a run takes another
+    abbrev pub GoesOnAlike : Taker A → Type 0
+    GoesOnAlike Try = Unit {0}
+    GoesOnAlike (Tick t w) = Unit {0}
+    GoesOnAlike (Run r w) = RunsAlike c d
+
+    abbrev pub GoesOnIf : Option (Taker A) → Type 0
+    GoesOnIf None = Unit {0}
+    GoesOnIf (Some by) = GoesOnAlike by
+
+  module _ {T A : Type 0} where
+    abbrev pub EndsAlike : Code T A → Type 0
+    EndsAlike (Poll f by) = GoesOnAlike by
+    EndsAlike (Drop f end by) = GoesOnAlike by
+    EndsAlike (Lose awaiter by) = GoesOnIf by
+    EndsAlike (PollOwn r w) = RunsAlike c d
+    EndsAlike (DropOwn r answer) = Unit {0}
+    EndsAlike (Close fs all) = Unit {0}
+
+    abbrev pub InnermostAlike : List (Code T A) → Type 0
+    InnermostAlike [] = Unit {0}
+    InnermostAlike (code ∷ codes) = EndsAlike code
+
+    abbrev pub CallsAlike : Plain T A → Call T A → Type 0
+    CallsAlike p TryTick = FirstAlike p.due
+    CallsAlike p (PollTick t w) = FirstAlike p.due
+    CallsAlike p Pends = InnermostAlike p.inside
+    CallsAlike p Ends = InnermostAlike p.inside
+    CallsAlike p _ = Unit {0}
+
+-- one call, by two choices: the same is refused, and both tell who lay down last
+pub record ChooseAlike {T A : Type 0} (c d : Choice) (p : Plain T A) (call : Call T A) : Type 0 where
+  pub refusal : c.refusal ≡ d.refusal
+  pub tells : length p.lying ≤ c.tells
+  pub tells_so : length p.lying ≤ d.tells
+  pub takes : CallsAlike c d p call
+
+-- the same calls but for these names, by choices that are alike
 module _ {T U A B : Type 0} (output : T → U) (waker : A → B) (wakes : A → Option ℕ) where
   pub data AreSame : List (Choice × Call T A) → Plain T A → List (Choice × Call U B) → Type 0 where
     none : (p : Plain T A) → AreSame [] p []
     more : (c d : Choice) (call : Call T A) (cs : List (Choice × Call T A)) (p : Plain T A) (ds : List (Choice × Call U B))
-        → ChooseAlike c d → length p.lying ≤ c.tells → length p.lying ≤ d.tells → AreSame cs (does wakes c call p) ds
+        → ChooseAlike c d p call → AreSame cs (does wakes c call p) ds
         → AreSame ((c, call) ∷ cs) p ((d, call_as output waker call) ∷ ds)

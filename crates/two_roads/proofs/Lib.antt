@@ -3,4 +3,5 @@ pub mod Tasks
 pub mod Moving
 pub mod Taking
 pub mod Calling
+pub mod Plainly
 pub mod Both

@@ -1,6 +1,6 @@
 -- A list of lone calls of the machine leaves it where its list of calls leaves the plain scheduler; and that is, but for names, where
 -- the same calls leave the executor of one owner.
-use Rattle.std.proofs.Common.{◌≡◌, ℕ, ◌++◌, not, Bool, List, [], ◌∷◌, map, Option, refl, sym, ap, subst, ◌∙◌}
+use Rattle.std.proofs.Common.{◌≡◌, ℕ, ◌++◌, not, List, [], ◌∷◌, map, Option, refl, sym, ap, subst, ◌∙◌}
 use Rattle.executor_model.specs.declared.kind.Kind.{Kind as MachineKind}
 use Rattle.executor_model.specs.declared.op.Waker.{Waker}
 use Rattle.executor_model.specs.Steps.{Machine, is_static_kind, start}
@@ -15,7 +15,7 @@ use Rattle.plain_scheduler.specs.Calls.{Call, course, does, new}
 use Rattle.machine_roads.specs.Course.{GoAlike, Lone}
 use Rattle.machine_roads.specs.Lone.{Ended, ends as ends_with, over}
 use Rattle.machine_roads.specs.Road.{Follows}
-use Rattle.machine_roads.specs.Seeing.{heard_in, shown as shown_alike}
+use Rattle.machine_roads.specs.Seeing.{shown as shown_alike}
 use Rattle.machine_roads.specs.View.{Output, wakes as wakes_in}
 use Rattle.solo_laws.specs.Closing.{IsClosed}
 use Rattle.solo_laws.specs.Courses.{Leads}
@@ -64,13 +64,14 @@ module _ {T X : Type 0} (number : X → ℕ) (limit : ℕ) (kind : MachineKind) 
     (go : GoAlike (start limit kind parties) (new limit (is_static_kind kind)) ls) where
   -- the same calls lead the other plain scheduler there, and what is shown is seen so
   tells_of : (cs : List (Choice × Call T (SoloWaker X))) (shown : List (Event T (SoloWaker X)))
-      → AreSame nothing (numbered number) wakes cs (new limit (is_static_kind kind)) (made_by (start limit kind parties) (new limit (is_static_kind kind)) ls go)
+      → AreSame nothing (numbered number) wakes cs (new limit (is_static_kind kind))
+      (made_by (start limit kind parties) (new limit (is_static_kind kind)) ls go)
       → (course wakes cs (new limit (is_static_kind kind))).events ≡ shown
       → TellsOf number (left_by (start limit kind parties) ls) (course wakes cs (new limit (is_static_kind kind))) shown
   tells_of cs shown are seen =
       let z : Plain T (SoloWaker X) = course wakes cs (new limit (is_static_kind kind)) in
       let named = courses_same nothing (numbered number) wakes wakes_in (wakes_so number) cs (new limit (is_static_kind kind))
-          (made_by (start limit kind parties) (new limit (is_static_kind kind)) ls go) are in
+      (made_by (start limit kind parties) (new limit (is_static_kind kind)) ls go) are in
       let follows : Follows (left_by (start limit kind parties) ls).world (as_machines number z) =
       subst (λ q. Follows (left_by (start limit kind parties) ls).world q) (sym named)
       (leaves_so (start limit kind parties) (new limit (is_static_kind kind)) ls go) in
@@ -86,7 +87,8 @@ module _ {T X : Type 0} (number : X → ℕ) (limit : ℕ) (kind : MachineKind) 
       (counted : counts solo_kind ≡ not (is_static_kind kind)) (calls : List (Choice × Call T (SoloWaker X)))
       (before after : Who → ℕ) where
     pub together : (shown : List (Event T (SoloWaker X))) → Leads its calls before first (new limit (is_static_kind kind)) shown after last
-        → AreSame nothing (numbered number) wakes calls (new limit (is_static_kind kind)) (made_by (start limit kind parties) (new limit (is_static_kind kind)) ls go)
+        → AreSame nothing (numbered number) wakes calls (new limit (is_static_kind kind))
+        (made_by (start limit kind parties) (new limit (is_static_kind kind)) ls go)
         → Stands its last (course wakes calls (new limit (is_static_kind kind)))
         × TellsOf number (left_by (start limit kind parties) ls) (course wakes calls (new limit (is_static_kind kind))) shown
     together shown led are =
@@ -102,7 +104,8 @@ module _ {T X : Type 0} (number : X → ℕ) (limit : ℕ) (kind : MachineKind) 
         → AreSame nothing (numbered number) wakes (calls ++ ends) (new limit (is_static_kind kind))
         (made_by (start limit kind parties) (new limit (is_static_kind kind)) ls go)
         → IsClosed its last (course wakes (calls ++ ends) (new limit (is_static_kind kind)))
-        × TellsOf number (left_by (start limit kind parties) ls) (course wakes (calls ++ ends) (new limit (is_static_kind kind))) (shown ++ others)
+        × TellsOf number (left_by (start limit kind parties) ls) (course wakes (calls ++ ends) (new limit (is_static_kind kind)))
+        (shown ++ others)
     end_together ends shown others middle led then_so are =
         let p : Plain T (SoloWaker X) = course wakes calls (new limit (is_static_kind kind)) in
         let both =
@@ -111,9 +114,8 @@ module _ {T X : Type 0} (number : X → ℕ) (limit : ℕ) (kind : MachineKind) 
         let it =
         last_calls_alike its ends middle last p others both.0.stands
         (none_lost its limit (is_static_kind kind) calls before after first middle shown led) then_so in
-        let on = course_of_both wakes calls ends (new limit (is_static_kind kind)) in
-        (
+        let on = course_of_both wakes calls ends (new limit (is_static_kind kind)) in (
           subst (λ z. IsClosed its last z) (sym on) it.0,
           tells_of (calls ++ ends) (shown ++ others) are
-          (ap (λ (z : Plain T (SoloWaker X)). z.events) on ∙ (it.1 ∙ ap (λ es. es ++ others) both.1)),
+              (ap (λ (z : Plain T (SoloWaker X)). z.events) on ∙ (it.1 ∙ ap (λ es. es ++ others) both.1)),
         )

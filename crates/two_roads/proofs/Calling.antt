@@ -1,31 +1,31 @@
 -- And so it is with each call, and with lists of them.
 use Rattle.std.proofs.Common.{◌≡◌, ℕ, suc, ◌≤◌, ◌++◌, nat_lt, count_by, cond, filter, Bool, true, false, List, [], ◌∷◌, length, map}
-use Rattle.std.proofs.Common.{Option, Some, None, slice_get, refl, sym, ap, subst, ◌∙◌, arith}
+use Rattle.std.proofs.Common.{Option, None, slice_get, refl, sym, ap, subst, ◌∙◌, arith}
 use Rattle.std.specs.Option.{option_map}
 use Rattle.executor_parts.specs.declared.mark.Mark.{Mark}
 use Rattle.executor_parts.specs.declared.mark.Mark.TheVariants.{Plain as PlainMark, Urgent}
 use Rattle.task_moves.specs.AbstractTask as abstract
 use Rattle.task_moves.specs.AbstractTask.{AbstractTask}
 use Rattle.plain_scheduler.specs.State.{Answer, ARun, ATick, Cancelled, Choice, Close as Closing, Closed, Code, Done, Drop, DropOwn, Drops}
-use Rattle.plain_scheduler.specs.State.{Due, Finished, Full, Future, Gave, Gives, Lose, Made, No, NoMemory, Pending, Plain, Poll, PollOwn}
+use Rattle.plain_scheduler.specs.State.{Finished, Full, Future, Gave, Gives, Lose, Made, No, NoMemory, Pending, Plain, Poll, PollOwn}
 use Rattle.plain_scheduler.specs.State.{Ready, Run, Taker, Tick, Try, Yes}
-use Rattle.plain_scheduler.specs.Lists.{each, on, or, repeat}
-use Rattle.plain_scheduler.specs.Moves.{answers, appended, becomes, called, changed, copied, enters, given_back, is_common, is_kept, leaves}
-use Rattle.plain_scheduler.specs.Moves.{let_go, put, release, runs, see, task, tell, used, wake}
+use Rattle.plain_scheduler.specs.Lists.{each, on, or}
+use Rattle.plain_scheduler.specs.Moves.{answers, appended, becomes, called, copied, enters, given_back, is_common, is_kept, leaves}
+use Rattle.plain_scheduler.specs.Moves.{let_go, put, release, runs, see, task, used, wake}
 use Rattle.plain_scheduler.specs.Takes as takes
 use Rattle.plain_scheduler.specs.Calls as calls
 use Rattle.plain_scheduler.specs.Calls.{Call, course, does, is_granted, is_none, living_from}
 use Rattle.two_roads.specs.Renaming.{AreSame, CallsAlike, ChooseAlike, EndsAlike, GoesOnAlike, InnermostAlike}
-use Rattle.two_roads.specs.Renaming.{answer_as, call_as, code_as, event_as, future_as, renamed, taker_as}
+use Rattle.two_roads.specs.Renaming.{answer_as, call_as, code_as, future_as, renamed}
 use Rattle.two_roads.specs.Renaming.{more, none}
 use Rattle.two_roads.proofs.Words.{length_map, map_append}
-use Rattle.two_roads.proofs.Tasks.{asks_so, cancels_so, detaches_so, left_as, pends_so, polled_as, polls_so}
+use Rattle.two_roads.proofs.Tasks.{asks_so, cancels_so, detaches_so, pends_so, polled_as, polls_so}
 use Rattle.two_roads.proofs.Moving.{Alike, Few, Goes, Setting, andthen, appended_alike, becomes_alike, called_alike, changed_alike}
-use Rattle.two_roads.proofs.Moving.{copied_alike, each_alike, enters_alike, given_back_alike, goes_alike, if_alike, its_task, leaves_alike}
+use Rattle.two_roads.proofs.Moving.{copied_alike, each_alike, enters_alike, given_back_alike, goes_alike, its_task, leaves_alike}
 use Rattle.two_roads.proofs.Moving.{now, on_alike, put_alike, put_so, release_alike, repeat_alike, runs_alike, see_alike, stays}
 use Rattle.two_roads.proofs.Moving.{task_alike, tell_alike, used_alike, wake_alike}
 use Rattle.two_roads.proofs.Taking.{Same, answers_same, dropped_same, dropping_alike, ended_same, if_same, into, left, lost_same, next_same}
-use Rattle.two_roads.proofs.Taking.{see_same, take_same, taker, tells, tells_as}
+use Rattle.two_roads.proofs.Taking.{take_same, taker, tells, tells_as}
 
 module _ {T U A B : Type 0} (k : Setting T U A B) where
   abbrev c : Choice
@@ -331,7 +331,8 @@ module _ {T U A B : Type 0} (k : Setting T U A B) where
 
   over_same : (r : ℕ) (a : Answer T) (code : Code T A) (p : Plain T A) → Few k p
       → Same k (cond (or (slice_get p.runs r) (λ run. run.is_over) true) (answers a p) (enters code p))
-      (cond (or (slice_get p.runs r) (λ run. run.is_over) true) (answers (answer_as k.output a) (now k p)) (enters (code_so code) (now k p)))
+      (cond (or (slice_get p.runs r) (λ run. run.is_over) true) (answers (answer_as k.output a) (now k p))
+      (enters (code_so code) (now k p)))
   over_same r a code p few =
       if_same k (or (slice_get p.runs r) (λ run. run.is_over) true) (answers a p) (enters code p)
       (answers (answer_as k.output a) (now k p)) (enters (code_so code) (now k p)) (answers_same k a p (now k p) refl) refl

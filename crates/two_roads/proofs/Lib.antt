@@ -4,4 +4,5 @@ pub mod Moving
 pub mod Taking
 pub mod Calling
 pub mod Plainly
+pub mod PlainCalls
 pub mod Both

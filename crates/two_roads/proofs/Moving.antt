@@ -1,19 +1,21 @@
 -- What the plain scheduler does step by step is what that with other names does, where as many may lie as both choices tell.
-use Rattle.std.proofs.Common.{◌≡◌, ℕ, zero, suc, ◌-◌, ◌==◌, ◌≤◌, min, not, is_some, nat_lt, count_by, cond, Bool, true, false, List, [], ◌∷◌, ◌++◌}
+use Rattle.std.proofs.Common.{◌≡◌, ℕ, zero, suc, ◌-◌, ◌≤◌, min, not, is_some, nat_lt, count_by, cond, Bool, true, false, List, [], ◌∷◌}
+use Rattle.std.proofs.Common.{◌++◌}
 use Rattle.std.proofs.Common.{length, map, find, Option, Some, None, slice_get, slice_set, refl, sym, ap, subst, ◌∙◌}
 use Rattle.std.specs.Option.{option_map}
 use Rattle.std.proofs.lemmas.Option.{slice_get-map}
-use Rattle.executor_parts.specs.declared.mark.Mark.{Mark}
 use Rattle.executor_parts.specs.declared.mark.Mark.TheVariants.{Plain as PlainMark}
 use Rattle.task_moves.specs.AbstractTask as abstract
 use Rattle.task_moves.specs.AbstractTask.{AbstractTask}
 use Rattle.task_moves.specs.LocalTask.{info_of, told}
-use Rattle.plain_scheduler.specs.State.{Answer, Answers, Calls, Choice, Code, Due, Event, Future, Lying, Plain, Running, Who}
+use Rattle.plain_scheduler.specs.State.{Calls, Choice, Code, Due, Event, Future, Lying, Plain, Running, Who}
 use Rattle.plain_scheduler.specs.Lists.{any, each, on, or, repeat, without}
-use Rattle.plain_scheduler.specs.Moves.{answers, appended, becomes, called, changed, copied, enters, given_back, is_called, is_kept, keeps}
-use Rattle.plain_scheduler.specs.Moves.{leaves, let_go, lies, mark, moved, no_task, put, release, runs, see, task, tell, told_at, up, used, wake}
-use Rattle.two_roads.specs.Renaming.{answer_as, code_as, event_as, future_as, lying_as, renamed, task_as}
-use Rattle.two_roads.proofs.Words.{any_map, at_most, fewer_without, find_map, last_at, length_map, length_set, map_append, set_map, without_map}
+use Rattle.plain_scheduler.specs.Moves.{appended, becomes, called, changed, copied, enters, given_back, is_called, is_kept, keeps}
+use Rattle.plain_scheduler.specs.Moves.{leaves, let_go, lies, mark, moved, no_task, put, release, runs, see, task, tell, told_at, up}
+use Rattle.plain_scheduler.specs.Moves.{used, wake}
+use Rattle.two_roads.specs.Renaming.{code_as, event_as, future_as, lying_as, renamed, task_as}
+use Rattle.two_roads.proofs.Words.{any_map, at_most, fewer_without, find_map, last_at, length_map, length_set, map_append, set_map}
+use Rattle.two_roads.proofs.Words.{without_map}
 use Rattle.two_roads.proofs.Tasks.{releases_so, uses_so, wakes_so}
 
 -- the names, what is chosen here and there, and how many may lie

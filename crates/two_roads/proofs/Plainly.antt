@@ -1,27 +1,24 @@
 -- Where each future is spawned plain, each that is due is plain.
 use Rattle.std.proofs.Common.{◌≡◌, ℕ, zero, suc, ◌+◌, ◌-◌, ◌==◌, ◌&&◌, not, is_some, nat_lt, min, count_by, cond, Bool, true, false}
-use Rattle.std.proofs.Common.{List, [], ◌∷◌, ◌++◌, length, map, filter, find, subst, Option, Some, None, slice_get, slice_set, refl, sym, ap, ◌∙◌}
+use Rattle.std.proofs.Common.{List, [], ◌∷◌, ◌++◌, length, map, find, subst, Option, Some, None, slice_get, slice_set, refl, ap, ◌∙◌}
 use Rattle.executor_parts.specs.declared.mark.Mark.{Mark}
 use Rattle.executor_parts.specs.declared.mark.Mark.TheVariants.{Plain as PlainMark, Urgent}
 use Rattle.executor_parts.specs.Marks.{same_mark}
 use Rattle.task_moves.specs.AbstractTask as abstract
 use Rattle.task_moves.specs.AbstractTask.{AbstractTask, Left}
 use Rattle.task_moves.specs.LocalTask.{info_of, told}
-use Rattle.plain_scheduler.specs.State.{Answer, ARun, ATick, AtOnce, Calls, Cancelled, Choice, Close as Closing, Closed, Code, Done, Drop}
-use Rattle.plain_scheduler.specs.State.{DropOwn, Drops, Due, End, Finished, Full, Future, Gave, Gives, Granted, Later, Lose, Loses, Lying}
-use Rattle.plain_scheduler.specs.State.{Made, No, NoMemory, Pending, Plain, Poll, PollOwn, Polls, Ready, Refusal, Run, Running, Taker, Tick}
+use Rattle.plain_scheduler.specs.State.{Answer, ARun, ATick, AtOnce, Calls, Choice, Closed, Done}
+use Rattle.plain_scheduler.specs.State.{Due, End, Future, Granted, Later, Lose, Loses, Lying}
+use Rattle.plain_scheduler.specs.State.{No, NoMemory, Pending, Plain, Poll, Polls, Ready, Refusal, Run, Running, Taker, Tick}
 use Rattle.plain_scheduler.specs.State.{Try, Who, Yes}
 use Rattle.plain_scheduler.specs.Lists.{any, each, on, or, repeat, without}
 use Rattle.plain_scheduler.specs.Moves.{answers, appended, becomes, called, changed, chosen, copied, enters, given_back, is_common, is_kept}
-use Rattle.plain_scheduler.specs.Moves.{is_called, keeps, leaves, let_go, lies, looks, mark, moved, put, release, runs, see, task, tell, told_at}
+use Rattle.plain_scheduler.specs.Moves.{is_called, keeps, leaves, let_go, lies, looks, mark, moved, put, release, runs, see, task, tell}
+use Rattle.plain_scheduler.specs.Moves.{told_at}
 use Rattle.plain_scheduler.specs.Moves.{up, used, wake}
 use Rattle.plain_scheduler.specs.Takes as takes
-use Rattle.plain_scheduler.specs.Calls as calls
-use Rattle.plain_scheduler.specs.Calls.{Call, course, does, is_granted, living_from}
-use Rattle.two_roads.specs.Renaming.{AreBothDue}
-use Rattle.two_roads.specs.Plainly.{are_plain, is_plain_call}
 
-both_true : (a b : Bool) → (a && b) ≡ true → (a ≡ true) × (b ≡ true)
+pub both_true : (a b : Bool) → (a && b) ≡ true → (a ≡ true) × (b ≡ true)
 both_true true b is = (refl, is)
 both_true false b is = absurd cc
 
@@ -34,7 +31,7 @@ module _ {X : Type 0} (its : X → Mark) where
   plain_both [] ys one two = two
   plain_both (x ∷ xs) ys one two = (one.0, plain_both xs ys one.1 two)
 
-  plain_last : (xs : List X) (x : X) → AllPlain xs → its x ≡ PlainMark → AllPlain (xs ++ x ∷ [])
+  pub plain_last : (xs : List X) (x : X) → AllPlain xs → its x ≡ PlainMark → AllPlain (xs ++ x ∷ [])
   plain_last xs x all is = plain_both xs (x ∷ []) all (is, tt)
 
   plain_without : (test : X → Bool) (xs : List X) → AllPlain xs → AllPlain (without test xs)
@@ -67,7 +64,7 @@ module _ {X : Type 0} (its : X → Mark) where
       by true rest = all.0
       by false rest = rest
 
-none_urgent : (due : List Due) → AllPlain (λ (d : Due). d.mark) due → any (is_common Urgent) due ≡ false
+pub none_urgent : (due : List Due) → AllPlain (λ (d : Due). d.mark) due → any (is_common Urgent) due ≡ false
 none_urgent [] all = refl
 none_urgent (d ∷ ds) all =
     ap (λ b. cond (not (is_some d.keeper) && same_mark Urgent b) true (any (is_common Urgent) ds)) all.0
@@ -86,7 +83,7 @@ module _ {T A : Type 0} where
   abbrev Keeps : (Plain T A → Plain T A) → Type 0
   Keeps f = (p : Plain T A) → IsPlain p → IsPlain (f p)
 
-  if_plain : (b : Bool) (x y : Plain T A) → IsPlain x → IsPlain y → IsPlain (cond b x y)
+  pub if_plain : (b : Bool) (x y : Plain T A) → IsPlain x → IsPlain y → IsPlain (cond b x y)
   if_plain true x y one two = one
   if_plain false x y one two = two
 
@@ -98,11 +95,11 @@ module _ {T A : Type 0} where
   or_plain None y f one two = one
   or_plain (Some x) y f one two = two x
 
-  each_plain : {X : Type 0} (xs : List X) (f : X → Plain T A → Plain T A) → ((x : X) → Keeps (f x)) → Keeps (each xs f)
+  pub each_plain : {X : Type 0} (xs : List X) (f : X → Plain T A → Plain T A) → ((x : X) → Keeps (f x)) → Keeps (each xs f)
   each_plain [] f keeps p plain = plain
   each_plain (x ∷ xs) f keeps p plain = each_plain xs f keeps (f x p) (keeps x p plain)
 
-  repeat_plain : (n : ℕ) (f : Plain T A → Plain T A) → Keeps f → Keeps (repeat n f)
+  pub repeat_plain : (n : ℕ) (f : Plain T A → Plain T A) → Keeps f → Keeps (repeat n f)
   repeat_plain zero f keeps p plain = plain
   repeat_plain (suc n) f keeps p plain = repeat_plain n f keeps (f p) (keeps p plain)
 
@@ -113,7 +110,7 @@ module _ {T A : Type 0} where
       by None is = refl
       by (Some x) is = is
 
-  changed_plain : (h : Future T A → Future T A) → ((x : Future T A) → (h x).mark ≡ x.mark) → (f : ℕ) → Keeps (changed h f)
+  pub changed_plain : (h : Future T A → Future T A) → ((x : Future T A) → (h x).mark ≡ x.mark) → (f : ℕ) → Keeps (changed h f)
   changed_plain h same f p plain = by (slice_get p.futures f) (plain_at (λ (x : Future T A). x.mark) p.futures f plain.futures)
     where
       by : (o : Option (Future T A)) → plain_if (λ (x : Future T A). x.mark) o
@@ -124,23 +121,23 @@ module _ {T A : Type 0} where
         due = plain.due;
       }
 
-  put_plain : (f : ℕ) (new : AbstractTask T A) → Keeps (put f new)
+  pub put_plain : (f : ℕ) (new : AbstractTask T A) → Keeps (put f new)
   put_plain f new p plain = changed_plain (λ x. record x { task = told new }) (λ x. refl) f p plain
 
-  runs_plain : (h : Running → Running) (r : ℕ) → Keeps (runs h r)
+  pub runs_plain : (h : Running → Running) (r : ℕ) → Keeps (runs h r)
   runs_plain h r p plain =
       on_plain (slice_get p.runs r) (λ run p. record p { runs = slice_set p.runs r (h run) })
       (λ run p plain. record { futures = plain.futures; due = plain.due }) p plain
 
-  due_plain : (p : Plain T A) → IsPlain p → (due : List Due) → AllPlain (λ (d : Due). d.mark) due → IsPlain (record p { due = due })
+  pub due_plain : (p : Plain T A) → IsPlain p → (due : List Due) → AllPlain (λ (d : Due). d.mark) due → IsPlain (record p { due = due })
   due_plain p plain due all = record { futures = plain.futures; due = all }
 
-  appended_plain : (f : ℕ) → Keeps (appended f)
+  pub appended_plain : (f : ℕ) → Keeps (appended f)
   appended_plain f p plain =
       due_plain p plain (p.due ++ record { future = f; mark = mark f p; keeper = None } ∷ [])
       (plain_last (λ (d : Due). d.mark) p.due (record { future = f; mark = mark f p; keeper = None }) plain.due (mark_plain f p plain))
 
-  given_back_plain : (r : ℕ) → Keeps (given_back r)
+  pub given_back_plain : (r : ℕ) → Keeps (given_back r)
   given_back_plain r p plain =
       on_plain (find (is_kept r) p.due) (λ d p. appended d.future (record p { due = without (is_kept r) p.due }))
       (λ d p plain.
@@ -164,7 +161,7 @@ module _ {T A : Type 0} where
       if_plain (nat_lt (count_by (is_kept r) p.due) 512) (moved r test p) p
       (moved_plain r test p plain) plain
 
-  same_plain : (p q : Plain T A) → p.futures ≡ q.futures → p.due ≡ q.due → IsPlain p → IsPlain q
+  pub same_plain : (p q : Plain T A) → p.futures ≡ q.futures → p.due ≡ q.due → IsPlain p → IsPlain q
   same_plain p q futures due plain = record {
     futures = subst (AllPlain (λ (x : Future T A). x.mark)) futures plain.futures;
     due = subst (AllPlain (λ (d : Due). d.mark)) due plain.due;
@@ -172,7 +169,7 @@ module _ {T A : Type 0} where
 
   module _ (wakes : A → Option ℕ) where
     module _ (more : Plain T A → Plain T A) (keep : Keeps more) where
-      becomes_plain : (f : ℕ) (new : AbstractTask T A) → Keeps (becomes wakes more f new)
+      pub becomes_plain : (f : ℕ) (new : AbstractTask T A) → Keeps (becomes wakes more f new)
       becomes_plain f new p plain =
           let z = put_plain f new p plain in
           if_plain (is_some (info_of (task f p) new)) (more (appended f (put f new p))) (put f new p)
@@ -188,12 +185,12 @@ module _ {T A : Type 0} where
       let_go_plain w p plain =
           on_plain (wakes w) (release wakes more) (λ f p plain. becomes_plain f (abstract.release (task f p)) p plain) p plain
 
-    copied_plain : (w : A) → Keeps (copied wakes w)
+    pub copied_plain : (w : A) → Keeps (copied wakes w)
     copied_plain w p plain =
         on_plain (wakes w) (λ f p. put f (abstract.copy (task f p)) p) (λ f p plain. put_plain f (abstract.copy (task f p)) p plain) p plain
 
     module _ (c : Choice) where
-      abbrev tells : Plain T A → Plain T A
+      abbrev pub tells : Plain T A → Plain T A
       tells p = tell wakes c p
 
       told_plain : (at : ℕ) → Keeps (told_at wakes at)
@@ -205,15 +202,15 @@ module _ {T A : Type 0} where
           on_plain l.waker (called wakes (λ s. s)) (called_plain (λ s. s) (λ p plain. plain)) p1 (same_plain p p1 refl refl plain))
           p plain
 
-      tell_plain : Keeps tells
+      pub tell_plain : Keeps tells
       tell_plain p plain =
           let at = min c.tells (length p.lying - 1) in
           if_plain (any is_called p.lying) p (told_at wakes at p) plain (told_plain at p plain)
 
-      goes_plain : (o : Option A) → Keeps (λ p. on o (let_go wakes tells) p)
+      pub goes_plain : (o : Option A) → Keeps (λ p. on o (let_go wakes tells) p)
       goes_plain o p plain = on_plain o (let_go wakes tells) (let_go_plain tells tell_plain) p plain
 
-      calls_plain : (o : Option A) → Keeps (λ p. on o (called wakes tells) p)
+      pub calls_plain : (o : Option A) → Keeps (λ p. on o (called wakes tells) p)
       calls_plain o p plain = on_plain o (called wakes tells) (called_plain tells tell_plain) p plain
 
       up_plain : (who : Who) → Keeps (up wakes c who)
@@ -225,7 +222,7 @@ module _ {T A : Type 0} where
           goes_plain l.waker p1 (same_plain p p1 refl refl plain))
           p plain
 
-      leaves_plain : (who : Who) → Keeps (leaves wakes c who)
+      pub leaves_plain : (who : Who) → Keeps (leaves wakes c who)
       leaves_plain who p plain =
           on_plain (find (lies who) p.lying) (λ l p. cond (is_called l) (tells (up wakes c who p)) (up wakes c who p))
           (λ l p plain.
@@ -280,11 +277,12 @@ module _ {T A : Type 0} where
 
           by : (o : Option (Lying A))
               → IsPlain
-              (or o (λ l. or l.waker (λ old. takes.lain_again wakes c who w old q) (takes.lain wakes c who w q)) (takes.lain wakes c who w q))
+              (or o (λ l. or l.waker (λ old. takes.lain_again wakes c who w old q) (takes.lain wakes c who w q))
+              (takes.lain wakes c who w q))
           by None = anew
           by (Some l) = waking l.waker
 
-      says : (a : Answer T) → Keeps (answers a)
+      pub says : (a : Answer T) → Keeps (answers a)
       says a p plain = same_plain p (answers a p) refl refl plain
 
       rests_plain : (r : Refusal) (who : Who) (w : A) → Keeps (takes.rests wakes c r who w)
@@ -297,7 +295,7 @@ module _ {T A : Type 0} where
       nothing_plain (Tick t w) p plain = rests_plain c.refusal (ATick t) w p plain
       nothing_plain (Run r w) p plain = rests_plain c.refusal (ARun r) w p plain
 
-      take_plain : (by : Taker A) → Keeps (takes.take wakes c by)
+      pub take_plain : (by : Taker A) → Keeps (takes.take wakes c by)
       take_plain by p plain =
           let test = chosen (looks c by) p.due in
           let p1 : Plain T A = record p { due = without test p.due } in
@@ -313,14 +311,14 @@ module _ {T A : Type 0} where
           (or_plain (wakes w) (see (Calls w) q) (λ f. wake wakes tells f q) (same_plain q (see (Calls w) q) refl refl z)
           (λ f. becomes_plain tells tell_plain f (abstract.wake (task f q)) q z))
 
-      next_plain : (by : Taker A) → Keeps (takes.next wakes c by)
+      pub next_plain : (by : Taker A) → Keeps (takes.next wakes c by)
       next_plain Try p plain = says Yes p plain
       next_plain (Tick t w) p plain = says Ready p plain
       next_plain (Run r w) p plain =
           if_plain (nat_lt (or (slice_get p.runs r) (λ run. run.taken) 0) 200) (takes.take wakes c (Run r w) p)
           (takes.gives_way wakes c r w p) (take_plain (Run r w) p plain) (gives_way_plain r w p plain)
 
-      lost_plain : (awaiter : Option A) (by : Option (Taker A)) → Keeps (takes.lost wakes c awaiter by)
+      pub lost_plain : (awaiter : Option A) (by : Option (Taker A)) → Keeps (takes.lost wakes c awaiter by)
       lost_plain awaiter by p plain =
           let q = on awaiter (called wakes tells) p in
           let z = calls_plain awaiter p plain in
@@ -333,10 +331,10 @@ module _ {T A : Type 0} where
           (lost_plain l.called by q (goes_plain l.let_go p plain))
           (λ v. same_plain p (enters (Lose l.called by) (see (Loses v) p)) refl refl plain)
 
-      ended_plain : (f : ℕ) (l : Left T A) (by : Option (Taker A)) → Keeps (takes.ended wakes c f l by)
+      pub ended_plain : (f : ℕ) (l : Left T A) (by : Option (Taker A)) → Keeps (takes.ended wakes c f l by)
       ended_plain f l by p plain = out_plain l by (put f l.task p) (put_plain f l.task p plain)
 
-      dropped_plain : (f : ℕ) (end : End T) (by : Taker A) → Keeps (takes.dropped wakes c f end by)
+      pub dropped_plain : (f : ℕ) (end : End T) (by : Taker A) → Keeps (takes.dropped wakes c f end by)
       dropped_plain f end by p plain =
           let p1 = changed (λ future. record future { is_dropped = true }) f p in
           let z1 = changed_plain (λ future. record future { is_dropped = true }) (λ x. refl) f p plain in
@@ -344,180 +342,3 @@ module _ {T A : Type 0} where
           ended_plain f (takes.left_by wakes c end (task f q)) (Some by) q
           (if_plain p1.is_static p1 (release wakes tells f p1) z1
           (becomes_plain tells tell_plain f (abstract.release (task f p1)) p1 z1))
-
-      -- calls
-      granted_plain : (x p : Plain T A) → IsPlain x → IsPlain p → IsPlain (cond (is_granted c.refusal) x (answers NoMemory p))
-      granted_plain x p one plain = if_plain (is_granted c.refusal) x (answers NoMemory p) one (says NoMemory p plain)
-
-      spawn_plain : Keeps (calls.spawn wakes c PlainMark)
-      spawn_plain p plain =
-          let x : Future T A =
-          record { task = abstract.spawned (cond p.is_static 0 1); mark = PlainMark; is_dropped = false } in
-          let p1 : Plain T A = record p { futures = p.futures ++ x ∷ [] } in
-          let z1 : IsPlain p1 =
-          record { futures = plain_last (λ (x : Future T A). x.mark) p.futures x plain.futures refl; due = plain.due } in
-          let p2 = appended (length p.futures) p1 in
-          if_plain (nat_lt (length (living_from 0 p.futures)) p.limit)
-          (cond (is_granted c.refusal) (answers Made (tells p2)) (answers NoMemory p)) (answers Full p)
-          (granted_plain (answers Made (tells p2)) p
-          (says Made (tells p2) (tell_plain p2 (appended_plain (length p.futures) p1 z1))) plain)
-          (says Full p plain)
-
-      registered_plain : (f : ℕ) (w : A) → Keeps (calls.registered wakes c f w)
-      registered_plain f w p plain =
-          let l = abstract.poll w (task f p) in
-          says Pending (on l.let_go (let_go wakes tells) (put f l.task p))
-          (goes_plain l.let_go (put f l.task p) (put_plain f l.task p plain))
-
-      handle_plain : (f : ℕ) (w : A) (e : abstract.Polled T) → Keeps (calls.handle_by wakes c f w e)
-      handle_plain f w (abstract.Polled.Output v) p plain =
-          says (Gives v) (put f (abstract.poll w (task f p)).task p) (put_plain f (abstract.poll w (task f p)).task p plain)
-      handle_plain f w abstract.Polled.Cancelled p plain = says Cancelled p plain
-      handle_plain f w abstract.Polled.Waits p plain =
-          granted_plain (calls.registered wakes c f w (copied wakes w p)) p
-          (registered_plain f w (copied wakes w p) (copied_plain w p plain)) plain
-
-      cancel_plain : (f : ℕ) → Keeps (calls.cancel wakes c f)
-      cancel_plain f p plain =
-          let l = abstract.cancel (task f p) in
-          calls_plain l.called (becomes wakes tells f l.task p) (becomes_plain tells tell_plain f l.task p plain)
-
-      detach_plain : (f : ℕ) → Keeps (calls.detach wakes c f)
-      detach_plain f p plain =
-          let l = abstract.detach (task f p) in
-          let q = becomes wakes tells f l.task p in
-          ended_plain f (record l { task = task f q }) None q (becomes_plain tells tell_plain f l.task p plain)
-
-      gone_plain : (r : ℕ) → Keeps (calls.gone wakes c r)
-      gone_plain r p plain =
-          let q = runs (λ run. record run { is_over = true }) r p in
-          leaves_plain (ARun r) (repeat (count_by (is_kept r) p.due) (λ p. tells (given_back r p)) q)
-          (repeat_plain (count_by (is_kept r) p.due) (λ p. tells (given_back r p))
-          (λ p plain. tell_plain (given_back r p) (given_back_plain r p plain)) q
-          (runs_plain (λ run. record run { is_over = true }) r p plain))
-
-      freed_plain : (f : ℕ) → Keeps (calls.freed wakes c f)
-      freed_plain f p plain =
-          let q = wake wakes tells f p in
-          becomes_plain tells tell_plain f (abstract.release (task f q)) q
-          (becomes_plain tells tell_plain f (abstract.wake (task f p)) p plain)
-
-      closed_plain : (f : ℕ) → Keeps (calls.closed wakes c f)
-      closed_plain f p plain =
-          let l = abstract.drop_runnable (task f p) in
-          calls_plain l.called (put f l.task p) (put_plain f l.task p plain)
-
-      swept_plain : Keeps (calls.swept wakes c)
-      swept_plain p plain =
-          each_plain (filter (is_common Urgent) p.due ++ filter (is_common PlainMark) p.due) (λ d. calls.closed wakes c d.future)
-          (λ d. closed_plain d.future) (record p { due = [] }) (due_plain p plain [] tt)
-
-      close_plain : (fs all : List ℕ) → Keeps (calls.close wakes c fs all)
-      close_plain [] all p plain =
-          let q = each all (calls.freed wakes c) p in
-          says Done (calls.swept wakes c q) (swept_plain q (each_plain all (calls.freed wakes c) freed_plain p plain))
-      close_plain (f ∷ fs) all p plain =
-          let q = changed (λ future. record future { is_dropped = true }) f p in
-          same_plain q (enters (Closing fs all) (see (Drops f) q)) refl refl
-          (changed_plain (λ future. record future { is_dropped = true }) (λ x. refl) f p plain)
-
-      dropping_plain : (f : ℕ) (end : End T) (by : Taker A) → Keeps (takes.dropping wakes c f end by)
-      dropping_plain f end by p plain = same_plain p (takes.dropping wakes c f end by p) refl refl plain
-
-      pending_plain : (e : abstract.PendingEnd) (f : ℕ) (by : Taker A) → Keeps (calls.pending_by wakes c e f by)
-      pending_plain abstract.PendingEnd.Drops f by p plain = dropping_plain f Closed by p plain
-      pending_plain abstract.PendingEnd.Forgets f by p plain =
-          let new : AbstractTask T A = record (task f p) { phase = abstract.Phase.Finished; closed = true } in
-          dropping_plain f Closed by (put f new p) (put_plain f new p plain)
-      pending_plain abstract.PendingEnd.Queues f by p plain =
-          next_plain by (becomes wakes tells f (abstract.end_pending (task f p)).task p)
-          (becomes_plain tells tell_plain f (abstract.end_pending (task f p)).task p plain)
-      pending_plain abstract.PendingEnd.Rests f by p plain =
-          next_plain by (becomes wakes tells f (abstract.end_pending (task f p)).task p)
-          (becomes_plain tells tell_plain f (abstract.end_pending (task f p)).task p plain)
-
-      pends_plain : (code : Code T A) → Keeps (calls.pends wakes c code)
-      pends_plain (Poll f by) p plain = pending_plain (abstract.pending_end (task f p)) f by p plain
-      pends_plain (PollOwn r w) p plain = take_plain (Run r w) p plain
-      pends_plain (Drop f end by) p plain = plain
-      pends_plain (Lose awaiter by) p plain = plain
-      pends_plain (DropOwn r answer) p plain = plain
-      pends_plain (Closing fs all) p plain = plain
-
-      gives_plain : (v : T) (code : Code T A) → Keeps (calls.gives wakes c v code)
-      gives_plain v (Poll f by) p plain = dropping_plain f (Gave v) by p plain
-      gives_plain v (PollOwn r w) p plain = same_plain p (enters (DropOwn r Ready) p) refl refl plain
-      gives_plain v (Drop f end by) p plain = plain
-      gives_plain v (Lose awaiter by) p plain = plain
-      gives_plain v (DropOwn r answer) p plain = plain
-      gives_plain v (Closing fs all) p plain = plain
-
-      ends_plain : (code : Code T A) → Keeps (calls.ends wakes c code)
-      ends_plain (Drop f end by) p plain = dropped_plain f end by p plain
-      ends_plain (Lose awaiter by) p plain = lost_plain awaiter by p plain
-      ends_plain (DropOwn r answer) p plain = says answer (calls.gone wakes c r p) (gone_plain r p plain)
-      ends_plain (Closing fs all) p plain = close_plain fs all p plain
-      ends_plain (Poll f by) p plain = plain
-      ends_plain (PollOwn r w) p plain = plain
-
-      innermost_plain : (end : Code T A → Plain T A → Plain T A) → ((code : Code T A) → Keeps (end code))
-          → (codes : List (Code T A)) → Keeps (calls.innermost wakes c codes end)
-      innermost_plain end keeps [] p plain = plain
-      innermost_plain end keeps (code ∷ rest) p plain =
-          keeps code (record p { inside = rest }) (same_plain p (record p { inside = rest }) refl refl plain)
-
-      over_plain : (r : ℕ) (a : Answer T) (code : Code T A) (p : Plain T A) → IsPlain p
-          → IsPlain (cond (or (slice_get p.runs r) (λ run. run.is_over) true) (answers a p) (enters code p))
-      over_plain r a code p plain =
-          if_plain (or (slice_get p.runs r) (λ run. run.is_over) true) (answers a p) (enters code p) (says a p plain)
-          (same_plain p (enters code p) refl refl plain)
-
-      call_plain : (call : Call T A) → is_plain_call call ≡ true → Keeps (does wakes c call)
-      call_plain (calls.Spawn PlainMark) is p plain = spawn_plain p plain
-      call_plain (calls.Spawn Urgent) is p plain = absurd cc
-      call_plain calls.TryTick is p plain = take_plain Try p plain
-      call_plain calls.IsEmpty is p plain = says (cond (calls.is_none (living_from 0 p.futures)) Yes No) p plain
-      call_plain (calls.Wake f) is p plain =
-          says Done (wake wakes tells f p) (becomes_plain tells tell_plain f (abstract.wake (task f p)) p plain)
-      call_plain (calls.Use f) is p plain =
-          says Done (used wakes tells f p) (becomes_plain tells tell_plain f (abstract.release (abstract.wake (task f p))) p plain)
-      call_plain (calls.Copy f) is p plain =
-          let q = put f (abstract.copy (task f p)) p in
-          granted_plain (answers Made q) p (says Made q (put_plain f (abstract.copy (task f p)) p plain)) plain
-      call_plain (calls.Release f) is p plain =
-          says Done (release wakes tells f p) (becomes_plain tells tell_plain f (abstract.release (task f p)) p plain)
-      call_plain (calls.PollHandle f w) is p plain = handle_plain f w (abstract.polled (task f p)) p plain
-      call_plain (calls.Cancel f) is p plain = says Done (calls.cancel wakes c f p) (cancel_plain f p plain)
-      call_plain (calls.Detach f) is p plain = detach_plain f p plain
-      call_plain (calls.DropHandle f) is p plain = detach_plain f (calls.cancel wakes c f p) (cancel_plain f p plain)
-      call_plain calls.NewTick is p plain = granted_plain (answers Made p) p (says Made p plain) plain
-      call_plain (calls.PollTick t w) is p plain = take_plain (Tick t w) p plain
-      call_plain (calls.DropTick t) is p plain = says Done (leaves wakes c (ATick t) p) (leaves_plain (ATick t) p plain)
-      call_plain calls.NewRun is p plain =
-          let q : Plain T A = record p { runs = p.runs ++ record { taken = 0; is_over = false } ∷ [] } in
-          granted_plain (answers Made q) p (says Made q (same_plain p q refl refl plain)) plain
-      call_plain (calls.PollRun r w) is p plain = over_plain r Finished (PollOwn r w) p plain
-      call_plain (calls.DropRun r) is p plain = over_plain r Done (DropOwn r Done) p plain
-      call_plain calls.Leak is p plain =
-          let q : Plain T A = record p { is_static = true } in
-          says Done (calls.leak wakes c p)
-          (each_plain (living_from 0 p.futures) (calls.freed wakes c) freed_plain q (same_plain p q refl refl plain))
-      call_plain calls.DropExecutor is p plain = close_plain (living_from 0 p.futures) (living_from 0 p.futures) p plain
-      call_plain calls.Pends is p plain = innermost_plain (calls.pends wakes c) pends_plain p.inside p plain
-      call_plain (calls.EndsWith v) is p plain = innermost_plain (calls.gives wakes c v) (gives_plain v) p.inside p plain
-      call_plain calls.Ends is p plain = innermost_plain (calls.ends wakes c) ends_plain p.inside p plain
-
-    course_plain : (cs : List (Choice × Call T A)) → are_plain cs ≡ true → Keeps (course wakes cs)
-    course_plain [] are p plain = plain
-    course_plain ((c, call) ∷ cs) are p plain =
-        let both = both_true (is_plain_call call) (are_plain cs) are in
-        course_plain cs both.1 (does wakes c call p) (call_plain c call both.0 p plain)
-
-  -- so futures of both marks are never due
-  pub never_both : (wakes : A → Option ℕ) (cs : List (Choice × Call T A)) (p : Plain T A) → IsPlain p → are_plain cs ≡ true
-      → ¬ AreBothDue (course wakes cs p).due
-  never_both wakes cs p plain are both =
-      apart (sym (none_urgent (course wakes cs p).due (course_plain wakes cs are p plain).due) ∙ both.urgent)
-    where
-      apart : false ≡ true → ⊥
-      apart is = cc

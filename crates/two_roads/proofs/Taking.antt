@@ -7,17 +7,17 @@ use Rattle.executor_parts.specs.declared.mark.Mark.TheVariants.{Plain as PlainMa
 use Rattle.executor_parts.specs.Marks.{other}
 use Rattle.task_moves.specs.AbstractTask as abstract
 use Rattle.task_moves.specs.AbstractTask.{AbstractTask, Left}
-use Rattle.task_moves.specs.LocalTask.{finish}
-use Rattle.plain_scheduler.specs.State.{Answer, Answers, ARun, ATick, AtOnce, Calls, Choice, Closed, Done, Drop, Drops, Due, End, Event, Future, Gave}
+use Rattle.plain_scheduler.specs.State.{Answer, Answers, ARun, ATick, AtOnce, Calls, Choice, Closed, Done, Drop, Drops, Due, End, Event}
+use Rattle.plain_scheduler.specs.State.{Gave}
 use Rattle.plain_scheduler.specs.State.{Granted, Later, Lose, Loses, Lying, No, NoMemory, Pending, Plain, Poll, Polls, Ready, Refusal, Run}
-use Rattle.plain_scheduler.specs.State.{Running, Taker, Tick, Try, Who, Yes}
+use Rattle.plain_scheduler.specs.State.{Taker, Tick, Try, Who, Yes}
 use Rattle.plain_scheduler.specs.Lists.{any, each, on, or, repeat, without}
-use Rattle.plain_scheduler.specs.Moves.{answers, called, changed, chosen, copied, enters, is_common, is_due, is_kept, keeps, let_go, lies, looks}
+use Rattle.plain_scheduler.specs.Moves.{answers, called, chosen, copied, enters, is_common, is_due, is_kept, keeps, let_go, lies, looks}
 use Rattle.plain_scheduler.specs.Moves.{put}
-use Rattle.plain_scheduler.specs.Moves.{release, runs, see, task, tell, up, wake}
+use Rattle.plain_scheduler.specs.Moves.{runs, see, task, tell, up, wake}
 use Rattle.plain_scheduler.specs.Takes as takes
 use Rattle.two_roads.specs.Renaming.{AreBothDue, GoesOnAlike, GoesOnIf, RunsAlike, TakesAlike}
-use Rattle.two_roads.specs.Renaming.{answer_as, code_as, end_as, event_as, future_as, lying_as, renamed, taker_as}
+use Rattle.two_roads.specs.Renaming.{answer_as, end_as, event_as, lying_as, taker_as}
 use Rattle.two_roads.proofs.Words.{find_map, map_append, without_map}
 use Rattle.two_roads.proofs.Tasks.{begins_so, finishes_so, left_as, ready_so}
 use Rattle.two_roads.proofs.Moving.{Alike, Few, Goes, Setting, andthen, called_alike, changed_alike, copied_alike, each_alike, enters_alike}
@@ -367,7 +367,8 @@ module _ {T U A B : Type 0} (k : Setting T U A B) where
           (andthen k (enters (Lose l.called by)) (enters (Lose (option_map k.waker l.called) (option_map (taker_as k.waker) by)))
           (see_alike k (Loses v) p few) (enters_alike k (Lose l.called by))).same
 
-  pub ended_same : (f : ℕ) (l : Left T A) (l_as : Left U B) → left l ≡ l_as → (by : Option (Taker A)) → GoesOnIf c d by → (p : Plain T A) → Few k p
+  pub ended_same : (f : ℕ) (l : Left T A) (l_as : Left U B) → left l ≡ l_as → (by : Option (Taker A)) → GoesOnIf c d by
+      → (p : Plain T A) → Few k p
       → Same (takes.ended k.wakes c f l by p) (takes.ended k.wakes_as d f l_as (option_map (taker_as k.waker) by) (now k p))
   ended_same f l l_as is by on_so p few =
       subst

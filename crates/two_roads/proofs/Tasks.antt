@@ -1,5 +1,5 @@
 -- Each change of a task is one of that with other outputs and awaiters.
-use Rattle.std.proofs.Common.{◌≡◌, ℕ, ◌-◌, ◌==◌, ◌&&◌, ◌||◌, not, is_some, cond, Bool, true, false, Option, Some, None, refl, ap, ◌∙◌}
+use Rattle.std.proofs.Common.{◌≡◌, ◌-◌, ◌==◌, ◌&&◌, ◌||◌, not, is_some, cond, Bool, true, false, Option, Some, None, refl, ap, ◌∙◌}
 use Rattle.std.specs.Option.{option_map}
 use Rattle.task_moves.specs.AbstractTask as abstract
 use Rattle.task_moves.specs.AbstractTask.{AbstractTask, Left, Phase, PendingEnd}
@@ -68,12 +68,16 @@ module _ {T U A B : Type 0} (output : T → U) (waker : A → B) where
   abbrev goes_with : AbstractTask U B → Option B → Option U → Left U B
   goes_with z w v = record { task = z; called = w; dropped = v; let_go = None }
 
+  abbrev goes : AbstractTask T A → Option A → Option T → Left T A
+  goes z w v = record { task = z; called = w; dropped = v; let_go = None }
+
   pub cancels_so : (t : AbstractTask T A) → left_as (abstract.cancel t) ≡ abstract.cancel (its t)
   cancels_so t = by (t.closed || abstract.is_over t.phase)
     where
       by : (b : Bool)
-          → left_as (cond b (abstract.left t) (record { task = record (abstract.close t) { awaiter = None }; called = t.awaiter; dropped = None; let_go = None }))
-          ≡ cond b (abstract.left (its t)) (record { task = record (abstract.close (its t)) { awaiter = None }; called = option_map waker t.awaiter; dropped = None; let_go = None })
+          → left_as (cond b (abstract.left t) (goes (record (abstract.close t) { awaiter = None }) t.awaiter None))
+          ≡ cond b (abstract.left (its t))
+          (goes_with (record (abstract.close (its t)) { awaiter = None }) (option_map waker t.awaiter) None)
       by true = refl
       by false =
           ap (λ (z : AbstractTask U B). goes_with (record z { awaiter = None }) (option_map waker t.awaiter) None) (closes_so t)
@@ -82,9 +86,15 @@ module _ {T U A B : Type 0} (output : T → U) (waker : A → B) where
   detaches_so t = by t.output
     where
       by : (o : Option T)
-          → left_as (record { task = abstract.close_forgotten (record t { handle = false; closed = t.closed || is_some o; output = None }); called = None; dropped = o; let_go = None })
-          ≡ record { task = abstract.close_forgotten (record (its t) { handle = false; closed = t.closed || is_some (option_map output o); output = None }); called = None; dropped = option_map output o; let_go = None }
-      by None = ap (λ (z : AbstractTask U B). goes_with z None None) (forgets_so (record t { handle = false; closed = t.closed || false; output = None }))
+          → left_as
+          (goes (abstract.close_forgotten (record t { handle = false; closed = t.closed || is_some o; output = None })) None o)
+          ≡ goes_with
+          (abstract.close_forgotten
+          (record (its t) { handle = false; closed = t.closed || is_some (option_map output o); output = None }))
+          None (option_map output o)
+      by None =
+          ap (λ (z : AbstractTask U B). goes_with z None None)
+          (forgets_so (record t { handle = false; closed = t.closed || false; output = None }))
       by (Some v) =
           ap (λ (z : AbstractTask U B). goes_with z None (Some (output v)))
           (forgets_so (record t { handle = false; closed = t.closed || true; output = None }))
@@ -112,8 +122,12 @@ module _ {T U A B : Type 0} (output : T → U) (waker : A → B) where
   ready_so v t = by (t.handle && not t.closed)
     where
       by : (b : Bool)
-          → left_as (record { task = record t { phase = Finished; closed = not b; output = cond b (Some v) None; awaiter = None }; called = t.awaiter; dropped = cond b None (Some v); let_go = None })
-          ≡ record { task = record (its t) { phase = Finished; closed = not b; output = cond b (Some (output v)) None; awaiter = None }; called = option_map waker t.awaiter; dropped = cond b None (Some (output v)); let_go = None }
+          → left_as
+          (goes (record t { phase = Finished; closed = not b; output = cond b (Some v) None; awaiter = None }) t.awaiter
+          (cond b None (Some v)))
+          ≡ goes_with
+          (record (its t) { phase = Finished; closed = not b; output = cond b (Some (output v)) None; awaiter = None })
+          (option_map waker t.awaiter) (cond b None (Some (output v)))
       by true = refl
       by false = refl
 

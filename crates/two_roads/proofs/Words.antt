@@ -1,6 +1,6 @@
 -- Words on lists and options, of one list and of that which a function makes of it.
 use Rattle.std.proofs.Common.{◌≡◌, ℕ, zero, suc, ◌-◌, ◌≤◌, min, cond, Bool, true, false, List, [], ◌∷◌, ◌++◌, length, map, find}
-use Rattle.std.proofs.Common.{Option, Some, slice_set, refl, sym, ap, ◌∙◌, arith}
+use Rattle.std.proofs.Common.{Some, slice_set, refl, sym, ap, ◌∙◌, arith}
 use Rattle.std.specs.Option.{option_map}
 use Rattle.plain_scheduler.specs.Lists.{any, without}
 

@@ -3,7 +3,8 @@ use Rattle.std.specs.Prelude.{◌≡◌, ℕ, ◌≤◌, true, List, [], ◌∷�
 use Rattle.std.specs.Option.{option_map}
 use Rattle.executor_parts.specs.declared.mark.Mark.TheVariants.{Plain as PlainMark, Urgent}
 use Rattle.task_moves.specs.AbstractTask.{AbstractTask}
-use Rattle.plain_scheduler.specs.State.{Due, Future, Lying, Taker, Try, Tick, Run, End, Closed, Gave, Code, Poll, Drop, Lose, PollOwn, DropOwn}
+use Rattle.plain_scheduler.specs.State.{Due, Future, Lying, Taker, Try, Tick, Run, End, Closed, Gave, Code, Poll, Drop, Lose, PollOwn}
+use Rattle.plain_scheduler.specs.State.{DropOwn}
 use Rattle.plain_scheduler.specs.State.{Close, Event, Polls, Drops, Loses, Calls, Answers, Choice, Plain}
 use Rattle.plain_scheduler.specs.State.{Answer, Made, Full, NoMemory, Yes, No, Pending, Ready, Gives, Cancelled, Finished, Done}
 use Rattle.plain_scheduler.specs.Lists.{any}

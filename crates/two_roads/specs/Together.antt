@@ -7,7 +7,7 @@ use Rattle.solo.specs.declared.names.SoloWaker.{SoloWaker}
 use Rattle.solo.specs.declared.names.SoloWaker.TheVariants.{Task as OfTask, Outside}
 use Rattle.plain_scheduler.specs.State.{Choice, Event, Plain}
 use Rattle.plain_scheduler.specs.Calls.{Call}
-use Rattle.machine_roads.specs.Course.{GoAlike, GoesBy, Lone}
+use Rattle.machine_roads.specs.Course.{GoAlike, Lone}
 use Rattle.machine_roads.specs.Lone.{Ended, ends as ends_with, over}
 use Rattle.machine_roads.specs.Road.{Follows}
 use Rattle.machine_roads.specs.Seeing.{heard_in, shown as shown_alike}
@@ -49,6 +49,6 @@ module _ {T X : Type 0} (number : X → ℕ) where
 -- the machine stands where this plain scheduler does, but for names, and its trace tells of the polls, drops, calls of wakers from
 -- outside and answers that were shown, in that order
 pub record TellsOf {T X : Type 0} (number : X → ℕ) (m : Machine) (p : Plain T (SoloWaker X)) (shown : List (Event T (SoloWaker X))) : Type 0
-    where
-  pub follows : Follows m.world (as_machines number p)
-  pub seen : heard_in m.world.trace ≡ as_heard number shown
+  where
+    pub follows : Follows m.world (as_machines number p)
+    pub seen : heard_in m.world.trace ≡ as_heard number shown

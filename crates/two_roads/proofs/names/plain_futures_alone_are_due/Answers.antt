@@ -1,5 +1,5 @@
 use Rattle.plain_scheduler.specs.Calls.{new}
-use Rattle.two_roads.proofs.Plainly.{never_both}
+use Rattle.two_roads.proofs.PlainCalls.{never_both}
 use Rattle.two_roads.proofs.names.plain_futures_alone_are_due.Goals as goal
 
 pub returns : goal.returns

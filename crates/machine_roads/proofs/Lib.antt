@@ -44,6 +44,8 @@ pub mod LyingDown
 pub mod Tying
 pub mod Having
 pub mod LoneRuns
+pub mod LoneTold
+pub mod Waits
 pub mod LoneCalls
 pub mod LoneLosing
 pub mod LoneTicks
@@ -59,6 +61,7 @@ pub mod Sweeping
 pub mod Unborrowed
 pub mod LoneCloses
 pub mod LoneBehind
+pub mod CallsBehind
 pub mod RunsMade
 pub mod Runs
 pub mod RunsGone

@@ -11,4 +11,5 @@ pub mod Dropped
 pub mod Ticking
 pub mod Searching
 pub mod Lone
+pub mod Behind
 pub mod Course

@@ -121,12 +121,13 @@ module _ (s : Machine) (reached : Reached s) (q : Plain Output Waker) (quiet : I
   leads_behind r steps leads new lone = behind_of r new (ends_behind (λ w. Follows w r) steps new leads lone)
 
   -- the output of a handle that goes is dropped
-  pub loses_behind : (f : ℕ) (r : Plain Output Waker) (d : Choice) (steps : List Step) → ComesToLose p f [] first q r
-      → LeadsBehind s p c steps (does wakes d Ends r)
-  loses_behind f r d steps comes new lone =
+  pub loses_calmly : (f : ℕ) (r : Plain Output Waker) (d : Choice) (steps : List Step) → ComesToLose p f [] first q r → (new : Machine)
+      → IsLoneCall p c steps s new → Follows new.world (does wakes d Ends r) × NoTaskWaits new.world
+  loses_calmly f r d steps comes new lone =
       by (rests_behind (λ e. StopsLosing f [] q e r) steps new comes lone)
     where
-      by : Rests p (Still (λ e. StopsLosing f [] q e r)) new → Behind (does wakes d Ends r) new
+      by : Rests p (Still (λ e. StopsLosing f [] q e r)) new
+          → Follows new.world (does wakes d Ends r) × NoTaskWaits new.world
       by (Whole x) =
           let nothing : [] ≡ op.User (user_op.DropOutput f) ∷ (left_of f ++ []) = x.so.left in
           absurd cc
@@ -143,10 +144,13 @@ module _ (s : Machine) (reached : Reached s) (q : Plain Output Waker) (quiet : I
           let now : LeadsSoOf HasOfTasks p (done (react p x.first x.end m.world).world ((react p x.first x.end m.world).next ++ x.rest)) S =
           subst (λ o. LeadsSoOf HasOfTasks p (done (react p o x.end m.world).world ((react p o x.end m.world).next ++ x.rest)) S)
           (sym both.0) (subst (λ os. LeadsSoOf HasOfTasks p (done m.world os) S) (sym both.1) leads) in
-          behind_of (does wakes d Ends r) new
-          (still_ends p P new
+          still_ends p P new
           (goes_on_of HasOfTasks IsAny of_tasks p (Still (λ e. StopsLosing f [] q e r)) S new tt
-          (reached-more (Begin p c ∷ steps) s new reached lone.made) lone.ended x now))
+          (reached-more (Begin p c ∷ steps) s new reached lone.made) lone.ended x now)
+
+  pub loses_behind : (f : ℕ) (r : Plain Output Waker) (d : Choice) (steps : List Step) → ComesToLose p f [] first q r
+      → LeadsBehind s p c steps (does wakes d Ends r)
+  loses_behind f r d steps comes new lone = behind_of (does wakes d Ends r) new (loses_calmly f r d steps comes new lone)
 
 pub lone_call_is_behind : EachLoneAlike LoneCallIsBehind
 lone_call_is_behind = each LoneCallIsBehind (λ s reached q quiet follows p c steps r none off leaves.

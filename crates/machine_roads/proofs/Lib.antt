@@ -76,4 +76,6 @@ pub mod LoneRunsOn
 pub mod LoneGoesOn
 pub mod Inside
 pub mod Open
+pub mod OneCall
+pub mod CourseBehind
 pub mod Course

@@ -67,7 +67,7 @@ from_loss s new reached p f c steps q r d later lone last (Inside x) =
     all_steps p (λ w. Follows w (does wakes d Ends r)) x.steps o.machine new o.todo o.reached o.there later o.is o.leads x.follow
     o.made (rests new (deep-here new last) lone.ended p)
 
-loses_so : (s : Machine) → Reached s → (p f : ℕ) (c : Call) (steps : List Step) (q r : Plain Output Waker) (d : Choice)
+pub loses_so : (s : Machine) → Reached s → (p f : ℕ) (c : Call) (steps : List Step) (q r : Plain Output Waker) (d : Choice)
     → IsQuiet s.world.trace → ComesToLose p f [] (begins p None c s.world) q r → LeadsTo s p c steps (does wakes d Ends r)
 loses_so s reached p f c steps q r d quiet comes new later lone =
     from_loss s new reached p f c steps q r d later lone (reached-more (Begin p c ∷ steps) s new reached lone.made)

@@ -71,7 +71,7 @@ pub tells : (m : Machine) → Reached m → has is_drop_begun m.world.trace ≡ 
 tells m reached = sym (begun-has 0 m.world.trace) ∙ ((heard_here m reached).placed.leaves 0).begun
 
 -- the executor's drop that hasn't begun later hasn't begun before
-gone_before : (ts : List Step) (s new : Machine) → Reached s → run_all ts s ≡ Ok new → new.world.gone ≡ false
+pub gone_before : (ts : List Step) (s new : Machine) → Reached s → run_all ts s ≡ Ok new → new.world.gone ≡ false
     → s.world.gone ≡ false
 gone_before ts s new reached made later = by (has is_drop_begun s.world.trace) refl
   where

@@ -38,13 +38,6 @@ is_on_road (call.PollRun r b) steps = not (is_unready (first_answer steps))
 is_on_road call.DropExecutor steps = false
 is_on_road _ steps = true
 
--- calls by kept wakers, which may stand behind that
-abbrev pub is_behind : Call → Bool
-is_behind (call.Wake k) = true
-is_behind (call.WakeByRef k) = true
-is_behind (call.DropWaker k) = true
-is_behind _ = false
-
 -- which call of the plain scheduler it is: a kept waker is that of its future
 pub data IsCall (w : World) : Call → plain.Call Output Waker → Type 0 where
   spawn : (m : Mark) → IsCall w (call.Spawn m) (plain.Spawn m)
@@ -88,13 +81,10 @@ abbrev pub AreLone : Machine → List Lone → Type 0
 AreLone s [] = Unit {0}
 AreLone s (l ∷ ls) = IsLoneCall l.party l.call l.steps s l.left × AreLone l.left ls
 
-abbrev pub are_behind : List Lone → Bool
-are_behind [] = true
-are_behind (l ∷ ls) = is_behind l.call && are_behind ls
-
+-- and whatever calls can be made behind that
 abbrev pub are_on_road : List Lone → Bool
 are_on_road [] = true
-are_on_road (l ∷ ls) = (is_on_road l.call l.steps && are_on_road ls) || (is_drop l.call && are_behind ls)
+are_on_road (l ∷ ls) = is_drop l.call || (is_on_road l.call l.steps && are_on_road ls)
 
 -- both stand alike at each moment at which a call has ended
 abbrev pub GoAlike : Machine → Plain Output Waker → List Lone → Type 0

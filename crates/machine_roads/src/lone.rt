@@ -180,8 +180,8 @@ pub fn lone_questions_are_answered()
 
 /// Lists of such calls of a new machine, one after the other, are lists of calls of the new plain
 /// scheduler, which looks first at the mark that the turn names and tells who lay down last: all calls
-/// but polls of runs whose own future gives no output in them, and then, if it comes to that, the
-/// executor's drop, with wakes by kept wakers and these wakers' drops behind it.
+/// but polls of runs whose own future gives no output in them, and behind the executor's drop, if it
+/// comes to that, whatever calls can be made there.
 pub fn lists_of_lone_calls_go_alike()
     ensures { ListsGoAlike }
 {}

@@ -50,18 +50,18 @@ use Rattle.machine_roads.proofs.Waits.{HasOfTasks, NoTaskWaits, are_append, are_
 pub none_in : (w : World) (q : Plain Output Waker) → Follows w q → NoneWaits q → NoTaskWaits w
 none_in w q follows none f at = sym (ap waits_for (follows.tasks f at)) ∙ none f
 
+pub none_past : (w : World) (q : Plain Output Waker) → Follows w q → (f : ℕ) → length w.tasks ≤ f → waits_for (task f q) ≡ false
+none_past w q follows f above =
+    ap (λ (o : Option (Future Output Waker)). waits_for (or o (λ future. future.task) no_task))
+    (slice_get_past q.futures f (subst (λ n. n ≤ f) follows.many above))
+
 pub none_of : (w : World) (q : Plain Output Waker) → Follows w q → NoTaskWaits w → NoneWaits q
 none_of w q follows none f = by (where_is (length w.tasks) f)
   where
-    past : length w.tasks ≤ f → waits_for (task f q) ≡ false
-    past above =
-        ap (λ (o : Option (Future Output Waker)). waits_for (or o (λ future. future.task) no_task))
-        (slice_get_past q.futures f (subst (λ n. n ≤ f) follows.many above))
-
     by : Where (length w.tasks) f → waits_for (task f q) ≡ false
     by (Before at) = ap waits_for (follows.tasks f at) ∙ none f at
-    by (Last is) = past (omega (arith, is))
-    by (Past above) = past (omega (arith, above))
+    by (Last is) = none_past w q follows f (omega (arith, is))
+    by (Past above) = none_past w q follows f (omega (arith, above))
 
 -- such things to do have what is asked of them in each machine
 pub of_tasks : Walks HasOfTasks IsAny

@@ -1,13 +1,11 @@
 -- In each machine of which the executor's drop hasn't begun, what the next thing to do speaks of is there.
-use Rattle.std.proofs.Common.{◌≡◌, ℕ, suc, ◌+◌, ◌<◌, ◌≤◌, ◌==◌, ◌&&◌, ◌||◌, not, cond, nat_lt, Bool, true, false, List, [], ◌∷◌, length}
+use Rattle.std.proofs.Common.{◌≡◌, ℕ, suc, ◌+◌, ◌<◌, ◌≤◌, ◌==◌, ◌&&◌, ◌||◌, not, cond, nat_lt, Bool, true, false, [], ◌∷◌, length}
 use Rattle.std.proofs.Common.{Some, if◌then◌else◌, refl, sym, ap, subst, ◌∙◌, arith}
 use Rattle.std.proofs.Common.{inl, ⊎_elim}
 use Rattle.std.proofs.lemmas.Bool.Decides.{nat_tests}
-use Rattle.task_moves.specs.declared.moves.owed.Move.{Move}
 use Rattle.task_moves.specs.declared.moves.owed.Move.TheVariants as move
 use Rattle.task_moves.specs.LocalTask.{token}
 use Rattle.task_moves.specs.Moves.{is_going}
-use Rattle.executor_model.specs.declared.op.ClosingOp.{ClosingOp}
 use Rattle.executor_model.specs.declared.op.ClosingOp.TheVariants as closing_op
 use Rattle.executor_model.specs.declared.op.HandleOp.TheVariants as handle_op
 use Rattle.executor_model.specs.declared.op.ListOp.TheVariants as list_op
@@ -49,28 +47,10 @@ use Rattle.executor_laws.proofs.Wakeups.StandsMachine.{standing}
 use Rattle.executor_laws.proofs.Wakeups.StandsSteps.{Standing}
 use Rattle.executor_laws.proofs.Walks.Enrolled.{Enrolled, kept-listed}
 use Rattle.executor_laws.proofs.Walks.Finding.{enrolled-here, listed-here, room-here}
-use Rattle.machine_roads.specs.Alone.{CanCopy, Has, ListHas, SleepsAlone, StealHas}
+use Rattle.machine_roads.specs.Alone.{CanCopy, Has, HasIn, ListHas, SleepsAlone, StealHas}
 use Rattle.machine_roads.specs.Moving.{IsQueued}
 use Rattle.machine_roads.specs.Road.{is_ended}
 use Rattle.machine_roads.proofs.Lists.{clash, equal}
-
--- what is there at each moment, also once the executor's drop has begun: a place in the queue, whether that is closed or not
-abbrev pub MoveHasIn : Move → World → ℕ → Type 0
-MoveHasIn move.Release w f = token (task w f) < (task w f).references
-MoveHasIn move.DropRunnable w f = IsQueued (task w f)
-MoveHasIn m w f = Unit {0}
-
-abbrev pub ClosingHasIn : World → ClosingOp → Type 0
-ClosingHasIn w closing_op.DropNext = (f : ℕ) (rest : List ℕ) → w.leaving ≡ f ∷ rest → IsKnown w f
-ClosingHasIn w closing_op.WakeNext = (f : ℕ) (rest : List ℕ) → w.waking ≡ f ∷ rest → IsKnown w f
-ClosingHasIn w _ = Unit {0}
-
-abbrev pub HasIn : World → Op → Type 0
-HasIn w (op.Move m f) = IsKnown w f × MoveHasIn m w f
-HasIn w (op.Queue (queue_op.Append f)) = nat_lt (length (queue_of w (mark_of w f)).items) w.limit ≡ true
-HasIn w (op.Waker (waker_op.CallAwaiter f a k)) = IsKnownWaker w a
-HasIn w (op.Closing o) = ClosingHasIn w o
-HasIn w _ = Unit {0}
 
 -- of these more is asked while the executor's drop hasn't begun
 abbrev pub asks_open : Op → Bool

@@ -46,6 +46,9 @@ pub mod Having
 pub mod LoneRuns
 pub mod LoneTold
 pub mod Waits
+pub mod Loose
+pub mod Tableless
+pub mod Beside
 pub mod LoneCalls
 pub mod LoneLosing
 pub mod LoneTicks
@@ -78,4 +81,5 @@ pub mod Inside
 pub mod Open
 pub mod OneCall
 pub mod CourseBehind
+pub mod InDrop
 pub mod Course

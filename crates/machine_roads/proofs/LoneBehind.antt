@@ -28,13 +28,12 @@ use Rattle.plain_scheduler.specs.Calls.{does, Release, Use, Wake}
 use Rattle.machine_roads.specs.View.{Output, view, waker_in, wakes}
 use Rattle.machine_roads.specs.Moving.{IsMove}
 use Rattle.machine_roads.specs.Road.{Follows}
-use Rattle.machine_roads.specs.Alone.{alone, is_resting}
+use Rattle.machine_roads.specs.Alone.{alone, is_resting, HasIn}
 use Rattle.machine_roads.specs.Alike.{begins, upon}
 use Rattle.machine_roads.specs.Lone.{EachLoneAlike, NoneWaits}
 use Rattle.machine_roads.specs.Behind.{LoneUsesBehind, LoneWakerGoesBehind, LoneWakesBehind}
 use Rattle.machine_roads.proofs.Calm.{wake_calm}
 use Rattle.machine_roads.proofs.Changing.{logs}
-use Rattle.machine_roads.proofs.Having.{HasIn}
 use Rattle.machine_roads.proofs.LoneCalls.{each}
 use Rattle.machine_roads.proofs.LoneCloses.{IsAny, walks}
 use Rattle.machine_roads.proofs.LoneRuns.{ends_so, lone_calls_rest_of}

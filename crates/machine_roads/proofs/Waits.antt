@@ -80,7 +80,7 @@ never_open (op.Queue o) is asks = absurd cc
 never_open (op.Closing o) is asks = absurd cc
 never_open o is asks = absurd cc
 
-never : (b : Bool) → (b && false) ≡ false
+pub never : (b : Bool) → (b && false) ≡ false
 never true = refl
 never false = refl
 

@@ -13,3 +13,4 @@ pub mod Searching
 pub mod Lone
 pub mod Behind
 pub mod Course
+pub mod Closing

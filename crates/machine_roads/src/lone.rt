@@ -4,6 +4,7 @@ ghost use Rattle.machine_roads.specs.Behind.{LoneCallIsBehind, LoneCancelsBehind
 ghost use Rattle.machine_roads.specs.Behind.{LoneDetachesBehind, LoneGoesWithOutputBehind, LoneHandleGoesBehind};
 ghost use Rattle.machine_roads.specs.Behind.{LoneHandlePollsBehind, LoneHandleWaitsBehind, LoneUsesBehind};
 ghost use Rattle.machine_roads.specs.Behind.{LoneWakerGoesBehind, LoneWakesBehind};
+ghost use Rattle.machine_roads.specs.Closing.{LoneDropRests};
 ghost use Rattle.machine_roads.specs.Course.{ListsGoAlike};
 ghost use Rattle.machine_roads.specs.Lone.{EachLoneAlike, LoneCallIsAlone, LoneCancels, LoneCopies};
 ghost use Rattle.machine_roads.specs.Lone.{LoneEmpty, LoneLeaks, LoneRunEnds, LoneRunGoes, LoneRunGoesOn, LoneRunIsMade};
@@ -135,6 +136,12 @@ pub fn lone_leaks_are_leaks()
 /// alike.
 pub fn lone_drops_are_drops()
     ensures { EachLoneAlike LoneDropEnds }
+{}
+
+/// It comes first to the drop of the first future, if one is left, where `roads` goes on: with calls of
+/// wakers and handles made inside of that, and so with each drop of a future to the end.
+pub fn lone_drops_rest_alike()
+    ensures { EachLoneAlike LoneDropRests }
 {}
 
 /// Behind that no task waits for a wake; and where none does, wakes by kept wakers, these wakers'

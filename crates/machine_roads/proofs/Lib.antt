@@ -74,3 +74,9 @@ pub mod LoneGoesOn
 pub mod Inside
 pub mod Open
 pub mod Course
+pub mod InHand
+pub mod Walked
+pub mod Inmost
+pub mod ActBegins
+pub mod ActEnds
+pub mod Acts

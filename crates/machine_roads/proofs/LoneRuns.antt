@@ -71,7 +71,7 @@ pub tells : (m : Machine) → Reached m → has is_drop_begun m.world.trace ≡ 
 tells m reached = sym (begun-has 0 m.world.trace) ∙ ((heard_here m reached).placed.leaves 0).begun
 
 -- the executor's drop that hasn't begun later hasn't begun before
-gone_before : (ts : List Step) (s new : Machine) → Reached s → run_all ts s ≡ Ok new → new.world.gone ≡ false
+pub gone_before : (ts : List Step) (s new : Machine) → Reached s → run_all ts s ≡ Ok new → new.world.gone ≡ false
     → s.world.gone ≡ false
 gone_before ts s new reached made later = by (has is_drop_begun s.world.trace) refl
   where
@@ -90,7 +90,7 @@ pub passed : (b : Bool) (e : StepError) (later : Option StepError) → unless b 
 passed true e later is = refl
 passed false e later is = absurd cc
 
-not_true : (b : Bool) → not b ≡ true → b ≡ false
+pub not_true : (b : Bool) → not b ≡ true → b ≡ false
 not_true true is = absurd cc
 not_true false is = refl
 
@@ -307,7 +307,7 @@ pub all_steps : (p : ℕ) (P : World → Type 0) (ts : List Step) (s new : Machi
 all_steps p P ts s new os reached there later is leads follow made empty =
     ends_so p P new (all_rests p (AtEnd P) ts s new os reached there later is leads follow made empty)
 
-within : (n m : ℕ) → nat_lt n m ≡ true → n < m
+pub within : (n m : ℕ) → nat_lt n m ≡ true → n < m
 within n m is = grind (arith, nat_tests)
 
 upon_nothing : (d : Done) → upon [] d ≡ d

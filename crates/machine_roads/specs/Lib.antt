@@ -12,3 +12,4 @@ pub mod Ticking
 pub mod Searching
 pub mod Lone
 pub mod Course
+pub mod Within

@@ -41,8 +41,12 @@ pub mod Ticking
 pub mod TickPolls
 pub mod Copying
 pub mod LyingDown
+pub mod Bedding
+pub mod RunIdle
 pub mod Tying
 pub mod Having
+pub mod WhoLeaves
+pub mod Living
 pub mod LoneRuns
 pub mod LoneCalls
 pub mod LoneLosing
@@ -69,6 +73,7 @@ pub mod RunTaking
 pub mod RunSearching
 pub mod TakenBeside
 pub mod RunsOn
+pub mod RunLies
 pub mod LoneRunsOn
 pub mod LoneGoesOn
 pub mod Inside

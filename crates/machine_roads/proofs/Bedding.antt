@@ -1,13 +1,11 @@
 -- A tick or run that finds nothing lies down: it sleeps with a copy of its waker, searches again, and replaces the copy by another.
-use Rattle.std.proofs.Common.{◌≡◌, ℕ, zero, suc, ◌+◌, ◌≤◌, ◌<◌, ◌==◌, ◌++◌, ◌||◌, cond, nat_lt, Bool, true, false}
+use Rattle.std.proofs.Common.{◌≡◌, ℕ, zero, suc, ◌+◌, ◌≤◌, ◌<◌, ◌++◌, Bool, true, false}
 use Rattle.std.proofs.Common.{List, [], ◌∷◌, length, map, get_or, Option, Some, None, slice_get, slice_set, if◌then◌else◌}
 use Rattle.std.proofs.Common.{refl, sym, ap, subst, ◌∙◌, arith, append_assoc}
 use Rattle.std.specs.Prelude.{find}
 use Rattle.std.proofs.lemmas.List.{get_or-set_same}
-use Rattle.executor_parts.specs.Sleepers.{later, listed, next_number, position_of, put_to_sleep, waker_at, waker_in}
+use Rattle.executor_parts.specs.Sleepers.{listed, next_number, position_of, put_to_sleep, waker_at, waker_in}
 use Rattle.executor_model.specs.declared.call.Reply.TheVariants as reply
-use Rattle.executor_model.specs.declared.op.Hold.TheVariants as hold
-use Rattle.executor_model.specs.declared.op.Look.TheVariants as look
 use Rattle.executor_model.specs.declared.op.Op.{Op}
 use Rattle.executor_model.specs.declared.op.Op.TheVariants as op
 use Rattle.executor_model.specs.declared.op.Sleeping.{Sleeping}
@@ -15,11 +13,10 @@ use Rattle.executor_model.specs.declared.op.TickOp.TheVariants as tick_op
 use Rattle.executor_model.specs.declared.op.TickOrRun.{TickOrRun}
 use Rattle.executor_model.specs.declared.op.TickOrRun.TheVariants as tick_or_run
 use Rattle.executor_model.specs.declared.op.Waker.{Waker}
-use Rattle.executor_model.specs.declared.step.Hint.{Hint}
 use Rattle.executor_model.specs.ActsOfSleepers.{copy_sleeper_by, fall_asleep_by, pend_as, sleep_again_by, sleep_anew_by, sleep_listed_by}
 use Rattle.executor_model.specs.ActsOfSleepers.{sleeper_goes}
 use Rattle.executor_model.specs.SleepersAgree.{sleeps}
-use Rattle.executor_model.specs.World.{Asleep, Awake, Done, Left, Ticker, World, done, log, tick_of}
+use Rattle.executor_model.specs.World.{Asleep, Awake, Done, Left, Ticker, World}
 use Rattle.plain_scheduler.specs.Lists.{any, or, without}
 use Rattle.plain_scheduler.specs.Moves as plain
 use Rattle.plain_scheduler.specs.Takes as plain_takes
@@ -27,12 +24,12 @@ use Rattle.machine_roads.specs.View.{Output, wakes}
 use Rattle.machine_roads.specs.Road.{AreNumbered, Follows, place_in, sleeper, uncalled, who_of}
 use Rattle.machine_roads.proofs.Aside.{copied_inside, goes_inside}
 use Rattle.machine_roads.proofs.Copying.{copied_wakers, goes_back, lain_has}
-use Rattle.machine_roads.proofs.Lain.{Lies, all_called, all_uncalled, below_test, count_at, count_before, count_others, get_at, here_if}
-use Rattle.machine_roads.proofs.Lain.{left, lies_anew, long, neither}
-use Rattle.machine_roads.proofs.Lain.{none_found, found, one_lies, place_called, place_uncalled, room_called, split_uncalled, told_test}
+use Rattle.machine_roads.proofs.Lain.{Lies, all_called, all_uncalled, below_test, count_at, count_before, count_others, get_at}
+use Rattle.machine_roads.proofs.Lain.{left, lies_anew, long}
+use Rattle.machine_roads.proofs.Lain.{none_found, found, one_lies, place_called, place_uncalled, room_called, split_uncalled}
 use Rattle.machine_roads.proofs.Lain.{uncalled_append}
 use Rattle.machine_roads.proofs.Leaving.{sleeper_goes_so}
-use Rattle.machine_roads.proofs.Lists.{equal, get_last, length_last, map_append}
+use Rattle.machine_roads.proofs.Lists.{get_last, length_last, map_append}
 use Rattle.machine_roads.proofs.Numbers.{Another, It, IsNamed, Rests, Which, asleep_set, count, count_append, count_one, down, itself}
 use Rattle.machine_roads.proofs.Numbers.{numbered_append, numbered_first, numbered_rest, numbered_still, one_if, place_apart, rests_if}
 use Rattle.machine_roads.proofs.Numbers.{same_who, up as is_up, which}
@@ -48,7 +45,7 @@ use Rattle.executor_model.specs.World.{Run, no_run, place_of, runs_with, ticks_w
 use Rattle.plain_scheduler.specs.State.{Answer, Answers, AtOnce, Choice, Due, Granted, Later, Lying, NoMemory, Pending, Plain, Refusal, Who}
 use Rattle.plain_scheduler.specs.Moves.{answers, is_who, let_go, lies, tell}
 use Rattle.machine_roads.specs.Seeing.{answer_of, shown}
-use Rattle.machine_roads.specs.Alone.{is_resting, CanCopy}
+use Rattle.machine_roads.specs.Alone.{is_resting, CanCopy, CanLie, RunCanLie}
 use Rattle.machine_roads.proofs.Calling.{ends}
 use Rattle.machine_roads.proofs.Copying.{HasOne, copied_due, copied_has}
 use Rattle.machine_roads.proofs.LyingDown.{last_again, lengths, none_without, one_changed, position_last, replaced, set_at}
@@ -94,11 +91,6 @@ module _ (p : ℕ) (below : List Op) (under : is_resting below ≡ true) (end : 
       let e = ends p below under end rests w z r (held_as it) x same follows way in
       record { next = e.0; follows = e.1; inside = inside }
 
-  -- it can lie down: it lives, and finds room where it is awake
-  pub record CanLie (w : World) : Type 0 where
-    pub living : lives (place_of w it) ≡ true
-    pub roomed : place_of w it ≡ Awake → w.sleepers.count < w.sleepers.rooms
-
   copied_place : (w : World) → place_of (copied w a) it ≡ place_of w it
   copied_place w = by a it
     where
@@ -106,16 +98,6 @@ module _ (p : ℕ) (below : List Op) (under : is_resting below ≡ true) (end : 
       by (Task g) (tick_or_run.Tick t) = refl
       by (Task g) (tick_or_run.Run r) = refl
       by (Outside x) it = refl
-
-  copied_lies : (w : World) → CanLie w → CanLie (copied w a)
-  copied_lies w can = record {
-    living = ap lives (copied_place w) ∙ can.living;
-    roomed = λ awake. by a (can.roomed (sym (copied_place w) ∙ awake));
-  }
-    where
-      by : (a : Waker) → w.sleepers.count < w.sleepers.rooms → (copied w a).sleepers.count < (copied w a).sleepers.rooms
-      by (Task g) room = room
-      by (Outside x) room = room
 
   -- a search that finds nothing has looked everywhere, and comes to the copy of its waker
   pub record Idles (w : World) (z : Plain Output Waker) : Type 0 where
@@ -232,7 +214,7 @@ module _ (p : ℕ) (below : List Op) (under : is_resting below ≡ true) (end : 
           ∙ (ap (λ ps. ps ++ (who, a) ∷ []) same ∙ sym (uncalled_append (without (lies who) q1.lying) (new_one ∷ [])))
 
       -- it was awake
-      lies_anew_so : CanLie w1 → place_of w1 it ≡ Awake → any (lies who) q1.lying ≡ false → length q1.lying < c.tells
+      lies_anew_so : CanLie w1 it → place_of w1 it ≡ Awake → any (lies who) q1.lying ≡ false → length q1.lying < c.tells
           → Way p end (fall_asleep_by Awake w1 s).world ((fall_asleep_by Awake w1 s).next ++ below) → Result q
       lies_anew_so can awake none room way =
           let n = next_number w1.sleepers in
@@ -390,7 +372,7 @@ module _ (p : ℕ) (below : List Op) (under : is_resting below ≡ true) (end : 
                   Pending refl (goes_inside c (Some sp.one.1.waker) q2 ∙ copied_inside a q) g.follows g.way),
             )
 
-      falls_asleep : length q.lying < c.tells → Rests w1 q1 it → CanLie w1
+      falls_asleep : length q.lying < c.tells → Rests w1 q1 it → CanLie w1 it
           → Way p end (fall_asleep_by (place_of w1 it) w1 s).world ((fall_asleep_by (place_of w1 it) w1 s).next ++ below) → Result q
       falls_asleep room (is_up awake none) can way = by (place_of w1 it) refl awake can.living way
         where
@@ -410,9 +392,10 @@ module _ (p : ℕ) (below : List Op) (under : is_resting below ≡ true) (end : 
           by l None called way = lies_called n is l named called way
           by l (Some x) waker way = lies_again n is l named x waker way
 
-    -- it lies down, or that is refused
-    pub lies_down_so : (w : World) (q : Plain Output Waker) → Follows w q → length q.lying < c.tells → CanLie w
-        → Quiet q.due → Way p end w (op.Tick (tick_op.CopyWaker s) ∷ below) → Result q
+    -- it lies down, where it can once it has a copy, or that is refused
+    pub lies_down_so : (w : World) (q : Plain Output Waker) → Follows w q → length q.lying < c.tells
+        → (RunCanLie (copied w a) it → CanLie (copied w a) it) → Quiet q.due
+        → Way p end w (op.Tick (tick_op.CopyWaker s) ∷ below) → Result q
     lies_down_so w q follows room can quiet way =
         let step = next p end rests (op.Tick (tick_op.CopyWaker s)) w below refl way in
         by (is_copy_refused step.hint w a) step.has step.way
@@ -425,5 +408,5 @@ module _ (p : ℕ) (below : List Op) (under : is_resting below ≡ true) (end : 
         by false can_copy way =
             let two = next p end rests (op.Tick (tick_op.FallAsleep s)) (copied w a) below refl way in
             falls_asleep w q follows (omega (arith, room)) can_copy quiet room
-            (rests_if it (copied w a) (plain.copied wakes a q) (copies_so a w q follows can_copy) (λ n is. two.has))
-            (copied_lies w can) two.way
+            (rests_if it (copied w a) (plain.copied wakes a q) (copies_so a w q follows can_copy) (λ n is. two.has.0)) (can two.has.1)
+            two.way

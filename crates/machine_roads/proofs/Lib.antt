@@ -44,9 +44,9 @@ pub mod LyingDown
 pub mod Bedding
 pub mod RunIdle
 pub mod Tying
-pub mod Having
 pub mod WhoLeaves
 pub mod Living
+pub mod Having
 pub mod LoneRuns
 pub mod LoneCalls
 pub mod LoneLosing
@@ -72,8 +72,8 @@ pub mod Stealing
 pub mod RunTaking
 pub mod RunSearching
 pub mod TakenBeside
-pub mod RunsOn
 pub mod RunLies
+pub mod RunsOn
 pub mod LoneRunsOn
 pub mod LoneGoesOn
 pub mod Inside

@@ -27,12 +27,11 @@ use Rattle.executor_model.proofs.Sleepers.SleepersAway.{SleepersSeen, away-act, 
 use Rattle.executor_model.proofs.Sleepers.SleepersAway.{sleepers_seen-run}
 use Rattle.executor_model.proofs.Sleepers.TickLists.{places, places-at}
 use Rattle.executor_model.proofs.Steps.Lift.{first-true, good-start, none_refused, split, unsettled, weigh_all-idle}
-use Rattle.executor_model.proofs.Steps.Lists.{same_cases, weigh_all-push}
+use Rattle.executor_model.proofs.Steps.Lists.{same_cases, same_is, weigh_all-push}
 use Rattle.executor_model.proofs.Steps.Reached.{Reached}
 use Rattle.executor_model.proofs.Steps.RunsNext.{walk-unseen}
 use Rattle.executor_model.proofs.Steps.Ways.{Way, along}
 use Rattle.executor_model.proofs.Steps.Ways.Way.{acted, called, reacted}
-use Rattle.machine_roads.proofs.Having.{same_self}
 use Rattle.machine_roads.proofs.Lists.{clash}
 use Rattle.machine_roads.proofs.WhoLeaves.{blind, few_by, is_list, leaving_of, none_leave, none_tick}
 
@@ -250,6 +249,9 @@ registers New w x is =
     (alive_seen w (put_run w x.run y) (sleepers_seen-run w x.run y refl)) (λ r. omega arith)
 registers Listed w x is = still w _ _ refl (λ r. omega arith)
 registers Ended w x is = still w _ _ refl (λ r. omega arith)
+
+same_self : (g : ℕ) → same g g ≡ 1
+same_self g = grind (arith, same_is)
 
 below_of : (n m : ℕ) → (m ≤ n → ⊥) → n < m
 below_of n m never = by (or_past n m)

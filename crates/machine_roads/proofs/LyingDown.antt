@@ -455,7 +455,7 @@ module _ (p : ℕ) (below : List Op) (under : is_resting below ≡ true) (end : 
       by false can_copy way =
           let two = next p end rests (op.Tick (tick_op.FallAsleep s)) (copied w a) below refl way in
           falls_asleep w q follows (omega (arith, room)) can_copy quiet room
-          (rests_if (tick_or_run.Tick t) (copied w a) (plain.copied wakes a q) (copies_so a w q follows can_copy) (λ n is. two.has))
+          (rests_if (tick_or_run.Tick t) (copied w a) (plain.copied wakes a q) (copies_so a w q follows can_copy) (λ n is. two.has.0))
           (copied_can a w t can) two.way
 
 pub polls_tick_so : (p : ℕ) (here : Option Waker) (below : List Op) (w : World) (q : Plain Output Waker) → is_resting below ≡ true

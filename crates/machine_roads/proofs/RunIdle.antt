@@ -1,6 +1,6 @@
 -- A run's search where nothing is due: it looks at its own queue, at the executor's both and round the list, and comes to the copy of its
 -- waker.
-use Rattle.std.proofs.Common.{◌≡◌, ℕ, zero, suc, ◌+◌, ◌-◌, ◌%◌, ◌==◌, ◌++◌, Bool, true, false, List, [], ◌∷◌, length, refl, sym, ap, subst, ◌∙◌}
+use Rattle.std.proofs.Common.{◌≡◌, ℕ, zero, suc, ◌+◌, ◌-◌, ◌%◌, ◌==◌, ◌++◌, Bool, true, false, List, [], ◌∷◌, length, refl, ap, subst, ◌∙◌}
 use Rattle.executor_parts.specs.Marks.{first_of, other}
 use Rattle.executor_model.specs.declared.event.Event.TheVariants as event
 use Rattle.executor_model.specs.declared.op.ListOp.TheVariants as list_op
@@ -19,7 +19,7 @@ use Rattle.executor_model.specs.declared.op.Waker.{Waker}
 use Rattle.executor_model.specs.Acts.{turned}
 use Rattle.executor_model.specs.ActsOfRuns.{asleep, look_own_by, next_place, queue_at, search_common_by, search_own_by, steal_length_by}
 use Rattle.executor_model.specs.ActsOfRuns.{walk}
-use Rattle.executor_model.specs.World.{Done, Lock, World, own_of, queue_of}
+use Rattle.executor_model.specs.World.{Done, Lock, World, own_of}
 use Rattle.plain_scheduler.specs.State.{Choice, Due, Plain}
 use Rattle.plain_scheduler.specs.Moves.{is_common, is_kept}
 use Rattle.machine_roads.specs.View.{Output}

@@ -41,7 +41,11 @@ pub mod Ticking
 pub mod TickPolls
 pub mod Copying
 pub mod LyingDown
+pub mod Bedding
+pub mod RunIdle
 pub mod Tying
+pub mod WhoLeaves
+pub mod Living
 pub mod Having
 pub mod LoneRuns
 pub mod LoneCalls
@@ -68,6 +72,7 @@ pub mod Stealing
 pub mod RunTaking
 pub mod RunSearching
 pub mod TakenBeside
+pub mod RunLies
 pub mod RunsOn
 pub mod LoneRunsOn
 pub mod LoneGoesOn

@@ -59,19 +59,19 @@ use Rattle.machine_roads.proofs.Unseen.{turns}
 
 -- lists: one that comes last is put again, and is where it is looked for
 module _ {B : Type 0} where
-  last_again : (xs : List B) (x : B) → slice_set (xs ++ x ∷ []) (length xs) x ≡ xs ++ x ∷ []
+  pub last_again : (xs : List B) (x : B) → slice_set (xs ++ x ∷ []) (length xs) x ≡ xs ++ x ∷ []
   last_again [] x = refl
   last_again (y ∷ ys) x = ap (λ zs. y ∷ zs) (last_again ys x)
 
-  set_at : (xs ys : List B) (x y : B) → slice_set (xs ++ x ∷ ys) (length xs) y ≡ xs ++ y ∷ ys
+  pub set_at : (xs ys : List B) (x y : B) → slice_set (xs ++ x ∷ ys) (length xs) y ≡ xs ++ y ∷ ys
   set_at [] ys x y = refl
   set_at (z ∷ zs) ys x y = ap (λ us. z ∷ us) (set_at zs ys x y)
 
-  lengths : (xs ys : List B) (x y : B) → length (xs ++ x ∷ ys) ≡ length (xs ++ y ∷ ys)
+  pub lengths : (xs ys : List B) (x y : B) → length (xs ++ x ∷ ys) ≡ length (xs ++ y ∷ ys)
   lengths [] ys x y = refl
   lengths (z ∷ zs) ys x y = ap suc (lengths zs ys x y)
 
-  none_without : (test : B → Bool) (xs : List B) → any test xs ≡ false → without test xs ≡ xs
+  pub none_without : (test : B → Bool) (xs : List B) → any test xs ≡ false → without test xs ≡ xs
   none_without test [] none = refl
   none_without test (x ∷ xs) none =
       let both = neither (test x) (any test xs) none in
@@ -84,7 +84,7 @@ module _ {B : Type 0} where
       ap (λ b. (if b then h x else x) ∷ map (λ x. if test x then h x else x) xs) both.0
       ∙ ap (λ ys. x ∷ ys) (none_changed test h xs both.1)
 
-  one_changed : (test : B → Bool) (h : B → B) (xs ys : List B) (y : B) → any test xs ≡ false → test y ≡ true → any test ys ≡ false
+  pub one_changed : (test : B → Bool) (h : B → B) (xs ys : List B) (y : B) → any test xs ≡ false → test y ≡ true → any test ys ≡ false
       → map (λ x. if test x then h x else x) (xs ++ y ∷ ys) ≡ xs ++ h y ∷ ys
   one_changed test h [] ys y none it nor =
       ap (λ b. (if b then h y else y) ∷ map (λ x. if test x then h x else x) ys) it
@@ -94,7 +94,7 @@ module _ {B : Type 0} where
       ap (λ b. (if b then h x else x) ∷ map (λ x. if test x then h x else x) (xs ++ y ∷ ys)) both.0
       ∙ ap (λ zs. x ∷ zs) (one_changed test h xs ys y both.1 it nor)
 
-position_last : (n : ℕ) (s : Sleeping) (ws : List (ℕ × Sleeping)) → position_of n (ws ++ (n, s) ∷ []) ≡ Some (length ws)
+pub position_last : (n : ℕ) (s : Sleeping) (ws : List (ℕ × Sleeping)) → position_of n (ws ++ (n, s) ∷ []) ≡ Some (length ws)
 position_last n s [] = ap here_if (equal n n refl)
 position_last n s (e ∷ es) =
     ap (λ o. later o (here_if (n == e.0))) (position_last n s es) ∙ ap (λ k. Some k) (one_more (length es))
@@ -108,7 +108,7 @@ in_ticks (x ∷ xs) zero is = omega arith
 in_ticks (x ∷ xs) (suc t) is = let below = in_ticks xs t is in omega (arith, below)
 
 -- other sleepers, as many of them called
-replaced : (w : World) (q : Plain Output Waker) (ws : List (ℕ × Sleeping)) (ls : List (Lying Waker)) → Follows w q
+pub replaced : (w : World) (q : Plain Output Waker) (ws : List (ℕ × Sleeping)) (ls : List (Lying Waker)) → Follows w q
     → map sleeper ws ≡ uncalled ls → length ls ≡ length q.lying → length (uncalled ls) ≡ length (uncalled q.lying)
     → ((who : Who) → count who ls ≡ count who q.lying) → AreNumbered w.ticks w.runs ws
     → Follows (record w { sleepers = record w.sleepers { wakers = ws } }) (record q { lying = ls })
@@ -455,7 +455,7 @@ module _ (p : ℕ) (below : List Op) (under : is_resting below ≡ true) (end : 
       by false can_copy way =
           let two = next p end rests (op.Tick (tick_op.FallAsleep s)) (copied w a) below refl way in
           falls_asleep w q follows (omega (arith, room)) can_copy quiet room
-          (rests_if (tick_or_run.Tick t) (copied w a) (plain.copied wakes a q) (copies_so a w q follows can_copy) (λ n is. two.has))
+          (rests_if (tick_or_run.Tick t) (copied w a) (plain.copied wakes a q) (copies_so a w q follows can_copy) (λ n is. two.has.0))
           (copied_can a w t can) two.way
 
 pub polls_tick_so : (p : ℕ) (here : Option Waker) (below : List Op) (w : World) (q : Plain Output Waker) → is_resting below ≡ true

@@ -1,19 +1,22 @@
 -- A call that begins where a party stands in code of calls one inside another, or does nothing: where it rests first, both stand alike.
-use Rattle.std.proofs.Common.{◌≡◌, ℕ, suc, ◌<◌, ◌≤◌, ◌&&◌, not, Bool, true, false, List, [], length, Option, Some, None}
+use Rattle.std.proofs.Common.{◌≡◌, ℕ, suc, ◌<◌, ◌≤◌, ◌&&◌, not, Bool, true, false, List, [], ◌∷◌, length, Option, Some, None}
 use Rattle.std.proofs.Common.{is_some as is_there, refl, sym, ap, subst, ◌∙◌, arith}
 use Rattle.std.specs.Prelude.{reverse}
 use Rattle.executor_parts.specs.Marks.{first_of}
+use Rattle.executor_model.specs.declared.call.By.{By}
 use Rattle.executor_model.specs.declared.call.Call.{Call}
 use Rattle.executor_model.specs.declared.call.Call.TheVariants as call
 use Rattle.executor_model.specs.declared.call.Reply.TheVariants as reply
 use Rattle.executor_model.specs.declared.op.Hold.TheVariants as hold
 use Rattle.executor_model.specs.declared.op.Op.{Op}
 use Rattle.executor_model.specs.declared.op.Op.TheVariants as op
+use Rattle.executor_model.specs.declared.op.UserOp.TheVariants as user_op
 use Rattle.executor_model.specs.declared.op.Waker.{Waker}
 use Rattle.executor_model.specs.declared.step.Step.TheVariants.{Begin}
-use Rattle.executor_model.specs.Rows.{lending_of}
+use Rattle.executor_model.specs.Rows.{lending_of, running_of}
 use Rattle.executor_model.specs.Steps.{Machine, begin_refusal, future_of, has_all, is_some, is_unused, kept, mine, stack, top, waker_of}
-use Rattle.executor_model.specs.World.{Done, done, task}
+use Rattle.executor_model.specs.Steps.{is_known, is_there as is_in_use}
+use Rattle.executor_model.specs.World.{Done, done, run_of, task}
 use Rattle.executor_model.proofs.Steps.Reached.{Reached}
 use Rattle.plain_scheduler.specs.State.{AtOnce, Choice, Granted, Plain, Refusal, Taker, Tick, Try}
 use Rattle.plain_scheduler.specs.Moves as plain
@@ -28,7 +31,7 @@ use Rattle.machine_roads.specs.Course.{IsChosen}
 use Rattle.machine_roads.specs.Stopped.{Finally, Stops, of_tick, of_try}
 use Rattle.machine_roads.specs.Within.{ActsBy, IsCallIn, Nested, StandsAlike, alike, begins as begins_by, losing, may_stand_in, takes}
 use Rattle.machine_roads.specs.Within.{cancel, copy, detach, drop_handle, drop_tick, is_empty, keep, leak, new_run, new_tick, poll_handle}
-use Rattle.machine_roads.specs.Within.{poll_tick, release, spawn, try_tick, use_waker, wake, wake_self}
+use Rattle.machine_roads.specs.Within.{poll_run, poll_tick, polls_own, release, spawn, try_tick, use_waker, wake, wake_self}
 use Rattle.machine_roads.proofs.Calling.{cancels, copies_kept, detaches, empty_alike, handle_goes, keeps_own, spawns, uses_alike}
 use Rattle.machine_roads.proofs.Calling.{waker_goes, wakes_itself, wakes_kept}
 use Rattle.machine_roads.proofs.Cancelling.{cancel_output}
@@ -37,10 +40,11 @@ use Rattle.machine_roads.proofs.Inmost.{rests_in, wakes_none}
 use Rattle.machine_roads.proofs.Inside.{cancel_inside, copy_inside, detach_inside, drop_inside, handle_inside, poll_inside}
 use Rattle.machine_roads.proofs.Inside.{release_inside, run_inside, spawn_inside, tick_inside, use_inside, wake_inside}
 use Rattle.machine_roads.proofs.Leaking.{leak_inside, leaks}
-use Rattle.machine_roads.proofs.LoneRuns.{both_true}
+use Rattle.machine_roads.proofs.LoneRuns.{both_true, not_true}
 use Rattle.machine_roads.proofs.LoneTicks.{can_poll, owned_by, there_all}
 use Rattle.machine_roads.proofs.Losing.{detaches_to_lose, goes_to_lose}
 use Rattle.machine_roads.proofs.LyingDown.{polls_tick_so}
+use Rattle.machine_roads.proofs.OwnPolls.{Polls, at_once, in_own, its_poll, polls_run}
 use Rattle.machine_roads.proofs.PollCalls.{polls}
 use Rattle.machine_roads.proofs.RunsMade.{makes_run}
 use Rattle.machine_roads.proofs.Standing.{stops_so}
@@ -253,6 +257,33 @@ module _ (s : Machine) (reached : Reached s) (p : ℕ) (q : Plain Output Waker) 
       let e = makes_run p here below s.world q under follows (choice Granted) hints all rests in
       quick call.NewRun plain_calls.NewRun e.0 new_run (run_inside (choice e.0) q)
       (alone p hints (upon below (begins p here call.NewRun s.world))) e.1 e.2
+  one_begins (call.PollRun r b) on may = λ hints all rests.
+      let a = waker_of here b in
+      let x : plain_calls.Call Output Waker = plain_calls.PollRun r a in
+      let e = alone p hints (upon below (begins p here (call.PollRun r b) s.world)) in
+      by r b e (polls_run p here below under s.world q follows (choice Granted) r b (undropped r b (there (call.PollRun r b) may)) hints all rests)
+    where
+      undropped : (r : ℕ) (b : By) → has_all s.world s.parties its (call.PollRun r b) ≡ true → (run_of s.world r).dropped ≡ false
+      undropped r b has =
+          not_true (run_of s.world r).dropped
+          (both_true (is_in_use (run_of s.world r)) (is_unused (running_of r) s.parties)
+          (both_true (is_in_use (run_of s.world r) && is_unused (running_of r) s.parties) (is_known its b) has).0).0
+
+      by : (r : ℕ) (b : By) (e : Done) → Polls p here below under s.world q follows (choice Granted) r b e → Comes (call.PollRun r b) e
+      by r b e (at_once next inside leaves) =
+          quick (call.PollRun r b) (plain_calls.PollRun r (waker_of here b)) Granted (poll_run r b) inside e next leaves
+      by r b e (in_own next inside leaves) =
+          let x : plain_calls.Call Output Waker = plain_calls.PollRun r (waker_of here b) in
+          let z : Plain Output Waker = does wakes (choice Granted) x q in (
+            z,
+            acts (call.PollRun r b) x Granted (poll_run r b),
+            alike
+                (subst (λ os. Nested os z.inside) (sym next)
+                (subst (λ codes. Nested (op.User (user_op.PollOwn (its_poll p here below under s.world q follows (choice Granted) r b)) ∷ below) codes)
+                (sym inside)
+                (polls_own (its_poll p here below under s.world q follows (choice Granted) r b) below q.inside nested)))
+                leaves,
+          )
   one_begins call.Leak on may =
       plainly call.Leak plain_calls.Leak leak (leak_inside (choice Granted) q)
       (leaks p here below s.world q under follows (choice Granted)

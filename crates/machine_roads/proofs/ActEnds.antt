@@ -5,9 +5,13 @@ use Rattle.std.specs.Prelude.{reverse}
 use Rattle.task_moves.specs.declared.moves.owed.Move.{Move}
 use Rattle.task_moves.specs.declared.moves.owed.Move.TheVariants as move
 use Rattle.executor_model.specs.declared.event.Answer.TheVariants as answer
+use Rattle.executor_model.specs.declared.call.Reply.TheVariants as reply
 use Rattle.executor_model.specs.declared.op.HandleOp.TheVariants as handle_op
+use Rattle.executor_model.specs.declared.op.ListOp.TheVariants as list_op
 use Rattle.executor_model.specs.declared.op.Op.{Op}
 use Rattle.executor_model.specs.declared.op.Op.TheVariants as op
+use Rattle.executor_model.specs.declared.op.RunPoll.{RunPoll}
+use Rattle.executor_model.specs.declared.op.Section.TheVariants as section
 use Rattle.executor_model.specs.declared.op.TableOp.TheVariants as table_op
 use Rattle.executor_model.specs.declared.op.UserOp.TheVariants as user_op
 use Rattle.executor_model.specs.declared.op.Waker.{Waker}
@@ -20,7 +24,7 @@ use Rattle.executor_model.specs.Steps.{Machine, accepts, answer_refusal, react, 
 use Rattle.executor_model.specs.World.{Done, done, task}
 use Rattle.executor_model.proofs.Steps.Reached.{Reached}
 use Rattle.executor_model.proofs.Steps.Stepping.{refusal-there}
-use Rattle.plain_scheduler.specs.State.{Choice, Closed, Code, Drop, End, Future, Granted, Lose, Plain, Poll, Taker}
+use Rattle.plain_scheduler.specs.State.{Choice, Closed, Code, Drop, DropOwn, End, Future, Granted, Lose, Plain, Poll, PollOwn, Ready, Taker}
 use Rattle.plain_scheduler.specs.Lists.{on}
 use Rattle.plain_scheduler.specs.Moves as plain
 use Rattle.plain_scheduler.specs.Calls as plain_calls
@@ -33,13 +37,15 @@ use Rattle.machine_roads.specs.Forgotten.{IsForgotten, IsLastPoll, unawaited, wi
 use Rattle.machine_roads.specs.Losing.{IsLosing, left_of, without_handle}
 use Rattle.machine_roads.specs.Stopped.{Finally, IsInPoll}
 use Rattle.machine_roads.specs.Within.{ActsBy, IsMade, Nested, StandsAlike, alike, dropping, ends, forgetting, gives, losing, pends, standing}
-use Rattle.machine_roads.specs.Within.{takes}
+use Rattle.machine_roads.specs.Within.{drops_own, is_own_pending, takes}
 use Rattle.machine_roads.proofs.ActBegins.{choice_in, chosen_in, enough}
+use Rattle.machine_roads.proofs.Calling.{idles}
 use Rattle.machine_roads.proofs.Forgetting.{forgets_so, forgets_with, forgotten_by}
-use Rattle.machine_roads.proofs.Inmost.{Inmost, IsDropOf, drop, inmost, is_going, is_taken, none, poll, rests_in}
+use Rattle.machine_roads.proofs.Inmost.{Inmost, IsDropOf, drop, inmost, is_going, is_taken, none, own_drop, own_poll, poll, rests_in}
 use Rattle.machine_roads.proofs.Inside.{ends_inside}
 use Rattle.machine_roads.proofs.Losing.{loses_alike}
 use Rattle.machine_roads.proofs.LoneRuns.{passed}
+use Rattle.machine_roads.proofs.OwnPolls.{own_goes}
 use Rattle.machine_roads.proofs.Passing.{passes_end}
 use Rattle.machine_roads.proofs.Pending.{gives_so, pends_so}
 use Rattle.machine_roads.proofs.Puts.{put_at, put_by}
@@ -256,16 +262,60 @@ module _ (s : Machine) (reached : Reached s) (p : ℕ) (there : p < length s.par
         (back e (does wakes c1 Ends (r1 (Lose None None))) so.0 (ends_inside c1 (r1 (Lose None None)) inside refl) so.1))
     from_losing f at lost u ok = absurd cc
 
+    -- the poll of a run's own future, with an output
+    from_own_poll : (x : RunPoll) → q.inside ≡ PollOwn x.run x.waker ∷ inside → Follows s.world q → (u : UserEnd)
+        → is_own_pending (op.User (user_op.PollOwn x) ∷ below) u ≡ false → accepts (op.User (user_op.PollOwn x)) u ≡ true
+        → Leads u (op.User (user_op.PollOwn x)) below
+    from_own_poll x at follows (end.Polled answer.Ready) on ok = λ hints all rests.
+        let os = op.User (user_op.DropOwn x.run) ∷ op.List (list_op.LockWrite (section.Unregister x.run reply.Ready)) ∷ below in
+        let e = alone p hints (done s.world os) in
+        let stays : done s.world os ≡ e = sym (idles p hints os s.world refl) in
+        let z : Plain Output Waker = r1 (DropOwn x.run Ready) in
+        came (end.Polled answer.Ready) (EndsWith tt) gives e
+        (subst (λ y. StandsAlike e (does wakes c1 (EndsWith tt) y)) (same (PollOwn x.run x.waker) at)
+        (subst (λ (d : Done). StandsAlike d z) stays
+        (alike (drops_own x.run below inside nested)
+        (stands_in (DropOwn x.run Ready ∷ inside) s.world q follows (sym (ap (λ codes. waking_in codes) at))))))
+    from_own_poll x at follows (end.Polled answer.Pending) on ok = absurd cc
+    from_own_poll x at follows u on ok = absurd cc
+
+    -- and its drop
+    from_own_drop : (r : ℕ) → q.inside ≡ DropOwn r Ready ∷ inside → Follows s.world q → (u : UserEnd)
+        → accepts (op.User (user_op.DropOwn r)) u ≡ true
+        → Leads u (op.User (user_op.DropOwn r)) (op.List (list_op.LockWrite (section.Unregister r reply.Ready)) ∷ below)
+    from_own_drop r at follows end.Done ok = λ hints all rests.
+        let e = alone p hints (done s.world (op.List (list_op.LockWrite (section.Unregister r reply.Ready)) ∷ below)) in
+        let follows0 : Follows s.world r0 = stands_in inside s.world q follows (sym (ap (λ codes. waking_in codes) at)) in
+        let so = own_goes p below under s.world r0 follows0 c1 many r hints all rests in
+        came end.Done Ends ends e
+        (subst (λ y. StandsAlike e (does wakes c1 Ends y)) (same (DropOwn r Ready) at)
+        (back e (does wakes c1 Ends (r1 (DropOwn r Ready))) so.0 so.2 so.1))
+    from_own_drop r at follows u ok = absurd cc
+
   from_alike : (os : List Op) (codes : List (Code Output Waker)) → Inmost os codes → reverse (stack s p) ≡ os → q.inside ≡ codes
-      → Follows s.world q → (u : UserEnd) → refusal s (Answer p u) ≡ None → EndsSo u
-  from_alike os codes none is at follows u may = absurd (no_answer s p there u is may)
-  from_alike os codes (poll taker final below inside f it nested) is at follows u may = record {
+      → Follows s.world q → (u : UserEnd) → is_own_pending os u ≡ false → refusal s (Answer p u) ≡ None → EndsSo u
+  from_alike os codes none is at follows u on may = absurd (no_answer s p there u is may)
+  from_alike os codes (own_poll x below inside nested) is at follows u on may = record {
+    first = op.User (user_op.PollOwn x);
+    rest = below;
+    is = is;
+    leads = from_own_poll below inside nested x at follows u on (accepted u (op.User (user_op.PollOwn x)) below may is);
+  }
+  from_alike os codes (own_drop r below inside nested) is at follows u on may =
+      let xs = op.List (list_op.LockWrite (section.Unregister r reply.Ready)) ∷ below in
+      record {
+        first = op.User (user_op.DropOwn r);
+        rest = xs;
+        is = is;
+        leads = from_own_drop below inside nested r at follows u (accepted u (op.User (user_op.DropOwn r)) xs may is);
+      }
+  from_alike os codes (poll taker final below inside f it nested) is at follows u on may = record {
     first = op.User (user_op.Poll f);
     rest = final ∷ below;
     is = is;
     leads = from_poll below inside nested taker final it f is at follows u (accepted u (op.User (user_op.Poll f)) (final ∷ below) may is);
   }
-  from_alike os codes (drop taker final below inside f m why it how nested) is at follows u may =
+  from_alike os codes (drop taker final below inside f m why it how nested) is at follows u on may =
       let xs = op.Table (table_op.LeaveTable f) ∷ op.Move m f ∷ final ∷ below in
       record {
         first = op.User (user_op.Drop f);
@@ -275,10 +325,10 @@ module _ (s : Machine) (reached : Reached s) (p : ℕ) (there : p < length s.par
             from_drop below inside nested taker final it f m why how is at follows u (accepted u (op.User (user_op.Drop f)) xs may is);
       }
 
-  pub code_ends : StandsAlike (standing s p) q → (u : UserEnd) → refusal s (Answer p u) ≡ None → EndsSo u
-  code_ends (alike nested follows) u may =
-      from_alike (reverse (stack s p)) q.inside (inmost (reverse (stack s p)) q.inside nested) refl refl follows u may
-  code_ends (losing f below b nested stops) u may =
+  pub code_ends : StandsAlike (standing s p) q → (u : UserEnd) → is_own_pending (reverse (stack s p)) u ≡ false → refusal s (Answer p u) ≡ None → EndsSo u
+  code_ends (alike nested follows) u on may =
+      from_alike (reverse (stack s p)) q.inside (inmost (reverse (stack s p)) q.inside nested) refl refl follows u on may
+  code_ends (losing f below b nested stops) u on may =
       let xs = left_of f ++ below in
       record {
         first = op.User (user_op.DropOutput f);
@@ -288,9 +338,9 @@ module _ (s : Machine) (reached : Reached s) (p : ℕ) (there : p < length s.par
             from_losing below b.inside nested f stops.inside stops.losing u
             (accepted u (op.User (user_op.DropOutput f)) xs may stops.left);
       }
-  code_ends (dropping taker final below f b it nested (answered next inside follows)) u may =
-      from_alike below b.inside (inmost below b.inside nested) next inside follows u may
-  code_ends (dropping taker final below f b it nested (loses awaiter next inside ending)) u may =
+  code_ends (dropping taker final below f b it nested (answered next inside follows)) u on may =
+      from_alike below b.inside (inmost below b.inside nested) next inside follows u (ap (λ os. is_own_pending os u) (sym next) ∙ on) may
+  code_ends (dropping taker final below f b it nested (loses awaiter next inside ending)) u on may =
       let xs = rest_of (task s.world f).awaiter f final ++ below in
       record {
         first = op.User (user_op.DropOutput f);
@@ -300,7 +350,7 @@ module _ (s : Machine) (reached : Reached s) (p : ℕ) (there : p < length s.par
             from_loss below b.inside nested taker final it f awaiter inside ending u
             (accepted u (op.User (user_op.DropOutput f)) xs may next);
       }
-  code_ends (forgetting taker final below f b it nested stops) u may =
+  code_ends (forgetting taker final below f b it nested stops) u on may =
       let xs = op.Table (table_op.LeaveTable f) ∷ op.Handle (handle_op.LetGo f) ∷ final ∷ below in
       record {
         first = op.User (user_op.Drop f);

@@ -29,7 +29,7 @@ use Rattle.machine_roads.specs.Road.{Follows}
 use Rattle.machine_roads.specs.Alone.{is_outside, is_resting}
 use Rattle.machine_roads.specs.Dropped.{answered, loses}
 use Rattle.machine_roads.specs.Within.{Act, ActAlike, ActsBy, AreActs, ListsActAlike, Nested, StandsAlike, alike, calls_outside}
-use Rattle.machine_roads.specs.Within.{dropping, forgetting, goes_on, is_on_way, losing, may_stand_in, nowhere, owes, rests_after, standing}
+use Rattle.machine_roads.specs.Within.{dropping, forgetting, goes_on, is_on_way, is_own_pending, losing, may_stand_in, nowhere, owes, rests_after, standing}
 use Rattle.machine_roads.proofs.ActBegins.{one_begins}
 use Rattle.machine_roads.proofs.ActEnds.{code_ends}
 use Rattle.machine_roads.proofs.Calling.{begin_alike}
@@ -149,7 +149,9 @@ module _ (s : Machine) (reached : Reached s) (p : ℕ) (q : Plain Output Waker) 
       absurd (no_go_resting s p there h (reverse (stack s p)) refl (rests_alike (standing s p) q so) may)
   one_act (Answer r u) ts its on rests made =
       let whole = subst (λ n. run_all (Answer n u ∷ ts) s ≡ Ok new) its made in
-      let e = code_ends s reached p there open_still q so u (run-first (Answer p u) ts s new whole).0 in
+      let e =
+      code_ends s reached p there open_still q so u (not_true (is_own_pending (reverse (stack s p)) u) on)
+      (run-first (Answer p u) ts s new whole).0 in
       subst (λ n. Comes (Answer n u)) (sym its)
       (answer_leads p (λ e. (r : Plain Output Waker) × ActsBy s p (Answer p u) q r × StandsAlike e r) new later u e.first e.rest ts s
       reached there e.is e.leads (subst (λ n. rests_after p ts (after s (Answer n u)) ≡ true) its rests) whole)

@@ -5,8 +5,12 @@ use Rattle.std.specs.Prelude.{reverse}
 use Rattle.std.proofs.lemmas.List.{reverse-reverse}
 use Rattle.task_moves.specs.declared.moves.owed.Move.{Move}
 use Rattle.task_moves.specs.declared.moves.owed.Move.TheVariants as move
+use Rattle.executor_model.specs.declared.call.Reply.TheVariants as reply
+use Rattle.executor_model.specs.declared.op.ListOp.TheVariants as list_op
 use Rattle.executor_model.specs.declared.op.Op.{Op}
 use Rattle.executor_model.specs.declared.op.Op.TheVariants as op
+use Rattle.executor_model.specs.declared.op.RunPoll.{RunPoll}
+use Rattle.executor_model.specs.declared.op.Section.TheVariants as section
 use Rattle.executor_model.specs.declared.op.TableOp.TheVariants as table_op
 use Rattle.executor_model.specs.declared.op.UserOp.TheVariants as user_op
 use Rattle.executor_model.specs.declared.op.Waker.{Waker}
@@ -21,13 +25,13 @@ use Rattle.executor_model.proofs.OneFuture.Stories.{among_is}
 use Rattle.executor_model.proofs.Steps.Lift.{split}
 use Rattle.executor_model.proofs.Steps.Lists.{past_is}
 use Rattle.executor_model.proofs.Steps.Reached.{Reached, good-here}
-use Rattle.plain_scheduler.specs.State.{Closed, Code, Drop, End, Gave, Plain, Poll, Taker}
+use Rattle.plain_scheduler.specs.State.{Closed, Code, Drop, DropOwn, End, Gave, Plain, Poll, PollOwn, Ready, Taker}
 use Rattle.machine_roads.specs.View.{Output}
 use Rattle.machine_roads.specs.Road.{waking_in}
 use Rattle.machine_roads.specs.Alone.{is_resting}
 use Rattle.machine_roads.specs.Dropped.{EndsBy, given, polled, queued}
 use Rattle.machine_roads.specs.Stopped.{Finally, Stopped, answered, drops, drops_given, drops_polled, polls}
-use Rattle.machine_roads.specs.Within.{Nested, nowhere, takes}
+use Rattle.machine_roads.specs.Within.{Nested, drops_own, nowhere, polls_own, takes}
 use Rattle.machine_roads.proofs.Having.{heard_here, same_self}
 use Rattle.machine_roads.proofs.InHand.{InHand, in_hand}
 use Rattle.machine_roads.proofs.Standing.{IsGoing, IsTaken}
@@ -46,6 +50,11 @@ pub data Inmost : List Op → List (Code Output Waker) → Type 0 where
   drop : (taker : Taker Waker) (final : Op) (below : List Op) (inside : List (Code Output Waker)) (f : ℕ) (m : Move) (why : End Output)
       → ((q : Plain Output Waker) → Finally q taker final) → IsDropOf m why → Nested below inside
       → Inmost (op.User (user_op.Drop f) ∷ op.Table (table_op.LeaveTable f) ∷ op.Move m f ∷ final ∷ below) (Drop f why taker ∷ inside)
+  own_poll : (x : RunPoll) (below : List Op) (inside : List (Code Output Waker)) → Nested below inside
+      → Inmost (op.User (user_op.PollOwn x) ∷ below) (PollOwn x.run x.waker ∷ inside)
+  own_drop : (r : ℕ) (below : List Op) (inside : List (Code Output Waker)) → Nested below inside
+      → Inmost (op.User (user_op.DropOwn r) ∷ op.List (list_op.LockWrite (section.Unregister r reply.Ready)) ∷ below)
+      (DropOwn r Ready ∷ inside)
 
 inmost_by : (taker : Taker Waker) (final : Op) (below os : List Op) (inside codes : List (Code Output Waker))
     → ((q : Plain Output Waker) → Finally q taker final) → Nested below inside → Inmost below inside
@@ -63,18 +72,24 @@ pub inmost : (os : List Op) (codes : List (Code Output Waker)) → Nested os cod
 inmost os codes nowhere = none
 inmost os codes (takes taker final below xs inside more it nested stopped) =
     inmost_by taker final below os inside codes it nested (inmost below inside nested) stopped
+inmost os codes (polls_own x below inside nested) = own_poll x below inside nested
+inmost os codes (drops_own r below inside nested) = own_drop r below inside nested
 
 -- it rests there, and no code is one of the executor's drop
 rests_by : (os : List Op) (codes : List (Code Output Waker)) → Inmost os codes → is_resting os ≡ true
 rests_by os codes none = refl
 rests_by os codes (poll taker final below inside f it nested) = refl
 rests_by os codes (drop taker final below inside f m why it is nested) = refl
+rests_by os codes (own_poll x below inside nested) = refl
+rests_by os codes (own_drop r below inside nested) = refl
 
 pub rests_in : (os : List Op) (codes : List (Code Output Waker)) → Nested os codes → is_resting os ≡ true
 rests_in os codes nested = rests_by os codes (inmost os codes nested)
 
 pub wakes_none : (os : List Op) (codes : List (Code Output Waker)) → Nested os codes → waking_in codes ≡ []
 wakes_none os codes nowhere = refl
+wakes_none os codes (polls_own x below inside nested) = wakes_none below inside nested
+wakes_none os codes (drops_own r below inside nested) = wakes_none below inside nested
 wakes_none os codes (takes taker final below xs inside more it nested stopped) =
     by (wakes_none below inside nested) os codes stopped
   where

@@ -85,3 +85,4 @@ pub mod Inmost
 pub mod ActBegins
 pub mod ActEnds
 pub mod Acts
+pub mod OwnPolls

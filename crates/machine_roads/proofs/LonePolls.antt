@@ -155,12 +155,12 @@ module _ (s new : Machine) (reached : Reached s) (p : ℕ) (there : p < length s
         same = refl;
       }
 
-or_ended : (b : Bool) → (b || true) ≡ true
+pub or_ended : (b : Bool) → (b || true) ≡ true
 or_ended true = refl
 or_ended false = refl
 
 -- a run that comes into the list is as it was
-registered_so : (r : ℕ) (w : World) (q : Plain Output Waker) → Follows w q → Follows (registered (run_of w r).stage w r) q
+pub registered_so : (r : ℕ) (w : World) (q : Plain Output Waker) → Follows w q → Follows (registered (run_of w r).stage w r) q
 registered_so r w q follows = by (run_of w r).stage refl
   where
     by : (st : Stage) → (run_of w r).stage ≡ st → Follows (registered st w r) q

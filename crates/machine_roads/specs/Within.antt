@@ -6,21 +6,26 @@ use Rattle.executor_parts.specs.declared.mark.Mark.{Mark}
 use Rattle.executor_model.specs.declared.call.By.{By}
 use Rattle.executor_model.specs.declared.call.Call.{Call}
 use Rattle.executor_model.specs.declared.call.Call.TheVariants as call
+use Rattle.executor_model.specs.declared.call.Reply.TheVariants as reply
 use Rattle.executor_model.specs.declared.event.Answer.TheVariants.{Pending, Ready}
 use Rattle.executor_model.specs.declared.kind.Kind.{Kind}
 use Rattle.executor_model.specs.declared.op.HandleOp.TheVariants as handle_op
+use Rattle.executor_model.specs.declared.op.ListOp.TheVariants as list_op
 use Rattle.executor_model.specs.declared.op.Op.{Op}
 use Rattle.executor_model.specs.declared.op.Op.TheVariants as op
+use Rattle.executor_model.specs.declared.op.RunPoll.{RunPoll}
+use Rattle.executor_model.specs.declared.op.Section.TheVariants as section
 use Rattle.executor_model.specs.declared.op.TableOp.TheVariants as table_op
 use Rattle.executor_model.specs.declared.op.UserOp.TheVariants as user_op
 use Rattle.executor_model.specs.declared.op.Waker.{Waker}
 use Rattle.executor_model.specs.declared.step.Step.{Step}
 use Rattle.executor_model.specs.declared.step.Step.TheVariants.{Answer, Begin, Go}
+use Rattle.executor_model.specs.declared.step.UserEnd.{UserEnd}
 use Rattle.executor_model.specs.declared.step.UserEnd.TheVariants.{Done as IsDone, Polled}
 use Rattle.executor_model.specs.Executions.{run_all}
 use Rattle.executor_model.specs.Steps.{Machine, after, future_of, is_static_kind, kept, mine, party_of, stack, start, top, waker_of}
 use Rattle.executor_model.specs.World.{Done, World, done}
-use Rattle.plain_scheduler.specs.State.{Choice, Code, Plain, Taker}
+use Rattle.plain_scheduler.specs.State.{Choice, Code, DropOwn, Plain, PollOwn, Ready as IsReady, Taker}
 use Rattle.plain_scheduler.specs.Calls as plain
 use Rattle.plain_scheduler.specs.Calls.{does, new}
 use Rattle.machine_roads.specs.View.{Output, wakes}
@@ -71,17 +76,22 @@ owes (op.User (user_op.DropOutput f) ∷ os) = true
 owes (op.User (user_op.Drop f) ∷ op.Table (table_op.LeaveTable g) ∷ op.Handle (handle_op.LetGo h) ∷ os) = true
 owes _ = false
 
--- but polls and drops of runs, and the executor's drop
+-- but drops of runs, and the executor's drop
 abbrev pub may_stand_in : Call → Bool
-may_stand_in (call.PollRun r b) = false
 may_stand_in (call.DropRun r) = false
 may_stand_in call.DropExecutor = false
 may_stand_in _ = true
 
--- no call begins where one owes something
+-- a run's own future gives no output
+abbrev pub is_own_pending : List Op → UserEnd → Bool
+is_own_pending (op.User (user_op.PollOwn x) ∷ os) (Polled Pending) = true
+is_own_pending _ u = false
+
+-- no call begins where one owes something, and no run's own future gives no output
 abbrev pub is_on_way : List Op → Step → Bool
 is_on_way os (Begin p c) = may_stand_in c && not (owes os)
-is_on_way os _ = true
+is_on_way os (Go p h) = true
+is_on_way os (Answer p u) = not (is_own_pending os u)
 
 -- one act after the other
 abbrev pub AreActs : Machine → List Act → Type 0
@@ -107,6 +117,7 @@ pub data IsCallIn (here : Option Waker) (w : World) : Call → plain.Call Output
   poll_tick : (t : ℕ) (b : By) → IsCallIn here w (call.PollTick t b) (plain.PollTick t (waker_of here b))
   drop_tick : (t : ℕ) → IsCallIn here w (call.DropTick t) (plain.DropTick t)
   new_run : IsCallIn here w call.NewRun plain.NewRun
+  poll_run : (r : ℕ) (b : By) → IsCallIn here w (call.PollRun r b) (plain.PollRun r (waker_of here b))
   leak : IsCallIn here w call.Leak plain.Leak
 
 -- what an act is that begins so: a call, or the end of the innermost code
@@ -124,13 +135,18 @@ pub record ActsBy (s : Machine) (p : ℕ) (t : Step) (q r : Plain Output Waker) 
   pub is : IsMade s p t made
   pub so : does wakes choice made q ≡ r
 
--- what a party has still to do in tries and polls of ticks, one inside another, each in the poll or the drop of the future that it took,
--- and the code in which the plain scheduler's calls stand
+-- what a party has still to do in tries, polls of ticks and of runs, one inside another, each in the poll or the drop of the future that it
+-- took, or of the run's own, and the code in which the plain scheduler's calls stand
 pub data Nested : List Op → List (Code Output Waker) → Type 0 where
   nowhere : Nested [] []
   takes : (taker : Taker Waker) (final : Op) (below os : List Op) (inside codes : List (Code Output Waker))
       → ((q : Plain Output Waker) → Finally q taker final) → Nested below inside → Stopped taker final below inside os codes
       → Nested os codes
+  polls_own : (x : RunPoll) (below : List Op) (inside : List (Code Output Waker)) → Nested below inside
+      → Nested (op.User (user_op.PollOwn x) ∷ below) (PollOwn x.run x.waker ∷ inside)
+  drops_own : (r : ℕ) (below : List Op) (inside : List (Code Output Waker)) → Nested below inside
+      → Nested (op.User (user_op.DropOwn r) ∷ op.List (list_op.LockWrite (section.Unregister r reply.Ready)) ∷ below)
+      (DropOwn r IsReady ∷ inside)
 
 -- both stand alike, or, in such a drop, alike but for what the call still owes
 pub data StandsAlike (e : Done) (q : Plain Output Waker) : Type 0 where

@@ -78,4 +78,7 @@ pub mod LoneRunsOn
 pub mod LoneGoesOn
 pub mod Inside
 pub mod Open
+pub mod Fitting
+pub mod FewTaken
+pub mod FewAfter
 pub mod Course

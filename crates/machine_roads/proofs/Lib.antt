@@ -47,6 +47,7 @@ pub mod Tying
 pub mod WhoLeaves
 pub mod Living
 pub mod Having
+pub mod Fitting
 pub mod LoneRuns
 pub mod LoneCalls
 pub mod LoneLosing
@@ -76,9 +77,9 @@ pub mod RunLies
 pub mod RunsOn
 pub mod LoneRunsOn
 pub mod LoneGoesOn
+pub mod LoneRunPolls
 pub mod Inside
 pub mod Open
-pub mod Fitting
 pub mod FewTaken
 pub mod FewAfter
 pub mod Course

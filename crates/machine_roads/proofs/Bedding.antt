@@ -48,7 +48,7 @@ use Rattle.machine_roads.specs.Seeing.{answer_of, shown}
 use Rattle.machine_roads.specs.Alone.{is_resting, CanCopy, CanLie, RunCanLie}
 use Rattle.machine_roads.proofs.Calling.{ends}
 use Rattle.machine_roads.proofs.Copying.{HasOne, copied_due, copied_has}
-use Rattle.machine_roads.proofs.LyingDown.{last_again, lengths, none_without, one_changed, position_last, replaced, set_at}
+use Rattle.machine_roads.proofs.Replacing.{last_again, lengths, none_without, one_changed, position_last, replaced, set_at}
 use Rattle.machine_roads.proofs.Numbers.{placed_view}
 
 -- who was awake is where it is put

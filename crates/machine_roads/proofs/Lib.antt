@@ -40,8 +40,9 @@ pub mod Leaving
 pub mod Ticking
 pub mod TickPolls
 pub mod Copying
-pub mod LyingDown
+pub mod Replacing
 pub mod Bedding
+pub mod LyingDown
 pub mod RunIdle
 pub mod Tying
 pub mod WhoLeaves

@@ -35,7 +35,7 @@ use Rattle.machine_roads.proofs.Calling.{begin_alike, cancels, copies_kept, deta
 use Rattle.machine_roads.proofs.Calling.{waker_goes, wakes_kept}
 use Rattle.machine_roads.proofs.Cancelling.{cancel_output}
 use Rattle.machine_roads.proofs.Exchanging.{loudly}
-use Rattle.machine_roads.proofs.FewAfter.{few_after, few_polled, polls_run}
+use Rattle.machine_roads.proofs.FewAfter.{few_after, few_polled}
 use Rattle.machine_roads.proofs.FewTaken.{AllFew}
 use Rattle.machine_roads.proofs.Fitting.{ended_of}
 use Rattle.machine_roads.proofs.Inside.{cancel_inside, copy_inside, detach_inside, drop_inside, ends_inside, handle_inside, poll_inside}

@@ -1,6 +1,6 @@
 -- With a call, made where each run has taken fewer than 200 since it last let others go first, and the ends of all the code that it comes
 -- to, each run has so again.
-use Rattle.std.proofs.Common.{◌≡◌, ℕ, ◌+◌, nat_lt, Bool, true, false, [], ◌∷◌, ◌++◌, length, None}
+use Rattle.std.proofs.Common.{◌≡◌, ℕ, nat_lt, Bool, true, false, [], ◌∷◌, ◌++◌, length, None}
 use Rattle.std.proofs.Common.{inl, inr, slice_get, if◌then◌else◌, refl, subst, ◌∙◌}
 use Rattle.executor_parts.specs.declared.mark.Mark.{Mark}
 use Rattle.task_moves.specs.AbstractTask as abstract
@@ -20,12 +20,12 @@ use Rattle.plain_scheduler.specs.Calls as calls
 use Rattle.plain_scheduler.specs.Calls.{does, is_granted, living_from}
 use Rattle.machine_roads.specs.View.{Output, wakes}
 use Rattle.machine_roads.specs.Lone.{Ended, ends, over}
-use Rattle.machine_roads.specs.Course.{GoesBy, IsCall, cancel, copy, detach, drop_executor, drop_handle, drop_run, drop_tick, is_empty, leak}
-use Rattle.machine_roads.specs.Course.{new_run, new_tick, poll_handle, poll_run, poll_tick, release, spawn, try_tick, use_waker, wake}
+use Rattle.machine_roads.specs.Course.{GoesBy, IsCall, cancel, copy, detach, drop_executor, drop_handle, drop_run, drop_tick, is_empty}
+use Rattle.machine_roads.specs.Course.{leak, new_run, new_tick, poll_handle, poll_run, poll_tick, release, spawn, try_tick, use_waker, wake}
 use Rattle.machine_roads.proofs.Aside.{becomes_keeps, copied_keeps, goes_keeps, leaves_keeps, put_keeps}
 use Rattle.machine_roads.proofs.Fitting.{Ends, Fitting, Over, is_end_of}
-use Rattle.machine_roads.proofs.FewTaken.{AllFew, AtRest, Counts, InCodes, aside, called_sight, code_ends, counts_at, counts_same, each_sight}
-use Rattle.machine_roads.proofs.FewTaken.{ended_by, pushed, rest_same, sight, takes, tell_sight}
+use Rattle.machine_roads.proofs.FewTaken.{AllFew, AtRest, Counts, InCodes, aside, called_sight, code_ends, counts_at, counts_same}
+use Rattle.machine_roads.proofs.FewTaken.{each_sight, ended_by, pushed, rest_same, sight, takes, tell_sight}
 
 -- all the code that it comes to ends
 
@@ -45,7 +45,8 @@ at_rest b z nowhere few = subst (λ codes. InCodes b codes z.runs) nowhere few
 pub few_polled : (c : Choice) (r : ℕ) (a : Waker) (q z : Plain Output Waker) → q.inside ≡ [] → AllFew q.runs
     → Fitting (does wakes c (calls.PollRun r a) q) z → z.inside ≡ [] → AllFew z.runs
 few_polled c r a q z nowhere all fitting after =
-    at_rest true z after (few_fitting (does wakes c (calls.PollRun r a) q) z fitting (by (or (slice_get q.runs r) (λ run. run.is_over) true)))
+    at_rest true z after
+    (few_fitting (does wakes c (calls.PollRun r a) q) z fitting (by (or (slice_get q.runs r) (λ run. run.is_over) true)))
   where
     by : (b : Bool) → Counts true (if b then answers Finished q else enters (PollOwn r a) q)
     by true = counts_at true q (record { nowhere = nowhere; all = all })

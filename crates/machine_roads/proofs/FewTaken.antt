@@ -1,15 +1,13 @@
--- Between two calls on the plain scheduler each run has taken fewer than 200 since it last let others go first: with its 200th it lets them.
-use Rattle.std.proofs.Common.{◌≡◌, ◌⊎◌, ℕ, zero, suc, ◌+◌, ◌==◌, nat_lt, Bool, true, false, List, [], ◌∷◌, ◌++◌, Option, Some, None}
+-- Between two calls on the plain scheduler each run has taken fewer than 200 since it last let others go first: behind its 200th it does.
+use Rattle.std.proofs.Common.{◌≡◌, ◌⊎◌, ℕ, zero, suc, ◌==◌, nat_lt, Bool, true, false, List, [], ◌∷◌, ◌++◌, Option, Some, None}
 use Rattle.std.proofs.Common.{inl, inr, slice_get, slice_set, if◌then◌else◌, refl, sym, ap, subst, ◌∙◌, arith}
 use Rattle.std.specs.Prelude.{count_by, find}
 use Rattle.std.proofs.lemmas.Bool.Decides.{nat_tests}
 use Rattle.task_moves.specs.AbstractTask as abstract
 use Rattle.task_moves.specs.AbstractTask.{AbstractTask}
 use Rattle.executor_model.specs.declared.op.Waker.{Waker}
-use Rattle.executor_model.specs.declared.call.Call.{Call}
-use Rattle.executor_model.specs.declared.call.Call.TheVariants as call
-use Rattle.plain_scheduler.specs.State.{ARun, ATick, Calls, Choice, Close, Closed, Code, Drop, DropOwn, Drops, Due, End, Future}
-use Rattle.plain_scheduler.specs.State.{Done, Finished, Lose, Loses, Pending, Plain, Poll, PollOwn, Polls, Run, Running, Taker, Tick, Try}
+use Rattle.plain_scheduler.specs.State.{ARun, ATick, Calls, Choice, Close, Closed, Code, Drop, DropOwn, Due, End, Future}
+use Rattle.plain_scheduler.specs.State.{Done, Lose, Loses, Pending, Plain, Poll, PollOwn, Polls, Run, Running, Taker, Tick, Try}
 use Rattle.plain_scheduler.specs.Lists.{each, on, or, repeat, without}
 use Rattle.plain_scheduler.specs.Moves.{answers, appended, becomes, called, chosen, enters, given_back, is_common, is_kept, keeps, leaves}
 use Rattle.plain_scheduler.specs.Moves.{let_go, looks, moved, put, see, task, tell, up}
@@ -18,11 +16,10 @@ use Rattle.plain_scheduler.specs.Takes as plain_takes
 use Rattle.plain_scheduler.specs.Calls as calls
 use Rattle.plain_scheduler.specs.Calls.{does}
 use Rattle.machine_roads.specs.View.{Output, wakes}
-use Rattle.machine_roads.specs.Lone.{ends, is_end}
-use Rattle.machine_roads.specs.Course.{release, wake}
+use Rattle.machine_roads.specs.Lone.{is_end}
 use Rattle.machine_roads.proofs.Aside.{IsAside, becomes_keeps, called_with, goes_keeps, leaves_keeps, put_keeps, rests_keeps}
 use Rattle.machine_roads.proofs.Aside.{tell_keeps, up_keeps}
-use Rattle.machine_roads.proofs.Fitting.{Ends, fits, fits_in}
+use Rattle.machine_roads.proofs.Fitting.{fits, fits_in}
 use Rattle.machine_roads.proofs.Lists.{clash, same_of}
 use Rattle.machine_roads.proofs.Runs.{changed, changed_rest, ended_run, one_more, runs_is}
 

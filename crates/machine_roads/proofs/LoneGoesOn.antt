@@ -1,7 +1,7 @@
 -- A lone poll of a run whose own future gives no output, with the ends of all the code that it comes to: it takes until it has taken 200
 -- and lets others go first, or lies down where nothing is due.
-use Rattle.std.proofs.Common.{◌≡◌, ℕ, suc, ◌+◌, ◌-◌, ◌≤◌, ◌<◌, ◌++◌, ◌||◌, nat_lt, Bool, true, false, List, [], ◌∷◌, length, slice_get, Option}
-use Rattle.std.proofs.Common.{Some, None, if◌then◌else◌, refl, sym, ap, subst, ◌∙◌, arith}
+use Rattle.std.proofs.Common.{◌≡◌, ℕ, suc, ◌+◌, ◌-◌, ◌≤◌, ◌<◌, ◌++◌, ◌||◌, nat_lt, Bool, true, false, List, [], ◌∷◌, length, slice_get}
+use Rattle.std.proofs.Common.{Option, Some, None, if◌then◌else◌, refl, sym, ap, subst, ◌∙◌, arith}
 use Rattle.std.proofs.lemmas.Bool.Decides.{nat_tests}
 use Rattle.executor_model.specs.declared.call.By.{By}
 use Rattle.executor_model.specs.declared.call.Call.TheVariants as call
@@ -116,8 +116,8 @@ module _ (s : Machine) (reached : Reached s) (q : Plain Output Waker) (quiet : I
 
   leads : LeadsSo p (done own.world (op.Tick (tick_op.Search (asleep x)) ∷ [])) S
   leads hints all rests =
-      goes_from p x [] q (suc (length q.lying)) t (alone p hints (done own.world (op.Tick (tick_op.Search (asleep x)) ∷ []))) pends_with refl
-      rests c own.world q own.follows_in (one_more (length q.lying)) now refl (record { hints = hints; has = all; is = refl }) next_so
+      goes_from p x [] q (suc (length q.lying)) t (alone p hints (done own.world (op.Tick (tick_op.Search (asleep x)) ∷ []))) pends_with
+      refl rests c own.world q own.follows_in (one_more (length q.lying)) now refl (record { hints = hints; has = all; is = refl }) next_so
 
   rested : Rests p S new
   rested =

@@ -34,7 +34,6 @@ use Rattle.executor_model.specs.declared.op.RunPoll.{RunPoll}
 use Rattle.executor_model.specs.Steps.{Machine, accepts, react}
 use Rattle.executor_model.proofs.Steps.Reached.{Reached}
 use Rattle.plain_scheduler.specs.State.{Choice, Closed, Code, Drop, End, Future, Lose, Plain, Poll, Run, Taker}
-use Rattle.plain_scheduler.specs.Lists.{any}
 use Rattle.plain_scheduler.specs.Moves.{task as plain_task}
 use Rattle.plain_scheduler.specs.Calls.{does, Ends, EndsWith, Pends}
 use Rattle.machine_roads.specs.Searching.{goes_on_by}
@@ -236,7 +235,8 @@ module _ (p : ℕ) (new : Machine) (later : new.world.gone ≡ false) (at_last :
         let S : Done → Type 0 = λ e. Left So r0 n (λ d. does wakes d Ends r1) e in
         let leads : LeadsSo p (done m.world os) S =
         λ hints all rests.
-        left_by So r0 n (drops_with taker f why r0) (alone p hints (done m.world os)) rests (most r0) (between_inside x.run last t r codes now)
+        left_by So r0 n (drops_with taker f why r0) (alone p hints (done m.world os)) rests (most r0)
+        (between_inside x.run last t r codes now)
         (dropped_by p [] m.world r0 refl (stands_in codes m.world r follows (sym (ap (λ codes. waking_in codes) inside))) taker final
         f mv why going.known going.entered going.ends (telling n c) (least r0) hints all rests) in
         let here : LeadsSo p (done (react p y.first y.end m.world).world ((react p y.first y.end m.world).next ++ y.rest)) S =

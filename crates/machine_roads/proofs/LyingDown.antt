@@ -22,7 +22,7 @@ use Rattle.executor_model.specs.Acts.{turned}
 use Rattle.executor_model.specs.Steps.{waker_of}
 use Rattle.executor_model.specs.World.{Done, World, done, log}
 use Rattle.plain_scheduler.specs.State.{ATick, Choice, Due, Plain, Refusal, Tick}
-use Rattle.plain_scheduler.specs.Lists.{any, without}
+use Rattle.plain_scheduler.specs.Lists.{any}
 use Rattle.plain_scheduler.specs.Moves.{is_common}
 use Rattle.plain_scheduler.specs.Takes as plain_takes
 use Rattle.plain_scheduler.specs.Calls.{does, PollTick}

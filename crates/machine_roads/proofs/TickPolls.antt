@@ -22,7 +22,7 @@ use Rattle.executor_model.specs.ActsOfSleepers.{found_by, look_tick_by}
 use Rattle.executor_model.specs.World.{Asleep, Awake, Done, Left, Ticker, World, put_queue, queue_of, tick_of}
 use Rattle.plain_scheduler.specs.State.{ATick, Choice, Due, Plain, Refusal, Granted, Tick, Who}
 use Rattle.plain_scheduler.specs.Lists.{any, or, without}
-use Rattle.plain_scheduler.specs.Moves.{chosen, commons, is_common, lies, tell, up}
+use Rattle.plain_scheduler.specs.Moves.{chosen, commons, is_common, tell, up}
 use Rattle.plain_scheduler.specs.Takes as plain_takes
 use Rattle.plain_scheduler.specs.Calls.{does, PollTick}
 use Rattle.machine_roads.specs.View.{Output, wakes}

@@ -48,7 +48,7 @@ use Rattle.machine_roads.specs.Seeing.{answer_of, shown}
 use Rattle.machine_roads.specs.Alone.{is_resting, CanCopy, CanLie, RunCanLie}
 use Rattle.machine_roads.proofs.Calling.{ends}
 use Rattle.machine_roads.proofs.Copying.{HasOne, copied_due, copied_has}
-use Rattle.machine_roads.proofs.LyingDown.{last_again, lengths, none_without, one_changed, position_last, replaced, set_at}
+use Rattle.machine_roads.proofs.Replacing.{last_again, lengths, none_without, one_changed, position_last, replaced, set_at}
 use Rattle.machine_roads.proofs.Numbers.{placed_view}
 
 -- who was awake is where it is put
@@ -224,7 +224,8 @@ module _ (p : ℕ) (below : List Op) (under : is_resting below ≡ true) (end : 
           subst (λ b. Way p end (sleep_anew_by b w1 s).world ((sleep_anew_by b w1 s).next ++ below))
           (below_test w1.sleepers.count w1.sleepers.rooms (can.roomed awake)) way in
           let follows2 : Follows w2 lain =
-          lies_anew w1 q1 (put_to_sleep s w1.sleepers) lain.lying (ticks_with w1.ticks it (Asleep n)) (runs_with w1.runs it (Asleep n)) follows1
+          lies_anew w1 q1 (put_to_sleep s w1.sleepers) lain.lying (ticks_with w1.ticks it (Asleep n)) (runs_with w1.runs it (Asleep n))
+          follows1
           (lain_so w1.sleepers.wakers n (follows1.wakers ∙ ap uncalled (sym as_it_was)))
           (ap (λ n. n + 1) follows1.count
           ∙ (one_more (length q1.lying)
@@ -252,7 +253,8 @@ module _ (p : ℕ) (below : List Op) (under : is_resting below ≡ true) (end : 
 
           -- it sleeps too
           abed : (x : TickOrRun) → Which it x
-              → count (who_of x) lain.lying ≡ sleeps (place_in (ticks_with w1.ticks it (Asleep (next_number w1.sleepers))) (runs_with w1.runs it (Asleep (next_number w1.sleepers))) x)
+              → count (who_of x) lain.lying ≡ sleeps (place_in (ticks_with w1.ticks it (Asleep (next_number w1.sleepers)))
+              (runs_with w1.runs it (Asleep (next_number w1.sleepers))) x)
           abed x It =
               let here = placed_so w1.ticks w1.runs it (Asleep (next_number w1.sleepers)) awake in
               let before : count who q1.lying ≡ 0 = follows1.asleep it ∙ ap sleeps awake in

@@ -3,6 +3,7 @@ use Rattle.std.proofs.Common.{◌≡◌, ℕ, suc, ◌<◌, ◌≤◌, ◌&&◌,
 use Rattle.std.proofs.Common.{is_some as is_there, refl, sym, ap, subst, ◌∙◌, arith}
 use Rattle.executor_parts.specs.Marks.{first_of}
 use Rattle.task_moves.specs.AbstractTask as abstract
+use Rattle.executor_model.specs.declared.call.By.{By}
 use Rattle.executor_model.specs.declared.call.Call.{Call}
 use Rattle.executor_model.specs.declared.call.Call.TheVariants as call
 use Rattle.executor_model.specs.declared.op.Op.{Op}
@@ -27,13 +28,16 @@ use Rattle.machine_roads.specs.Road.{Follows}
 use Rattle.machine_roads.specs.Alike.{begins, refused_first, refuses_first, refuses_second, upon}
 use Rattle.machine_roads.specs.Lone.{NoneWaits, ends as ends_with, over}
 use Rattle.machine_roads.specs.Course.{AreLone, GoAlike, GoesBy, IsCall, IsChosen, ListsGoAlike, Lone, are_behind, are_on_road}
-use Rattle.machine_roads.specs.Course.{is_behind, is_on_road, is_unready}
+use Rattle.machine_roads.specs.Course.{is_behind}
 use Rattle.machine_roads.specs.Course.{cancel, copy, detach, drop_executor, drop_handle, drop_run, drop_tick, is_empty, leak, new_run}
 use Rattle.machine_roads.specs.Course.{new_tick, poll_handle, poll_run, poll_tick, release, spawn, try_tick, use_waker, wake}
 use Rattle.machine_roads.proofs.Calling.{begin_alike, cancels, copies_kept, detaches, empty_alike, handle_goes, spawns, uses_alike}
 use Rattle.machine_roads.proofs.Calling.{waker_goes, wakes_kept}
 use Rattle.machine_roads.proofs.Cancelling.{cancel_output}
 use Rattle.machine_roads.proofs.Exchanging.{loudly}
+use Rattle.machine_roads.proofs.FewAfter.{few_after, few_polled}
+use Rattle.machine_roads.proofs.FewTaken.{AllFew}
+use Rattle.machine_roads.proofs.Fitting.{ended_of}
 use Rattle.machine_roads.proofs.Inside.{cancel_inside, copy_inside, detach_inside, drop_inside, ends_inside, handle_inside, poll_inside}
 use Rattle.machine_roads.proofs.Inside.{release_inside, run_inside, spawn_inside, tick_inside, use_inside, wake_inside}
 use Rattle.machine_roads.proofs.Leaking.{leak_inside}
@@ -42,7 +46,7 @@ use Rattle.machine_roads.proofs.LoneBehind.{goes_behind_so, uses_behind_so, wake
 use Rattle.machine_roads.proofs.LoneCloses.{drop_ends_so}
 use Rattle.machine_roads.proofs.LoneGoes.{run_goes_so}
 use Rattle.machine_roads.proofs.LoneLosing.{detach_loses_so, goes_with_output_so}
-use Rattle.machine_roads.proofs.LonePolls.{run_ends_so}
+use Rattle.machine_roads.proofs.LoneRunPolls.{run_polled}
 use Rattle.machine_roads.proofs.LoneRuns.{both_true, lone_calls_so, tells}
 use Rattle.machine_roads.proofs.LoneTakes.{leaks_so, run_made_so}
 use Rattle.machine_roads.proofs.LoneTicks.{may_begin, there_all}
@@ -81,7 +85,7 @@ more_by_one : (n : ℕ) → n < suc n
 more_by_one n = omega arith
 
 module _ (s : Machine) (reached : Reached s) (q : Plain Output Waker) (quiet : IsQuiet s.world.trace) (follows : Follows s.world q)
-    (nowhere : q.inside ≡ []) (p : ℕ) (steps : List Step) (new : Machine) (later : new.world.gone ≡ false) where
+    (nowhere : q.inside ≡ []) (few : AllFew q.runs) (p : ℕ) (steps : List Step) (new : Machine) (later : new.world.gone ≡ false) where
   abbrev choice : Refusal → Choice
   choice r = choice_in s q r
 
@@ -192,8 +196,28 @@ module _ (s : Machine) (reached : Reached s) (q : Plain Output Waker) (quiet : I
       (goes_with_output_so s reached q quiet follows p f (choice Granted) (last (plain_calls.DropHandle f)) steps
       (ap (λ o. is_there o) some) new later lone)
 
+  -- a poll of a run, behind which each run has taken fewer than 200 again
+  run_is_polled : (r : ℕ) (b : By) → IsLoneCall p (call.PollRun r b) steps s new
+      → (z : Plain Output Waker) × GoesBy s.world (call.PollRun r b) q z × Follows new.world z × AllFew z.runs
+  run_is_polled r b lone =
+      let a = waker_of None b in
+      let made = does wakes (choice Granted) (plain_calls.PollRun r a) q in
+      let e = run_polled s reached q quiet follows p r (choice Granted) b steps (few r) many new later lone in (
+        e.0,
+        record {
+          choice = choice Granted;
+          made = plain_calls.PollRun r a;
+          chosen = chosen Granted;
+          is = poll_run r b;
+          ended = ended_of made e.0 e.1;
+          inside = e.2;
+        },
+        e.3,
+        few_polled (choice Granted) r a q e.0 nowhere few e.1 (e.2 ∙ nowhere),
+      )
+
   -- each call
-  one_call : (c : Call) → is_on_road c steps ≡ true → IsLoneCall p c steps s new → Goes c
+  one_call : (c : Call) → is_drop c ≡ false → IsLoneCall p c steps s new → Goes c
   one_call (call.Spawn m) on_road lone =
       told (call.Spawn m) (plain_calls.Spawn m) (λ r. spawn_inside (choice r) q m) (spawn m)
       (λ hints all rests.
@@ -277,20 +301,7 @@ module _ (s : Machine) (reached : Reached s) (q : Plain Output Waker) (quiet : I
       let e = run_made_so s reached q quiet follows p (choice Granted) steps new later lone in
       quick call.NewRun plain_calls.NewRun e.0 new_run (run_inside (choice e.0) q) e.1
   one_call (call.PollRun r b) on_road lone =
-      let e =
-      run_ends_so s reached q quiet follows p r (choice Granted) b steps
-      (λ pending. clash (ap (λ o. not (is_unready o)) pending) on_road) many new later lone in (
-        e.0,
-        record {
-          choice = choice Granted;
-          made = plain_calls.PollRun r (waker_of None b);
-          chosen = chosen Granted;
-          is = poll_run r b;
-          ended = e.1;
-          inside = e.2;
-        },
-        e.3,
-      )
+      let e = run_is_polled r b lone in (e.0, e.1, e.2)
   one_call (call.DropRun r) on_road lone =
       let e = run_goes_so s reached q quiet follows p r (choice Granted) steps many new later lone in (
         e.0,
@@ -308,6 +319,13 @@ module _ (s : Machine) (reached : Reached s) (q : Plain Output Waker) (quiet : I
       quick call.Leak plain_calls.Leak Granted leak (leak_inside (choice Granted) q)
       (leaks_so s reached q quiet follows p (choice Granted) steps nowhere many new later lone)
   one_call call.DropExecutor on_road lone = absurd cc
+
+  -- and each run has taken fewer than 200 behind it
+  one_more : (c : Call) → is_drop c ≡ false → IsLoneCall p c steps s new
+      → (z : Plain Output Waker) × GoesBy s.world c q z × Follows new.world z × AllFew z.runs
+  one_more (call.PollRun r b) on_road lone = run_is_polled r b lone
+  one_more c on_road lone =
+      let e = one_call c on_road lone in (e.0, e.1, e.2, few_after s.world c q e.0 refl on_road e.1 nowhere few)
 
 -- a call by a kept waker, where no task waits for a wake
 module _ (s : Machine) (reached : Reached s) (q : Plain Output Waker) (quiet : IsQuiet s.world.trace) (follows : Follows s.world q)
@@ -400,19 +418,24 @@ one_drop s reached q quiet follows nowhere p steps new call.DropExecutor is lone
 one_drop s reached q quiet follows nowhere p steps new c is lone = absurd cc
 
 lists_go : (s : Machine) → Reached s → (q : Plain Output Waker) → IsQuiet s.world.trace → Follows s.world q → q.inside ≡ []
-    → IsOpen s.world → (ls : List Lone) → AreLone s ls → are_on_road ls ≡ true → GoAlike s q ls
-lists_go s reached q quiet follows nowhere open_now [] lone on_road = follows
-lists_go s reached q quiet follows nowhere open_now (l ∷ ls) lone on_road =
-    by (is_on_road l.call l.steps && are_on_road ls) refl on_road (λ on.
-    let both = both_true (is_on_road l.call l.steps) (are_on_road ls) on in
+    → AllFew q.runs → IsOpen s.world → (ls : List Lone) → AreLone s ls → are_on_road ls ≡ true → GoAlike s q ls
+lists_go s reached q quiet follows nowhere few open_now [] lone on_road = follows
+lists_go s reached q quiet follows nowhere few open_now (l ∷ ls) lone on_road =
+    by (not (is_drop l.call) && are_on_road ls) refl on_road (λ on.
+    let both = both_true (not (is_drop l.call)) (are_on_road ls) on in
+    let drops = no_drop (is_drop l.call) both.0 in
     let next = reached-more (Begin l.party l.call ∷ l.steps) s l.left reached lone.0.made in
-    let later = stays_open s l.left l.party l.call l.steps both.0 lone.0 open_now in
+    let later = stays_open s l.left l.party l.call l.steps drops lone.0 open_now in
     let one =
-    one_call s reached q quiet follows nowhere l.party l.steps l.left (sym (tells l.left next) ∙ later) l.call both.0 lone.0 in
-    (follows, (one.0, one.1, lists_go l.left next one.0 lone.0.ended one.2 (one.1.inside ∙ nowhere) later ls lone.1 both.1)))
+    one_more s reached q quiet follows nowhere few l.party l.steps l.left (sym (tells l.left next) ∙ later) l.call drops lone.0 in
+    (follows, (one.0, one.1, lists_go l.left next one.0 lone.0.ended one.2 (one.1.inside ∙ nowhere) one.3 later ls lone.1 both.1)))
   where
-    by : (b : Bool) → (is_on_road l.call l.steps && are_on_road ls) ≡ b → (b || (is_drop l.call && are_behind ls)) ≡ true
-        → ((is_on_road l.call l.steps && are_on_road ls) ≡ true → GoAlike s q (l ∷ ls)) → GoAlike s q (l ∷ ls)
+    no_drop : (b : Bool) → not b ≡ true → b ≡ false
+    no_drop false is = refl
+    no_drop true is = absurd cc
+
+    by : (b : Bool) → (not (is_drop l.call) && are_on_road ls) ≡ b → (b || (is_drop l.call && are_behind ls)) ≡ true
+        → ((not (is_drop l.call) && are_on_road ls) ≡ true → GoAlike s q (l ∷ ls)) → GoAlike s q (l ∷ ls)
     by true on drops goes = goes on
     by false off drops goes =
         let both = both_true (is_drop l.call) (are_behind ls) drops in
@@ -424,4 +447,4 @@ pub lists : ListsGoAlike
 lists limit kind parties ls lone on_road =
     lists_go (start limit kind parties)
     (record { limit = limit; kind = kind; parties = parties; steps = []; is = refl })
-    (new_plain limit (is_static_kind kind)) (λ party. refl) (begin_alike limit kind parties) refl refl ls lone on_road
+    (new_plain limit (is_static_kind kind)) (λ party. refl) (begin_alike limit kind parties) refl (λ r. refl) refl ls lone on_road

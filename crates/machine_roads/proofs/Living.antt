@@ -6,7 +6,7 @@ use Rattle.std.proofs.Common.{get_or-set_same, get_or-set_other}
 use Rattle.std.proofs.lemmas.List.{get_or_past, length-append}
 use Rattle.std.specs.Prelude.{Option, Some, None, reverse}
 use Rattle.executor_laws.proofs.Types.{Call, Event, Hint, Hold, Kind, ListOp, Look, Mark, Op, Outside, QueueOp, Reply, RunOp}
-use Rattle.executor_laws.proofs.Types.{Polled, RunPoll, Section, Sleeping, SleeperOp, Step, Task, TickOp, TickOrRun, UserEnd, UserOp, Waker}
+use Rattle.executor_laws.proofs.Types.{RunPoll, Section, Sleeping, SleeperOp, Step, Task, TickOp, TickOrRun, UserEnd, UserOp, Waker}
 use Rattle.executor_model.specs.declared.event.Answer.{Answer}
 use Rattle.executor_model.specs.{Acts.append_by, Acts.copied, Acts.is_copy_refused}
 use Rattle.executor_model.specs.{Doing.act, Doing.search_by_who, Doing.tick_act}
@@ -15,8 +15,8 @@ use Rattle.executor_model.specs.ActsOfSleepers.{copy_sleeper_by, exchange_by, fa
 use Rattle.executor_model.specs.ActsOfSleepers.{make_tick_by, polled_as, sleep_again_by, sleep_anew_by, sleep_listed_by}
 use Rattle.executor_model.specs.ActsOfSleepers.{wake_up_by}
 use Rattle.executor_model.specs.ActsOfRuns as runs
-use Rattle.executor_model.specs.Steps.{Machine, accepts, begun, drop_run, future_of, has_all, is_there, kept, lives, mine, poll_run, react, run}
-use Rattle.executor_model.specs.Steps.{stack, start, top, with_future}
+use Rattle.executor_model.specs.Steps.{Machine, accepts, begun, drop_run, future_of, has_all, is_there, kept, lives, mine, poll_run, react}
+use Rattle.executor_model.specs.Steps.{run, stack, start, top, with_future}
 use Rattle.executor_model.specs.World.{Asleep, Awake, Done, Ended, Left, Listed, New, Run, Stage, Ticker, World, done, log, new_run, no_run}
 use Rattle.executor_model.specs.World.{own_of, place_of, put_own, put_run, run_of, runs_with}
 use Rattle.executor_model.proofs.OwnQueues.RunsAside.{coat, is_run}
@@ -25,7 +25,7 @@ use Rattle.executor_model.proofs.OwnQueues.UsingSteps.{AllUsed, used-ends, used-
 use Rattle.executor_model.proofs.OwnQueues.UsingWorlds.{count-set, idle-coat, is_over_stage, is_past, past-set}
 use Rattle.executor_model.proofs.Sleepers.SleepersAway.{SleepersSeen, away-act, away-call, away-own, is_seen_asleep, sleepers_seen}
 use Rattle.executor_model.proofs.Sleepers.SleepersAway.{sleepers_seen-run}
-use Rattle.executor_model.proofs.Sleepers.TickLists.{places, places-at}
+use Rattle.executor_model.proofs.Sleepers.TickLists.{places-at}
 use Rattle.executor_model.proofs.Steps.Lift.{first-true, good-start, none_refused, split, unsettled, weigh_all-idle}
 use Rattle.executor_model.proofs.Steps.Lists.{same_cases, same_is, weigh_all-push}
 use Rattle.executor_model.proofs.Steps.Reached.{Reached}

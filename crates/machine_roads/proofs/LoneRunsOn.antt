@@ -23,6 +23,7 @@ use Rattle.machine_roads.specs.Road.{Follows, waking_in}
 use Rattle.machine_roads.specs.Alone.{alone, is_resting, Has}
 use Rattle.machine_roads.specs.Dropped.{Drops, IsEnding, answered, loses, rest_of, without_run}
 use Rattle.machine_roads.specs.Forgotten.{IsForgotten, IsLastPoll, unawaited, without_awaiter}
+use Rattle.machine_roads.proofs.Fitting.{Ends as EndsBy, Fitting, Over, fits_in}
 use Rattle.machine_roads.proofs.Forgetting.{Forgets, forgets_by, forgets_with, forgotten_by}
 use Rattle.machine_roads.proofs.Lists.{cons_is}
 use Rattle.machine_roads.proofs.Puts.{put_at, put_by}
@@ -33,10 +34,8 @@ use Rattle.executor_model.specs.declared.op.RunPoll.{RunPoll}
 use Rattle.executor_model.specs.Steps.{Machine, accepts, react}
 use Rattle.executor_model.proofs.Steps.Reached.{Reached}
 use Rattle.plain_scheduler.specs.State.{Choice, Closed, Code, Drop, End, Future, Lose, Plain, Poll, Run, Taker}
-use Rattle.plain_scheduler.specs.Lists.{any}
 use Rattle.plain_scheduler.specs.Moves.{task as plain_task}
 use Rattle.plain_scheduler.specs.Calls.{does, Ends, EndsWith, Pends}
-use Rattle.machine_roads.specs.Lone.{Ended, ends as ends_with, is_end, over}
 use Rattle.machine_roads.specs.Searching.{goes_on_by}
 use Rattle.machine_roads.specs.Stopped.{IsInPoll}
 use Rattle.machine_roads.proofs.LoneRuns.{InCode, Inside, IsBefore, Rests, Whole, before, goes_on_of}
@@ -76,7 +75,7 @@ module _ (p : ℕ) (new : Machine) (later : new.world.gone ≡ false) (at_last :
   taker = Run x.run x.waker
 
   abbrev pub Result : Plain Output Waker → Type 0
-  Result r = (z : Plain Output Waker) × Ended r z × (z.inside ≡ codes) × Follows new.world z
+  Result r = (z : Plain Output Waker) × Fitting r z × (z.inside ≡ codes) × Follows new.world z
 
   -- who lies down last is told, also where one more lies down
   abbrev pub tells_for : Plain Output Waker → ℕ
@@ -92,12 +91,12 @@ module _ (p : ℕ) (new : Machine) (later : new.world.gone ≡ false) (at_last :
   more_tells r m is = omega (arith, is)
 
   ends_here : (r : Plain Output Waker) → r.inside ≡ codes → Follows new.world r → Result r
-  ends_here r inside follows = (r, over r, inside, follows)
+  ends_here r inside follows = (r, Over r, inside, follows)
 
   -- one code more has ended
-  once_more : (d : Choice) (e : plain_calls.Call Output Waker) (r : Plain Output Waker) → is_end e ≡ true → d.tells ≡ tells_for r
+  once_more : (d : Choice) (e : plain_calls.Call Output Waker) (r : Plain Output Waker) → fits_in r.inside e ≡ true → d.tells ≡ tells_for r
       → Result (does wakes d e r) → Result r
-  once_more d e r it told so = (so.0, ends_with d e r so.0 it (more_tells r d.tells told) so.1, so.2, so.3)
+  once_more d e r it told so = (so.0, EndsBy d e r so.0 it (more_tells r d.tells told) so.1, so.2, so.3)
 
   -- from the end of user code on
   goes_on : (R S : Done → Type 0) (y : InCode p R new)
@@ -119,9 +118,10 @@ module _ (p : ℕ) (new : Machine) (later : new.world.gone ≡ false) (at_last :
     Now r = Between x.run last t r
 
     -- it has taken the next one, has let others go first, or has lain down
-    pub from_after : (e : plain_calls.Call Output Waker) → is_end e ≡ true → (r b : Plain Output Waker) → b.inside ≡ codes
+    pub from_after : (e : plain_calls.Call Output Waker) (r : Plain Output Waker) → fits_in r.inside e ≡ true
+        → (b : Plain Output Waker) → b.inside ≡ codes
         → Rests p (λ d. After p x [] b (tells_for r) t d (λ d. does wakes d e r)) new → Result r
-    from_after e it r b same (Whole so) = by so
+    from_after e r it b same (Whole so) = by so
       where
         by : After p x [] b (tells_for r) t (done new.world []) (λ d. does wakes d e r) → Result r
         by (takes d l stands now) =
@@ -130,7 +130,7 @@ module _ (p : ℕ) (new : Machine) (later : new.world.gone ≡ false) (at_last :
         by (ends d next follows inside) =
             let d1 = telling (tells_for r) d in
             once_more d1 e r it refl (ends_here (does wakes d1 e r) (inside ∙ same) follows)
-    from_after e it r b same (Inside y) = by y.so
+    from_after e r it b same (Inside y) = by y.so
       where
         by : After p x [] b (tells_for r) t (done y.machine.world (y.first ∷ y.rest)) (λ d. does wakes d e r) → Result r
         by (takes d l stands now) =
@@ -153,25 +153,25 @@ module _ (p : ℕ) (new : Machine) (later : new.world.gone ≡ false) (at_last :
     left_by So b n will e rests fit now (stood so stays) =
         still (so c) (between_stays x.run last t b (will (telling n c)) (stays c) now)
 
-    from_left : (So : Plain Output Waker → Done → Type 0) (e : plain_calls.Call Output Waker) → is_end e ≡ true
-        → (r b : Plain Output Waker) → b.inside ≡ codes
+    from_left : (So : Plain Output Waker → Done → Type 0) (e : plain_calls.Call Output Waker) (r : Plain Output Waker)
+        → fits_in r.inside e ≡ true → (b : Plain Output Waker) → b.inside ≡ codes
         → ((z : Plain Output Waker) → Now z → Rests p (λ d. So z d) new → Result z)
         → Rests p (λ d. Left So b (tells_for r) (λ d. does wakes d e r) d) new → Result r
-    from_left So e it r b same more (Whole so) = by so
+    from_left So e r it b same more (Whole so) = by so
       where
         by : Left So b (tells_for r) (λ d. does wakes d e r) (done new.world []) → Result r
-        by (goes so) = from_after e it r b same (Whole so)
+        by (goes so) = from_after e r it b same (Whole so)
         by (still so now) =
             let d1 = telling (tells_for r) c in
             once_more d1 e r it refl (more (does wakes d1 e r) now (Whole so))
-    from_left So e it r b same more (Inside y) = by y.so
+    from_left So e r it b same more (Inside y) = by y.so
       where
         R : Done → Type 0
         R d = Left So b (tells_for r) (λ d. does wakes d e r) d
 
         by : Left So b (tells_for r) (λ d. does wakes d e r) (done y.machine.world (y.first ∷ y.rest)) → Result r
         by (goes so) =
-            from_after e it r b same
+            from_after e r it b same
             (Inside (again p new R (λ d. After p x [] b (tells_for r) t d (λ d. does wakes d e r)) y so))
         by (still so now) =
             let d1 = telling (tells_for r) c in
@@ -217,7 +217,7 @@ module _ (p : ℕ) (new : Machine) (later : new.world.gone ≡ false) (at_last :
             let here : LeadsSo p (done (react p y.first y.end m.world).world ((react p y.first y.end m.world).next ++ y.rest)) S =
             subst (λ o. LeadsSo p (done (react p o y.end m.world).world ((react p o y.end m.world).next ++ y.rest)) S) (sym both.0)
             (subst (λ os. LeadsSo p (done m.world os) S) (sym both.1) leads) in
-            subst Result is (from_after Ends refl r1 r0 refl (goes_on (λ e. Drops taker final [] f b e r) S y here))
+            subst Result is (from_after Ends r1 refl r0 refl (goes_on (λ e. Drops taker final [] f b e r) S y here))
 
     -- so does the drop of a future
     from_drop : (R : Done → Type 0) (y : InCode p R new) (f : ℕ) (mv : Move) (why : End Output) → IsGoing y.machine.world f mv why
@@ -235,14 +235,15 @@ module _ (p : ℕ) (new : Machine) (later : new.world.gone ≡ false) (at_last :
         let S : Done → Type 0 = λ e. Left So r0 n (λ d. does wakes d Ends r1) e in
         let leads : LeadsSo p (done m.world os) S =
         λ hints all rests.
-        left_by So r0 n (drops_with taker f why r0) (alone p hints (done m.world os)) rests (most r0) (between_inside x.run last t r codes now)
+        left_by So r0 n (drops_with taker f why r0) (alone p hints (done m.world os)) rests (most r0)
+        (between_inside x.run last t r codes now)
         (dropped_by p [] m.world r0 refl (stands_in codes m.world r follows (sym (ap (λ codes. waking_in codes) inside))) taker final
         f mv why going.known going.entered going.ends (telling n c) (least r0) hints all rests) in
         let here : LeadsSo p (done (react p y.first y.end m.world).world ((react p y.first y.end m.world).next ++ y.rest)) S =
         subst (λ o. LeadsSo p (done (react p o y.end m.world).world ((react p o y.end m.world).next ++ y.rest)) S) (sym both.0)
         (subst (λ os. LeadsSo p (done m.world os) S) (sym both.1) leads) in
         subst Result is
-        (from_left So Ends refl r1 r0 refl (λ z now rests. from_loss f r0 z refl now rests) (goes_on R S y here))
+        (from_left So Ends r1 refl r0 refl (λ z now rests. from_loss f r0 z refl now rests) (goes_on R S y here))
 
     -- so does the drop of a future that nobody could wake any more
     from_forgotten : (f : ℕ) (b r : Plain Output Waker) → b.inside ≡ codes → Now b → Rests p (λ e. Forgets taker final [] f b e r) new
@@ -286,7 +287,7 @@ module _ (p : ℕ) (new : Machine) (later : new.world.gone ≡ false) (at_last :
         let here : LeadsSo p (done (react p y.first y.end m.world).world ((react p y.first y.end m.world).next ++ y.rest)) S =
         subst (λ o. LeadsSo p (done (react p o y.end m.world).world ((react p o y.end m.world).next ++ y.rest)) S) (sym both.0)
         (subst (λ os. LeadsSo p (done m.world os) S) (sym both.1) leads) in
-        subst Result is (from_after Ends refl r1 r0 refl (goes_on (λ e. Forgets taker final [] f b e r) S y here))
+        subst Result is (from_after Ends r1 refl r0 refl (goes_on (λ e. Forgets taker final [] f b e r) S y here))
       where
         unawaited_in : (f : ℕ) (r : Plain Output Waker)
             → record (unawaited f r) { inside = codes } ≡ unawaited f (record r { inside = codes })
@@ -371,7 +372,7 @@ module _ (p : ℕ) (new : Machine) (later : new.world.gone ≡ false) (at_last :
                 let S : Done → Type 0 = λ e. Left So r0 n (λ d. does wakes d Pends r1) e in
                 let in_poll : IsInPoll y.machine.world f =
                 record { known = taken.known; polled = taken.polled; entered = taken.entered; reached = reached } in
-                from_left So Pends refl r1 r0 refl (λ z now rests. from_stays r0 z refl now rests)
+                from_left So Pends r1 refl r0 refl (λ z now rests. from_stays r0 z refl now rests)
                 (goes_on R S y (here (end.Polled answer.Pending) S at
                 (λ hints all rests.
                 left_by So r0 n (λ d. does wakes d Pends r1) _ rests (most r0) now0

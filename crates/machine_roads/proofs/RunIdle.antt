@@ -73,7 +73,7 @@ module _ (p : ℕ) (below : List Op) (under : is_resting below ≡ true) (end : 
             let three = next p end rests (op.Run (run_op.LookOwn x (next_place qs at) left)) w below refl two in
             let four : Way p end w (walk x w.listed (next_place qs at) left ++ below) =
             subst
-            (λ fs. Way p end (look_own_by fs w x (next_place qs at) left).world ((look_own_by fs w x (next_place qs at) left).next ++ below))
+            (λ fs. let d = look_own_by fs w x (next_place qs at) left in Way p end d.world (d.next ++ below))
             (own_none w follows r) three.way in
             again (subst (λ ks. Way p end w (walk x ks (next_place qs at) left ++ below)) listed four)
 

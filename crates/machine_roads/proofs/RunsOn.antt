@@ -1,7 +1,7 @@
 -- A run goes on behind the poll or the drop of a future that it took: it takes the next one, lets others go first, or lies down where
 -- nothing is due.
-use Rattle.std.proofs.Common.{◌≡◌, ℕ, suc, ◌≤◌, ◌<◌, ◌==◌, nat_lt, not, Bool, true, false, List, [], ◌∷◌, Option, Some, None, length, slice_get}
-use Rattle.std.proofs.Common.{if◌then◌else◌, refl, sym, ap, subst, ◌∙◌, arith}
+use Rattle.std.proofs.Common.{◌≡◌, ℕ, suc, ◌≤◌, ◌<◌, ◌==◌, nat_lt, not, Bool, true, false, List, [], ◌∷◌, Option, Some, None, length}
+use Rattle.std.proofs.Common.{slice_get, if◌then◌else◌, refl, sym, ap, subst, ◌∙◌, arith}
 use Rattle.std.proofs.lemmas.Bool.Decides.{nat_tests}
 use Rattle.executor_parts.specs.Marks.{first_of}
 use Rattle.executor_model.specs.declared.op.Op.{Op}
@@ -133,5 +133,5 @@ module _ (p : ℕ) (x : RunPoll) (below : List Op) (q : Plain Output Waker) (n t
         pass in
         ends c e.0 e.1 e.2
     goes_on false fit so pass =
-        goes_from pass.so.world pass.before pass.so.follows (omega (arith, fit, pass.stay.lying)) (between_stays x.run false t q pass.before pass.stay so) pass.inside
-        pass.so.way pass.is
+        goes_from pass.so.world pass.before pass.so.follows (omega (arith, fit, pass.stay.lying))
+        (between_stays x.run false t q pass.before pass.stay so) pass.inside pass.so.way pass.is

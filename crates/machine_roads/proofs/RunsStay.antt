@@ -1,5 +1,6 @@
 -- What leaves runs as they are in the plain scheduler, what they have taken and what they keep, and lets nobody get up or lie down.
-use Rattle.std.proofs.Common.{◌≡◌, ℕ, length, Bool, true, false, [], ◌∷◌, append-nil, Option, Some, None, slice_get, if◌then◌else◌, is_some, refl, ap, ◌∙◌}
+use Rattle.std.proofs.Common.{◌≡◌, ℕ, length, Bool, true, false, [], ◌∷◌, append-nil, Option, Some, None, slice_get}
+use Rattle.std.proofs.Common.{if◌then◌else◌, is_some, refl, ap, ◌∙◌}
 use Rattle.task_moves.specs.AbstractTask as abstract
 use Rattle.task_moves.specs.AbstractTask.{AbstractTask}
 use Rattle.task_moves.specs.LocalTask.{info_of}

@@ -12,8 +12,7 @@ use Rattle.executor_model.specs.ActsOfSleepers.{copy_sleeper_by, fall_asleep_by,
 use Rattle.executor_model.specs.ActsOfSleepers.{make_tick_by, pend_as, sleep_again_by, sleep_anew_by, sleep_listed_by}
 use Rattle.executor_model.specs.ActsOfSleepers.{sleeper_goes, tell_and_return, wake_up_by}
 use Rattle.executor_model.specs.ActsOfRuns as runs
-use Rattle.executor_model.specs.Steps.{run}
-use Rattle.executor_model.specs.World.{Asleep, Awake, Left, Run, Ticker, World, log}
+use Rattle.executor_model.specs.World.{Asleep, Awake, Left, Ticker, World, log}
 use Rattle.executor_model.specs.World.{own_of, queue_of}
 use Rattle.executor_model.proofs.OwnQueues.RunsAside.{apart-act, is_run, runs_of}
 use Rattle.executor_model.proofs.Steps.Lift.{no_hint}

@@ -227,13 +227,12 @@ module _ (s : Machine) (q : Plain Output Waker) where
       × IsLast r last (does wakes d Pends (does wakes c (PollRun r (waker_of None b)) q)))
       new
 
-  -- from the end of its own future's poll without an output on, with the ends of all the code that it comes to, a poll of a run that
-  -- isn't over and has taken fewer than 200 is one: it takes until it has taken 200 and lets others go first, or nothing is due and it
-  -- lies down, lies again, or is refused memory
+  -- with the ends of all the code that it comes to, a poll of a run that has taken fewer than 200 is one, whatever it finds: behind its own
+  -- future's poll without an output it takes until it has taken 200 and lets others go first, or until nothing is due; there it lies down,
+  -- lies again, or is refused memory
   abbrev pub LoneRunGoesOn : Type 0
   LoneRunGoesOn =
-      (p r : ℕ) (c : Choice) (b : By) (steps : List Step) → first_answer steps ≡ Some (Polled Unready)
-      → or (slice_get q.runs r) (λ run. nat_lt run.taken 200) true ≡ true → or (slice_get q.runs r) (λ run. run.is_over) true ≡ false
+      (p r : ℕ) (c : Choice) (b : By) (steps : List Step) → or (slice_get q.runs r) (λ run. nat_lt run.taken 200) true ≡ true
       → length q.lying ≤ c.tells → (new : Machine) → new.world.gone ≡ false → IsLoneCall p (call.PollRun r b) steps s new
       → (z : Plain Output Waker) × Ended (does wakes c (PollRun r (waker_of None b)) q) z × (z.inside ≡ q.inside) × Follows new.world z
 

@@ -1,6 +1,7 @@
 -- Lone calls of the machine, one after the other, are calls of the plain scheduler.
-use Rattle.std.proofs.Common.{◌≡◌, ℕ, ◌&&◌, ◌||◌, not, Bool, true, false, List, [], ◌∷◌, length, None}
-use Rattle.std.proofs.Common.{refl, sym, ap, ◌∙◌}
+use Rattle.std.proofs.Common.{◌≡◌, ℕ, Bool, true, false, List, [], ◌∷◌, length, None}
+use Rattle.std.proofs.Common.{refl, sym, ◌∙◌}
+use Rattle.executor_model.specs.declared.call.By.{By}
 use Rattle.executor_model.specs.declared.call.Call.{Call}
 use Rattle.executor_model.specs.declared.call.Call.TheVariants as call
 use Rattle.executor_model.specs.declared.op.Waker.{Waker}
@@ -18,22 +19,23 @@ use Rattle.machine_roads.specs.View.{Output, wakes}
 use Rattle.machine_roads.specs.Road.{Follows}
 use Rattle.machine_roads.specs.Alike.{begins, refused_first, upon}
 use Rattle.machine_roads.specs.Lone.{NoneWaits}
-use Rattle.machine_roads.specs.Course.{AreLone, GoAlike, GoesBy, IsCall, ListsGoAlike, Lone, are_on_road}
-use Rattle.machine_roads.specs.Course.{is_on_road, is_unready}
+use Rattle.machine_roads.specs.Course.{AreLone, GoAlike, GoesBy, IsCall, ListsGoAlike, Lone}
 use Rattle.machine_roads.specs.Course.{drop_executor, drop_run, drop_tick, is_empty, leak, new_run}
 use Rattle.machine_roads.specs.Course.{new_tick, poll_run, poll_tick, spawn, try_tick}
 use Rattle.machine_roads.proofs.Calling.{begin_alike, empty_alike, spawns}
+use Rattle.machine_roads.proofs.FewAfter.{few_after, few_polled}
+use Rattle.machine_roads.proofs.FewTaken.{AllFew}
+use Rattle.machine_roads.proofs.Fitting.{ended_of}
 use Rattle.machine_roads.proofs.Inside.{drop_inside}
 use Rattle.machine_roads.proofs.Inside.{run_inside, spawn_inside, tick_inside}
 use Rattle.machine_roads.proofs.Leaking.{leak_inside}
-use Rattle.machine_roads.proofs.Lists.{clash}
 use Rattle.machine_roads.proofs.CourseBehind.{behind_go, drop_goes}
 use Rattle.machine_roads.proofs.OneCall.{Goes, below, choice_in, chosen, granted_as, many, more_by_one, of_task, quick, refused_as}
 use Rattle.machine_roads.proofs.LoneCloses.{drop_ends_so}
 use Rattle.machine_roads.proofs.LoneGoes.{run_goes_so}
 use Rattle.machine_roads.proofs.LoneLosing.{loses_so}
-use Rattle.machine_roads.proofs.LonePolls.{run_ends_so}
-use Rattle.machine_roads.proofs.LoneRuns.{both_true, lone_calls_so, tells}
+use Rattle.machine_roads.proofs.LoneRunPolls.{run_polled}
+use Rattle.machine_roads.proofs.LoneRuns.{lone_calls_so, tells}
 use Rattle.machine_roads.proofs.LoneTakes.{leaks_so, run_made_so}
 use Rattle.machine_roads.proofs.LoneTries.{ticks_end_so, tries_end_so}
 use Rattle.machine_roads.proofs.Open.{IsOpen, stays_open}
@@ -41,7 +43,7 @@ use Rattle.machine_roads.proofs.Ticking.{makes_tick, tick_goes}
 use Rattle.machine_roads.proofs.Tying.{Leads}
 
 module _ (s : Machine) (reached : Reached s) (q : Plain Output Waker) (quiet : IsQuiet s.world.trace) (follows : Follows s.world q)
-    (nowhere : q.inside ≡ []) (p : ℕ) (steps : List Step) (new : Machine) (later : new.world.gone ≡ false) where
+    (nowhere : q.inside ≡ []) (few : AllFew q.runs) (p : ℕ) (steps : List Step) (new : Machine) (later : new.world.gone ≡ false) where
   abbrev choice : Refusal → Choice
   choice r = choice_in s q r
 
@@ -61,8 +63,28 @@ module _ (s : Machine) (reached : Reached s) (q : Plain Output Waker) (quiet : I
       quick s q new c x Granted is inside
       (lone_calls_so s reached p c steps new (λ w. Follows w (does wakes (choice Granted) x q)) quiet later leads lone)
 
+  -- a poll of a run, behind which each run has taken fewer than 200 again
+  run_is_polled : (r : ℕ) (b : By) → IsLoneCall p (call.PollRun r b) steps s new
+      → (z : Plain Output Waker) × GoesBy s.world (call.PollRun r b) q z × Follows new.world z × AllFew z.runs
+  run_is_polled r b lone =
+      let a = waker_of None b in
+      let made = does wakes (choice Granted) (plain_calls.PollRun r a) q in
+      let e = run_polled s reached q quiet follows p r (choice Granted) b steps (few r) (many q) new later lone in (
+        e.0,
+        record {
+          choice = choice Granted;
+          made = plain_calls.PollRun r a;
+          chosen = chosen s q Granted;
+          is = poll_run r b;
+          ended = ended_of made e.0 e.1;
+          inside = e.2;
+        },
+        e.3,
+        few_polled (choice Granted) r a q e.0 nowhere few e.1 (e.2 ∙ nowhere),
+      )
+
   -- each call
-  one_call : (c : Call) → is_on_road c steps ≡ true → IsLoneCall p c steps s new → Goes s q new c
+  one_call : (c : Call) → is_drop c ≡ false → IsLoneCall p c steps s new → Goes s q new c
   one_call (call.Spawn m) on_road lone =
       told (call.Spawn m) (plain_calls.Spawn m) (λ r. spawn_inside (choice r) q m) (spawn m)
       (λ hints all rests.
@@ -113,20 +135,7 @@ module _ (s : Machine) (reached : Reached s) (q : Plain Output Waker) (quiet : I
       let e = run_made_so s reached q quiet follows p (choice Granted) steps new later lone in
       quick s q new call.NewRun plain_calls.NewRun e.0 new_run (run_inside (choice e.0) q) e.1
   one_call (call.PollRun r b) on_road lone =
-      let e =
-      run_ends_so s reached q quiet follows p r (choice Granted) b steps
-      (λ pending. clash (ap (λ o. not (is_unready o)) pending) on_road) (many q) new later lone in (
-        e.0,
-        record {
-          choice = choice Granted;
-          made = plain_calls.PollRun r (waker_of None b);
-          chosen = chosen s q Granted;
-          is = poll_run r b;
-          ended = e.1;
-          inside = e.2;
-        },
-        e.3,
-      )
+      let e = run_is_polled r b lone in (e.0, e.1, e.2)
   one_call (call.DropRun r) on_road lone =
       let e = run_goes_so s reached q quiet follows p r (choice Granted) steps (many q) new later lone in (
         e.0,
@@ -148,6 +157,13 @@ module _ (s : Machine) (reached : Reached s) (q : Plain Output Waker) (quiet : I
       (of_task s reached q quiet follows p steps new (λ w. Unit {0})
       (λ c off P leads lone. (lone_calls_so s reached p c steps new P quiet later leads lone, tt))
       (λ c off f r d comes lone. (loses_so s reached p f c steps q r d quiet comes new later lone, tt)) c refl lone).0
+
+  -- and each run has taken fewer than 200 behind it
+  one_more : (c : Call) → is_drop c ≡ false → IsLoneCall p c steps s new
+      → (z : Plain Output Waker) × GoesBy s.world c q z × Follows new.world z × AllFew z.runs
+  one_more (call.PollRun r b) on_road lone = run_is_polled r b lone
+  one_more c on_road lone =
+      let e = one_call c on_road lone in (e.0, e.1, e.2, few_after s.world c q e.0 refl on_road e.1 nowhere few)
 
 -- the executor's drop, behind which no task waits
 one_drop : (s : Machine) → Reached s → (q : Plain Output Waker) → IsQuiet s.world.trace → Follows s.world q → q.inside ≡ [] → (p : ℕ)
@@ -171,28 +187,26 @@ one_drop s reached q quiet follows nowhere p steps new call.DropExecutor is lone
 one_drop s reached q quiet follows nowhere p steps new c is lone = absurd cc
 
 lists_go : (s : Machine) → Reached s → (q : Plain Output Waker) → IsQuiet s.world.trace → Follows s.world q → q.inside ≡ []
-    → IsOpen s.world → (ls : List Lone) → AreLone s ls → are_on_road ls ≡ true → GoAlike s q ls
-lists_go s reached q quiet follows nowhere open_now [] lone on_road = follows
-lists_go s reached q quiet follows nowhere open_now (l ∷ ls) lone on_road =
-    by (is_drop l.call) refl on_road (λ on.
-    let both = both_true (is_on_road l.call l.steps) (are_on_road ls) on in
+    → AllFew q.runs → IsOpen s.world → (ls : List Lone) → AreLone s ls → GoAlike s q ls
+lists_go s reached q quiet follows nowhere few open_now [] lone = follows
+lists_go s reached q quiet follows nowhere few open_now (l ∷ ls) lone =
+    by (is_drop l.call) refl (λ on.
     let next = reached-more (Begin l.party l.call ∷ l.steps) s l.left reached lone.0.made in
-    let later = stays_open s l.left l.party l.call l.steps both.0 lone.0 open_now in
+    let later = stays_open s l.left l.party l.call l.steps on lone.0 open_now in
     let one =
-    one_call s reached q quiet follows nowhere l.party l.steps l.left (sym (tells l.left next) ∙ later) l.call both.0 lone.0 in
-    (follows, (one.0, one.1, lists_go l.left next one.0 lone.0.ended one.2 (one.1.inside ∙ nowhere) later ls lone.1 both.1)))
+    one_more s reached q quiet follows nowhere few l.party l.steps l.left (sym (tells l.left next) ∙ later) l.call on lone.0 in
+    (follows, (one.0, one.1, lists_go l.left next one.0 lone.0.ended one.2 (one.1.inside ∙ nowhere) one.3 later ls lone.1)))
   where
-    by : (b : Bool) → is_drop l.call ≡ b → (b || (is_on_road l.call l.steps && are_on_road ls)) ≡ true
-        → ((is_on_road l.call l.steps && are_on_road ls) ≡ true → GoAlike s q (l ∷ ls)) → GoAlike s q (l ∷ ls)
-    by false off on goes = goes on
-    by true drops on goes =
+    by : (b : Bool) → is_drop l.call ≡ b → (is_drop l.call ≡ false → GoAlike s q (l ∷ ls)) → GoAlike s q (l ∷ ls)
+    by false off goes = goes off
+    by true drops goes =
         let next = reached-more (Begin l.party l.call ∷ l.steps) s l.left reached lone.0.made in
         let one = one_drop s reached q quiet follows nowhere l.party l.steps l.left l.call drops lone.0 in
         let gone = drop_goes s reached l.party l.steps l.left l.call drops lone.0 in
         (follows, (one.0, one.1, behind_go l.left next one.0 lone.0.ended one.2 one.3 gone ls lone.1))
 
 pub lists : ListsGoAlike
-lists limit kind parties ls lone on_road =
+lists limit kind parties ls lone =
     lists_go (start limit kind parties)
     (record { limit = limit; kind = kind; parties = parties; steps = []; is = refl })
-    (new_plain limit (is_static_kind kind)) (λ party. refl) (begin_alike limit kind parties) refl refl ls lone on_road
+    (new_plain limit (is_static_kind kind)) (λ party. refl) (begin_alike limit kind parties) refl (λ r. refl) refl ls lone

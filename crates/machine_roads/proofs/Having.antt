@@ -15,6 +15,7 @@ use Rattle.executor_model.specs.declared.op.QueueOp.TheVariants as queue_op
 use Rattle.executor_model.specs.declared.op.RunOp.TheVariants as run_op
 use Rattle.executor_model.specs.declared.op.RunPoll.{RunPoll}
 use Rattle.executor_model.specs.declared.op.SleeperOp.TheVariants as sleeper_op
+use Rattle.executor_model.specs.declared.op.Sleeping.{Sleeping}
 use Rattle.executor_model.specs.declared.op.Steal.{Steal}
 use Rattle.executor_model.specs.declared.op.StealOp.TheVariants as steal_op
 use Rattle.executor_model.specs.declared.op.TickOp.TheVariants as tick_op
@@ -30,9 +31,10 @@ use Rattle.executor_model.specs.Rows.{past_of, releases_of, waiting_of}
 use Rattle.executor_model.specs.SleepersAgree.{SleepersAgree}
 use Rattle.executor_model.specs.Sound.{Sound, pend, times, tokens}
 use Rattle.executor_model.specs.Steps.{Machine, below_top, stack, top}
-use Rattle.executor_model.specs.Weights.{past, same, weigh_all}
+use Rattle.executor_model.specs.Weights.{is_run, past, same, weigh_all}
 use Rattle.executor_model.specs.World.{Ended, Listed, New, Stage, World, among, mark_of, queue_of, run_of, task}
 use Rattle.executor_model.proofs.OneFuture.Stories.{among_is}
+use Rattle.executor_model.proofs.OwnQueues.Using.{polling_of}
 use Rattle.executor_model.proofs.OwnQueues.UsingWorlds.{is_over_stage}
 use Rattle.executor_model.proofs.Polls.AskingExecutions.{Heard, heard}
 use Rattle.executor_model.proofs.Sleepers.SleepersFollowingExecutions.{agree}
@@ -47,10 +49,11 @@ use Rattle.executor_laws.proofs.Wakeups.StandsMachine.{standing}
 use Rattle.executor_laws.proofs.Wakeups.StandsSteps.{Standing}
 use Rattle.executor_laws.proofs.Walks.Enrolled.{Enrolled, kept-listed}
 use Rattle.executor_laws.proofs.Walks.Finding.{enrolled-here, listed-here, room-here}
-use Rattle.machine_roads.specs.Alone.{CanCopy, Has, HasIn, ListHas, SleepsAlone, StealHas}
+use Rattle.machine_roads.specs.Alone.{CanCopy, Has, HasIn, ListHas, RunCanLie, SleepsAlone, StealHas}
 use Rattle.machine_roads.specs.Moving.{IsQueued}
 use Rattle.machine_roads.specs.Road.{is_ended}
 use Rattle.machine_roads.proofs.Lists.{clash, equal}
+use Rattle.machine_roads.proofs.Living.{living_here}
 
 -- of these more is asked while the executor's drop hasn't begun
 abbrev pub asks_open : Op → Bool
@@ -247,6 +250,28 @@ module _ (s : Machine) (p : ℕ) (reached : Reached s) (there : p < length s.par
           next_one : (n : ℕ) → n + 1 ≡ suc n
           next_one n = omega arith
 
+  -- a run that is polled lives, and finds room where it is awake
+  run_lies : (x : Sleeping) (who : TickOrRun) → x.who ≡ who → top (stack s p) ≡ Some (op.Tick (tick_op.FallAsleep x))
+      → RunCanLie s.world who
+  run_lies x (tick_or_run.Tick t) same_who is = tt
+  run_lies x (tick_or_run.Run r) same_who is = record {
+    living =
+        (living_here s reached).lives r
+        ((enrolled.used r).polled (omega (
+          arith,
+          split (polling_of r) s.parties p (o ∷ []) (below_top (stack s p)) there (topped (stack s p) o is),
+          ap (is_run r) same_who,
+          same_self r,
+        )));
+    roomed = λ awake. agrees.finds_room (tick_or_run.Run r) awake;
+  }
+    where
+      o : Op
+      o = op.Tick (tick_op.FallAsleep x)
+
+      agrees : SleepersAgree s
+      agrees = subst SleepersAgree (sym reached.is) (agree reached.limit reached.kind reached.parties reached.steps)
+
   -- also once the executor's drop has begun, but of what is asked only before that
   pub has_unless : (o : Op) → (asks_open o ≡ true → s.world.gone ≡ false) → top (stack s p) ≡ Some o → Has s.world o
   has_unless (op.Move move.Release f) open_still is =
@@ -269,7 +294,7 @@ module _ (s : Machine) (p : ℕ) (reached : Reached s) (there : p < length s.par
       can_copy a (needs s p (op.Handle (handle_op.CopyAwaiter f a)) there is good)
   has_unless (op.Tick (tick_op.CopyWaker x)) open_still is =
       can_copy x.waker (needs s p (op.Tick (tick_op.CopyWaker x)) there is good)
-  has_unless (op.Tick (tick_op.FallAsleep x)) open_still is = alone x.who
+  has_unless (op.Tick (tick_op.FallAsleep x)) open_still is = (alone x.who, run_lies x x.who refl is)
   has_unless (op.Tick (tick_op.WakeUp x)) open_still is = alone x
   has_unless (op.Tick (tick_op.Leave x)) open_still is = alone x
   has_unless (op.Closing closing_op.LeakOut) open_still is = open_still refl

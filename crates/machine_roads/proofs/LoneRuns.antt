@@ -90,7 +90,7 @@ pub passed : (b : Bool) (e : StepError) (later : Option StepError) → unless b 
 passed true e later is = refl
 passed false e later is = absurd cc
 
-not_true : (b : Bool) → not b ≡ true → b ≡ false
+pub not_true : (b : Bool) → not b ≡ true → b ≡ false
 not_true true is = absurd cc
 not_true false is = refl
 

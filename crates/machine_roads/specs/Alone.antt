@@ -25,6 +25,7 @@ use Rattle.executor_model.specs.declared.op.StealOp.TheVariants as steal_op
 use Rattle.executor_model.specs.declared.op.TickOp.{TickOp}
 use Rattle.executor_model.specs.declared.op.TickOp.TheVariants as tick_op
 use Rattle.executor_model.specs.declared.op.TickOrRun.{TickOrRun}
+use Rattle.executor_model.specs.declared.op.TickOrRun.TheVariants as tick_or_run
 use Rattle.executor_model.specs.declared.op.UserOp.TheVariants as user_op
 use Rattle.executor_model.specs.declared.op.Waker.{Waker}
 use Rattle.executor_model.specs.declared.op.Waker.TheVariants.{Task, Outside}
@@ -36,8 +37,8 @@ use Rattle.executor_model.specs.ActsOfRuns.{own_places}
 use Rattle.executor_model.specs.Doing.{act}
 use Rattle.executor_model.specs.Good.{HandleNeeds, IsKnown, IsKnownWaker}
 use Rattle.executor_model.specs.Sound.{times}
-use Rattle.executor_model.specs.Steps.{waits}
-use Rattle.executor_model.specs.World.{Asleep, World, Done, among, done, mark_of, own_of, place_of, queue_of, run_of, task}
+use Rattle.executor_model.specs.Steps.{lives, waits}
+use Rattle.executor_model.specs.World.{Asleep, Awake, World, Done, among, done, mark_of, own_of, place_of, queue_of, run_of, task}
 use Rattle.machine_roads.specs.Moving.{IsQueued}
 use Rattle.machine_roads.specs.Road.{run_view}
 
@@ -109,9 +110,19 @@ HandleHas w o = HandleNeeds w o
 abbrev pub SleepsAlone : World → TickOrRun → Type 0
 SleepsAlone w x = (n : ℕ) → place_of w x ≡ Asleep n → (y : TickOrRun) → place_of w y ≡ Asleep n → y ≡ x
 
+-- it lives, and finds room where it is awake
+pub record CanLie (w : World) (x : TickOrRun) : Type 0 where
+  pub living : lives (place_of w x) ≡ true
+  pub roomed : place_of w x ≡ Awake → w.sleepers.count < w.sleepers.rooms
+
+-- so does a run that lies down; of a tick it is said where it is polled
+abbrev pub RunCanLie : World → TickOrRun → Type 0
+RunCanLie w (tick_or_run.Tick t) = Unit {0}
+RunCanLie w (tick_or_run.Run r) = CanLie w (tick_or_run.Run r)
+
 abbrev pub TickHas : World → TickOp → Type 0
 TickHas w (tick_op.CopyWaker s) = CanCopy w s.waker
-TickHas w (tick_op.FallAsleep s) = SleepsAlone w s.who
+TickHas w (tick_op.FallAsleep s) = SleepsAlone w s.who × RunCanLie w s.who
 TickHas w (tick_op.WakeUp x) = SleepsAlone w x
 TickHas w (tick_op.Leave x) = SleepsAlone w x
 TickHas w _ = Unit {0}

@@ -14,3 +14,4 @@ pub mod Lone
 pub mod Behind
 pub mod Course
 pub mod Closing
+pub mod Within

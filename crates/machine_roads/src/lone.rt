@@ -113,9 +113,10 @@ pub fn lone_runs_take()
     ensures { EachLoneAlike LoneRunTakes }
 {}
 
-/// From the end of its own future's poll without an output on, with the ends of all the code that it
-/// comes to, a lone poll of a run that isn't over and has taken fewer than 200 is one, until it has
-/// taken 200 and lets others go first; or it comes to where nothing is due.
+/// With the ends of all the code that it comes to a lone poll of a run that has taken fewer than 200 is
+/// one, whatever it finds: behind its own future's poll without an output it takes until it has taken
+/// 200 and lets others go first, or until nothing is due; there it lies down, lies again with another
+/// waker, or is refused memory.
 pub fn lone_runs_go_on()
     ensures { EachLoneAlike LoneRunGoesOn }
 {}
@@ -186,9 +187,8 @@ pub fn lone_questions_are_answered()
 {}
 
 /// Lists of such calls of a new machine, one after the other, are lists of calls of the new plain
-/// scheduler, which looks first at the mark that the turn names and tells who lay down last: all calls
-/// but polls of runs whose own future gives no output in them, and behind the executor's drop, if it
-/// comes to that, whatever calls can be made there.
+/// scheduler, which looks first at the mark that the turn names and tells who lay down last: all calls,
+/// and behind the executor's drop, if it comes to that, whatever calls can be made there.
 pub fn lists_of_lone_calls_go_alike()
     ensures { ListsGoAlike }
 {}

@@ -27,11 +27,11 @@ inside_aside : IsAside (λ (q : Plain Output Waker). q.inside)
 inside_aside = record { futures = λ q fs. refl; due = λ q f. refl; lying = λ q ls. refl; seen = λ q e. refl }
 
 module _ {B : Type 0} (ask : Plain Output Waker → B) (aside : IsAside ask) where
-  put_keeps : (g : ℕ) (new : AbstractTask Output Waker) (q : Plain Output Waker) → ask (put g new q) ≡ ask q
+  pub put_keeps : (g : ℕ) (new : AbstractTask Output Waker) (q : Plain Output Waker) → ask (put g new q) ≡ ask q
   put_keeps g new q = put_by ask g new q (λ fs. aside.futures q fs)
 
   -- a task becomes another, and what is done then leaves that
-  becomes_with : (more : Plain Output Waker → Plain Output Waker) → ((q : Plain Output Waker) → ask (more q) ≡ ask q) → (g : ℕ)
+  pub becomes_with : (more : Plain Output Waker → Plain Output Waker) → ((q : Plain Output Waker) → ask (more q) ≡ ask q) → (g : ℕ)
       (new : AbstractTask Output Waker) (q : Plain Output Waker) → ask (becomes wakes more g new q) ≡ ask q
   becomes_with more keeps g new q = by (is_some (info_of (task g q) new))
     where
@@ -70,14 +70,14 @@ module _ {B : Type 0} (ask : Plain Output Waker → B) (aside : IsAside ask) whe
       → ask (becomes wakes (tell wakes c) g new q) ≡ ask q
   becomes_keeps c g new q = becomes_with (tell wakes c) (tell_keeps c) g new q
 
-  let_go_keeps : (c : Choice) (a : Waker) (q : Plain Output Waker) → ask (let_go wakes (tell wakes c) a q) ≡ ask q
+  pub let_go_keeps : (c : Choice) (a : Waker) (q : Plain Output Waker) → ask (let_go wakes (tell wakes c) a q) ≡ ask q
   let_go_keeps c a q = by (wakes a)
     where
       by : (o : Option ℕ) → ask (on o (release wakes (tell wakes c)) q) ≡ ask q
       by None = refl
       by (Some g) = becomes_keeps c g (abstract.release (task g q)) q
 
-  copied_keeps : (a : Waker) (q : Plain Output Waker) → ask (copied wakes a q) ≡ ask q
+  pub copied_keeps : (a : Waker) (q : Plain Output Waker) → ask (copied wakes a q) ≡ ask q
   copied_keeps a q = by (wakes a)
     where
       by : (o : Option ℕ) → ask (on o (λ g q. put g (abstract.copy (task g q)) q) q) ≡ ask q
@@ -97,7 +97,7 @@ module _ {B : Type 0} (ask : Plain Output Waker → B) (aside : IsAside ask) whe
       by (Some l) =
           goes_keeps c l.waker (record q { lying = without (lies who) q.lying }) ∙ aside.lying q (without (lies who) q.lying)
 
-  leaves_keeps : (c : Choice) (who : Who) (q : Plain Output Waker) → ask (leaves wakes c who q) ≡ ask q
+  pub leaves_keeps : (c : Choice) (who : Who) (q : Plain Output Waker) → ask (leaves wakes c who q) ≡ ask q
   leaves_keeps c who q = by (find (lies who) q.lying)
     where
       whether : (b : Bool) → ask (if b then tell wakes c (up wakes c who q) else up wakes c who q) ≡ ask q

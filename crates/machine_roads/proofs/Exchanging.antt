@@ -29,7 +29,7 @@ use Rattle.machine_roads.proofs.Telling.{after_call, tells_none, tells_last}
 use Rattle.machine_roads.proofs.Moved.{Then, Tells, calls_so}
 
 -- by it nobody gets up
-tell_long : (c : Choice) (q : Plain Output Waker) → length (tell wakes c q).lying ≡ length q.lying
+pub tell_long : (c : Choice) (q : Plain Output Waker) → length (tell wakes c q).lying ≡ length q.lying
 tell_long c q = by (any is_called q.lying)
   where
     used_long : (g : ℕ) (q : Plain Output Waker) → length (used wakes (λ s. s) g q).lying ≡ length q.lying

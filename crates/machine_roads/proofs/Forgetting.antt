@@ -189,7 +189,7 @@ module _ (p : ℕ) (below : List Op) (under : is_resting below ≡ true) (end : 
           (subst (λ (e : Done). Forgets taker final below f q e (dropping x.0)) last_is
           (record {
             stops = record { left = refl; inside = refl; forgotten = forgotten_so open_still unwoken last_one x.0 x.1 };
-            stay = record { runs = refl; kept = λ k. refl };
+            stay = record { runs = refl; kept = λ k. refl; lying = refl };
           })))
 
 pub forgets_by : (p : ℕ) (below : List Op) (w : World) (q : Plain Output Waker) → is_resting below ≡ true → Follows w q

@@ -1,7 +1,7 @@
 -- A lone poll of a run whose own future gives no output, with the ends of all the code that it comes to: it takes until it has taken 200
--- and lets others go first, or nothing is due.
-use Rattle.std.proofs.Common.{◌≡◌, ℕ, suc, ◌+◌, ◌-◌, ◌≤◌, ◌++◌, ◌||◌, nat_lt, Bool, true, false, List, [], ◌∷◌, length, slice_get, Option}
-use Rattle.std.proofs.Common.{Some, None, if◌then◌else◌, refl, sym, ap, subst, ◌∙◌, arith}
+-- and lets others go first, or lies down where nothing is due.
+use Rattle.std.proofs.Common.{◌≡◌, ℕ, suc, ◌+◌, ◌-◌, ◌≤◌, ◌<◌, ◌++◌, ◌||◌, nat_lt, Bool, true, false, List, [], ◌∷◌, length, slice_get}
+use Rattle.std.proofs.Common.{Option, Some, None, if◌then◌else◌, refl, sym, ap, subst, ◌∙◌, arith}
 use Rattle.std.proofs.lemmas.Bool.Decides.{nat_tests}
 use Rattle.executor_model.specs.declared.call.By.{By}
 use Rattle.executor_model.specs.declared.call.Call.TheVariants as call
@@ -27,10 +27,9 @@ use Rattle.plain_scheduler.specs.Calls.{does, Pends, PollRun}
 use Rattle.machine_roads.specs.View.{Output, wakes}
 use Rattle.machine_roads.specs.Road.{Follows, is_ended}
 use Rattle.machine_roads.specs.Alone.{alone, Has}
-use Rattle.machine_roads.specs.Lone.{EachLoneAlike, GoesOn, LoneRunGoesOn}
 use Rattle.machine_roads.specs.Stopped.{taken_by}
+use Rattle.machine_roads.proofs.Fitting.{Fitting}
 use Rattle.machine_roads.proofs.Lists.{cons_is}
-use Rattle.machine_roads.proofs.LoneCalls.{each}
 use Rattle.machine_roads.proofs.LonePolls.{In, InOwn, last, poll_own, stands_in_own, x0}
 use Rattle.machine_roads.proofs.LoneRuns.{IsBefore, Rests, before, goes_on_of}
 use Rattle.machine_roads.proofs.LoneRunsOn.{from_after, takes_on}
@@ -103,21 +102,22 @@ module _ (s : Machine) (reached : Reached s) (q : Plain Output Waker) (quiet : I
   abbrev pends_with : Choice → Plain Output Waker
   pends_with d = does wakes d Pends polled
 
-  next_so : (d : Choice) → pends_with (telling (length q.lying) d) ≡ plain_takes.next wakes (telling (length q.lying) d) (ByRun r a) q
+  next_so : (d : Choice)
+      → pends_with (telling (suc (length q.lying)) d) ≡ plain_takes.next wakes (telling (suc (length q.lying)) d) (ByRun r a) q
   next_so d =
-      let e = telling (length q.lying) d in
+      let e = telling (suc (length q.lying)) d in
       sym (ap (λ b. if b then plain_takes.take wakes e (ByRun r a) q else plain_takes.gives_way wakes e r a q) few)
 
   abbrev S : Done → Type 0
-  S e = After p x [] q (length q.lying) t e pends_with
+  S e = After p x [] q (suc (length q.lying)) t e pends_with
 
-  least : (n : ℕ) → n ≤ n
-  least n = omega arith
+  one_more : (n : ℕ) → n < suc n
+  one_more n = omega arith
 
   leads : LeadsSo p (done own.world (op.Tick (tick_op.Search (asleep x)) ∷ [])) S
   leads hints all rests =
-      goes_from p x [] q (length q.lying) t (alone p hints (done own.world (op.Tick (tick_op.Search (asleep x)) ∷ []))) pends_with refl
-      rests c own.world q own.follows_in (least (length q.lying)) now refl (record { hints = hints; has = all; is = refl }) next_so
+      goes_from p x [] q (suc (length q.lying)) t (alone p hints (done own.world (op.Tick (tick_op.Search (asleep x)) ∷ []))) pends_with
+      refl rests c own.world q own.follows_in (one_more (length q.lying)) now refl (record { hints = hints; has = all; is = refl }) next_so
 
   rested : Rests p S new
   rested =
@@ -137,15 +137,11 @@ module _ (s : Machine) (reached : Reached s) (q : Plain Output Waker) (quiet : I
       goes_on_of Has IsBefore before p (In s reached q quiet follows p r c b many steps new later lone own.world (it ∷ [])) S new later
       (last s reached q quiet follows p r c b many steps new later lone) lone.ended i here
 
-  runs_all : GoesOn r a q.inside new.world (does wakes c (PollRun r a) q)
+  pub runs_all : (z : Plain Output Waker) × Fitting (does wakes c (PollRun r a) q) z × (z.inside ≡ q.inside) × Follows new.world z
   runs_all =
       let at_last = last s reached q quiet follows p r c b many steps new later lone in
-      subst (GoesOn r a q.inside new.world)
+      subst (λ m. (z : Plain Output Waker) × Fitting m z × (z.inside ≡ q.inside) × Follows new.world z)
       (sym (ap (λ b. if b then answers Finished q else polled) unended))
       (from_after p new later at_last lone.ended c q.inside x t false
-      (takes_on p new later at_last lone.ended c q.inside x (199 - t) (suc t) (left_to_take t (fewer t few))) Pends refl polled q refl
+      (takes_on p new later at_last lone.ended c q.inside x (199 - t) (suc t) (left_to_take t (fewer t few))) Pends polled refl q refl
       rested)
-
-pub lone_run_goes_on : EachLoneAlike LoneRunGoesOn
-lone_run_goes_on = each LoneRunGoesOn (λ s reached q quiet follows p r c b steps pending going unended many new later lone.
-    runs_all s reached q quiet follows p r c b steps pending going unended many new later lone)

@@ -1,7 +1,7 @@
 -- A lone poll of a run that is over, or whose own future is ready in it: that comes to its drop, and behind that all that is left is
 -- done.
 use Rattle.std.proofs.Common.{◌≡◌, ℕ, ◌<◌, ◌≤◌, ◌==◌, ◌++◌, ◌||◌, ◌&&◌, not, Bool, true, false, List, [], ◌∷◌, length}
-use Rattle.std.proofs.Common.{Some, None, Ok, slice_set, if◌then◌else◌, refl, sym, ap, subst, ◌∙◌}
+use Rattle.std.proofs.Common.{Some, None, Ok, slice_get, slice_set, if◌then◌else◌, refl, sym, ap, subst, ◌∙◌}
 use Rattle.std.specs.Prelude.{reverse}
 use Rattle.std.{proofs.Math.ListN.length-set}
 use Rattle.executor_model.specs.declared.call.By.{By}
@@ -38,18 +38,21 @@ use Rattle.executor_model.proofs.Steps.Stepping.{refusal-there}
 use Rattle.executor_laws.specs.LoneEnds.{IsLoneCall, are_onward_of}
 use Rattle.executor_laws.specs.RunReach.{first_answer}
 use Rattle.plain_scheduler.specs.State.{Choice, DropOwn, Plain, PollOwn, Finished, Ready}
+use Rattle.plain_scheduler.specs.Lists.{or}
 use Rattle.plain_scheduler.specs.Moves.{answers, enters}
 use Rattle.plain_scheduler.specs.Calls.{does, gone, Ends, EndsWith, PollRun}
 use Rattle.machine_roads.specs.View.{Output, wakes}
 use Rattle.machine_roads.specs.Road.{Follows, is_ended, run_view}
 use Rattle.machine_roads.specs.Alone.{alone, Has}
-use Rattle.machine_roads.specs.Lone.{EachLoneAlike, Ended, LoneRunEnds, ends as ends_with, over}
+use Rattle.machine_roads.specs.Lone.{EachLoneAlike, LoneRunEnds}
 use Rattle.machine_roads.proofs.Calling.{ends, idles}
 use Rattle.machine_roads.proofs.Changing.{logs}
+use Rattle.machine_roads.proofs.Fitting.{Ends as EndsBy, Fitting, Over, ended_of}
 use Rattle.machine_roads.proofs.Lists.{clash, cons_is, same_of}
 use Rattle.machine_roads.proofs.LoneCalls.{each}
-use Rattle.machine_roads.proofs.LoneRuns.{InCode, Inside, IsBefore, Rests, Whole, before, begun_so, both_true, ends_so, goes_on_of}
+use Rattle.machine_roads.proofs.LoneRuns.{InCode, Inside, IsBefore, Rests, Whole, before, both_true, ends_so, goes_on_of}
 use Rattle.machine_roads.proofs.LoneRuns.{lone_calls_so, made_is, passed}
+use Rattle.machine_roads.proofs.LoneTold.{begun_so}
 use Rattle.machine_roads.proofs.LoneTicks.{may_begin, there_all}
 use Rattle.machine_roads.proofs.Numbers.{put_view}
 use Rattle.machine_roads.proofs.Runs.{changed, ended_run, over_alike, over_is, same_place}
@@ -155,12 +158,12 @@ module _ (s new : Machine) (reached : Reached s) (p : ℕ) (there : p < length s
         same = refl;
       }
 
-or_ended : (b : Bool) → (b || true) ≡ true
+pub or_ended : (b : Bool) → (b || true) ≡ true
 or_ended true = refl
 or_ended false = refl
 
 -- a run that comes into the list is as it was
-registered_so : (r : ℕ) (w : World) (q : Plain Output Waker) → Follows w q → Follows (registered (run_of w r).stage w r) q
+pub registered_so : (r : ℕ) (w : World) (q : Plain Output Waker) → Follows w q → Follows (registered (run_of w r).stage w r) q
 registered_so r w q follows = by (run_of w r).stage refl
   where
     by : (st : Stage) → (run_of w r).stage ≡ st → Follows (registered st w r) q
@@ -207,7 +210,7 @@ module _ (s : Machine) (reached : Reached s) (q : Plain Output Waker) (quiet : I
   empty = rests new (deep-here new last) lone.ended p
 
   abbrev Result : Plain Output Waker → Type 0
-  Result y = (z : Plain Output Waker) × Ended y z × (z.inside ≡ q.inside) × Follows new.world z
+  Result y = (z : Plain Output Waker) × Fitting y z × (z.inside ≡ q.inside) × Follows new.world z
 
   -- one that is over is answered so
   at_once : (run_of w r).stage ≡ RunEnded → Follows new.world (answers Finished q)
@@ -354,8 +357,8 @@ module _ (s : Machine) (reached : Reached s) (q : Plain Output Waker) (quiet : I
   is_ready unpended st is going =
       let z : Plain Output Waker = answers Ready (gone wakes c r q) in (
         z,
-        ends_with c (EndsWith tt) (enters (PollOwn r a) q) z refl many
-            (ends_with c Ends (enters (DropOwn r Ready) q) z refl many (over z)),
+        EndsBy c (EndsWith tt) (enters (PollOwn r a) q) z refl many
+            (EndsBy c Ends (enters (DropOwn r Ready) q) z refl many (Over z)),
         ap (λ (q : Plain Output Waker). q.inside) (sym (left_is c r Ready q)) ∙ left_inside c r Ready q,
         subst (Follows new.world) (left_is c r Ready q) (comes unpended st is going),
       )
@@ -372,12 +375,18 @@ module _ (s : Machine) (reached : Reached s) (q : Plain Output Waker) (quiet : I
       off_of false is = refl
       off_of true is = absurd cc
 
-  ends_by : ¬ (first_answer steps ≡ Some (end.Polled answer.Pending)) → (st : Stage) → (run_of w r).stage ≡ st
+  over_by : (st : Stage) → (run_of w r).stage ≡ st → is_ended st ≡ true
       → Result (if (run_of w r).dropped || is_ended st then answers Finished q else enters (PollOwn r a) q)
-  ends_by unpended RunEnded is =
+  over_by RunEnded is ended =
       let z : Plain Output Waker = answers Finished q in
       subst (λ b. Result (if b then answers Finished q else enters (PollOwn r a) q)) (sym (or_ended (run_of w r).dropped))
-      (z, over z, refl, at_once is)
+      (z, Over z, refl, at_once is)
+  over_by New is ended = absurd cc
+  over_by Listed is ended = absurd cc
+
+  ends_by : ¬ (first_answer steps ≡ Some (end.Polled answer.Pending)) → (st : Stage) → (run_of w r).stage ≡ st
+      → Result (if (run_of w r).dropped || is_ended st then answers Finished q else enters (PollOwn r a) q)
+  ends_by unpended RunEnded is = over_by RunEnded is refl
   ends_by unpended New is =
       subst (λ b. Result (if b || false then answers Finished q else enters (PollOwn r a) q)) (sym unended)
       (is_ready unpended New is refl)
@@ -385,14 +394,23 @@ module _ (s : Machine) (reached : Reached s) (q : Plain Output Waker) (quiet : I
       subst (λ b. Result (if b || false then answers Finished q else enters (PollOwn r a) q)) (sym unended)
       (is_ready unpended Listed is refl)
 
-  ends_all : ¬ (first_answer steps ≡ Some (end.Polled answer.Pending)) → Result (does wakes c (PollRun r a) q)
+  pub ends_all : ¬ (first_answer steps ≡ Some (end.Polled answer.Pending)) → Result (does wakes c (PollRun r a) q)
   ends_all unpended =
       subst (λ b. Result (if b then answers Finished q else enters (PollOwn r a) q)) (sym (over_is w.runs q.runs follows.runs r))
       (ends_by unpended (run_of w r).stage refl)
 
+  -- or it is over, and answers so at once
+  pub over_all : or (slice_get q.runs r) (λ run. run.is_over) true ≡ true → Result (does wakes c (PollRun r a) q)
+  over_all over =
+      let is = over_is w.runs q.runs follows.runs r in
+      subst (λ b. Result (if b then answers Finished q else enters (PollOwn r a) q)) (sym is)
+      (over_by (run_of w r).stage refl
+      (sym (ap (λ b. b || is_ended (run_of w r).stage) unended) ∙ (sym is ∙ over)))
+
 pub run_ends_so : (s : Machine) → Reached s → (q : Plain Output Waker) → IsQuiet s.world.trace → Follows s.world q → LoneRunEnds s q
 run_ends_so s reached q quiet follows p r c b steps unpended many new later lone =
-    ends_all s reached q quiet follows p r c b many steps new later lone unpended
+    let e = ends_all s reached q quiet follows p r c b many steps new later lone unpended in
+    (e.0, ended_of (does wakes c (PollRun r (waker_of None b)) q) e.0 e.1, e.2, e.3)
 
 pub lone_run_ends : EachLoneAlike LoneRunEnds
 lone_run_ends = each LoneRunEnds run_ends_so

@@ -1,6 +1,6 @@
 -- A lone poll of a run, with the ends of all the code that it comes to from its first take on: it takes on until it has taken 200 and lets
--- others go first, or nothing is due.
-use Rattle.std.proofs.Common.{◌≡◌, ℕ, zero, suc, ◌+◌, ◌≤◌, ◌++◌, Bool, true, false, List, [], ◌∷◌, length}
+-- others go first, or lies down where nothing is due.
+use Rattle.std.proofs.Common.{◌≡◌, ℕ, zero, suc, ◌+◌, ◌≤◌, ◌<◌, ◌++◌, Bool, true, false, List, [], ◌∷◌, length}
 use Rattle.task_moves.specs.declared.moves.owed.Move.{Move}
 use Rattle.task_moves.specs.declared.moves.owed.Move.TheVariants as move
 use Rattle.executor_model.specs.declared.event.Answer.TheVariants as answer
@@ -23,6 +23,7 @@ use Rattle.machine_roads.specs.Road.{Follows, waking_in}
 use Rattle.machine_roads.specs.Alone.{alone, is_resting, Has}
 use Rattle.machine_roads.specs.Dropped.{Drops, IsEnding, answered, loses, rest_of, without_run}
 use Rattle.machine_roads.specs.Forgotten.{IsForgotten, IsLastPoll, unawaited, without_awaiter}
+use Rattle.machine_roads.proofs.Fitting.{Ends as EndsBy, Fitting, Over, fits_in}
 use Rattle.machine_roads.proofs.Forgetting.{Forgets, forgets_by, forgets_with, forgotten_by}
 use Rattle.machine_roads.proofs.Lists.{cons_is}
 use Rattle.machine_roads.proofs.Puts.{put_at, put_by}
@@ -33,19 +34,15 @@ use Rattle.executor_model.specs.declared.op.RunPoll.{RunPoll}
 use Rattle.executor_model.specs.Steps.{Machine, accepts, react}
 use Rattle.executor_model.proofs.Steps.Reached.{Reached}
 use Rattle.plain_scheduler.specs.State.{Choice, Closed, Code, Drop, End, Future, Lose, Plain, Poll, Run, Taker}
-use Rattle.plain_scheduler.specs.Lists.{any}
-use Rattle.plain_scheduler.specs.Moves.{is_due, task as plain_task}
+use Rattle.plain_scheduler.specs.Moves.{task as plain_task}
 use Rattle.plain_scheduler.specs.Calls.{does, Ends, EndsWith, Pends}
-use Rattle.plain_scheduler.specs.Takes as plain_takes
-use Rattle.machine_roads.specs.Lone.{GoesOn, ended, ends as ends_with, idle, is_end, over}
 use Rattle.machine_roads.specs.Searching.{goes_on_by}
 use Rattle.machine_roads.specs.Stopped.{IsInPoll}
 use Rattle.machine_roads.proofs.LoneRuns.{InCode, Inside, IsBefore, Rests, Whole, before, goes_on_of}
 use Rattle.machine_roads.proofs.Passing.{GoesBy, passed, stood, telling}
 use Rattle.machine_roads.proofs.Pending.{gives_so, pends_by}
 use Rattle.machine_roads.proofs.RunEnding.{dropped_by, drops_with, loses_with, lost_by}
-use Rattle.machine_roads.proofs.RunsOn.{After, Between, between_stays, ends, goes_on as runs_on, idles, takes}
-use Rattle.machine_roads.proofs.RunsStay.{RunsStay}
+use Rattle.machine_roads.proofs.RunsOn.{After, Between, between_stays, ends, goes_on as runs_on, takes}
 use Rattle.machine_roads.proofs.Tying.{LeadsSo}
 
 -- the same but for the code in which it stands
@@ -78,18 +75,28 @@ module _ (p : ℕ) (new : Machine) (later : new.world.gone ≡ false) (at_last :
   taker = Run x.run x.waker
 
   abbrev pub Result : Plain Output Waker → Type 0
-  Result r = GoesOn x.run x.waker codes new.world r
+  Result r = (z : Plain Output Waker) × Fitting r z × (z.inside ≡ codes) × Follows new.world z
 
-  least : (n m : ℕ) → m ≡ n → n ≤ m
-  least n m is = omega (arith, is)
+  -- who lies down last is told, also where one more lies down
+  abbrev pub tells_for : Plain Output Waker → ℕ
+  tells_for r = suc (length r.lying)
+
+  least : (r : Plain Output Waker) → length r.lying ≤ tells_for r
+  least r = omega arith
+
+  most : (r : Plain Output Waker) → length r.lying < tells_for r
+  most r = omega arith
+
+  more_tells : (r : Plain Output Waker) (m : ℕ) → m ≡ tells_for r → length r.lying ≤ m
+  more_tells r m is = omega (arith, is)
+
+  ends_here : (r : Plain Output Waker) → r.inside ≡ codes → Follows new.world r → Result r
+  ends_here r inside follows = (r, Over r, inside, follows)
 
   -- one code more has ended
-  once_more : (d : Choice) (e : plain_calls.Call Output Waker) (r : Plain Output Waker) → is_end e ≡ true → d.tells ≡ length r.lying
+  once_more : (d : Choice) (e : plain_calls.Call Output Waker) (r : Plain Output Waker) → fits_in r.inside e ≡ true → d.tells ≡ tells_for r
       → Result (does wakes d e r) → Result r
-  once_more d e r it told (ended z es inside follows) =
-      ended z (ends_with d e r z it (least (length r.lying) d.tells told) es) inside follows
-  once_more d e r it told (idle z b f es of none is) =
-      idle z b f (ends_with d e r z it (least (length r.lying) d.tells told) es) of none is
+  once_more d e r it told so = (so.0, EndsBy d e r so.0 it (more_tells r d.tells told) so.1, so.2, so.3)
 
   -- from the end of user code on
   goes_on : (R S : Done → Type 0) (y : InCode p R new)
@@ -110,30 +117,29 @@ module _ (p : ℕ) (new : Machine) (later : new.world.gone ≡ false) (at_last :
     abbrev Now : Plain Output Waker → Type 0
     Now r = Between x.run last t r
 
-    -- it has taken the next one, has let others go first, or nothing is due
-    pub from_after : (e : plain_calls.Call Output Waker) → is_end e ≡ true → (r b : Plain Output Waker) → b.inside ≡ codes
-        → Rests p (λ d. After p x [] b (length r.lying) t d (λ d. does wakes d e r)) new → Result r
-    from_after e it r b same (Whole so) = by so
+    -- it has taken the next one, has let others go first, or has lain down
+    pub from_after : (e : plain_calls.Call Output Waker) (r : Plain Output Waker) → fits_in r.inside e ≡ true
+        → (b : Plain Output Waker) → b.inside ≡ codes
+        → Rests p (λ d. After p x [] b (tells_for r) t d (λ d. does wakes d e r)) new → Result r
+    from_after e r it b same (Whole so) = by so
       where
-        by : After p x [] b (length r.lying) t (done new.world []) (λ d. does wakes d e r) → Result r
+        by : After p x [] b (tells_for r) t (done new.world []) (λ d. does wakes d e r) → Result r
         by (takes d l stands now) =
-            let d1 = telling (length r.lying) d in
+            let d1 = telling (tells_for r) d in
             once_more d1 e r it refl (on l b (does wakes d1 e r) same now (Whole stands))
         by (ends d next follows inside) =
-            let d1 = telling (length r.lying) d in
-            once_more d1 e r it refl (ended (does wakes d1 e r) (over (does wakes d1 e r)) (inside ∙ same) follows)
-        by (idles b0 none is) = idle r b0 e (over r) it none is
-    from_after e it r b same (Inside y) = by y.so
+            let d1 = telling (tells_for r) d in
+            once_more d1 e r it refl (ends_here (does wakes d1 e r) (inside ∙ same) follows)
+    from_after e r it b same (Inside y) = by y.so
       where
-        by : After p x [] b (length r.lying) t (done y.machine.world (y.first ∷ y.rest)) (λ d. does wakes d e r) → Result r
+        by : After p x [] b (tells_for r) t (done y.machine.world (y.first ∷ y.rest)) (λ d. does wakes d e r) → Result r
         by (takes d l stands now) =
-            let d1 = telling (length r.lying) d in
+            let d1 = telling (tells_for r) d in
             once_more d1 e r it refl
             (on l b (does wakes d1 e r) same now
-            (Inside (again p new (λ d. After p x [] b (length r.lying) t d (λ d. does wakes d e r))
+            (Inside (again p new (λ d. After p x [] b (tells_for r) t d (λ d. does wakes d e r))
             (λ d. StandsSo taker (goes_on_by x l) [] b d (does wakes d1 e r)) y stands)))
         by (ends d next follows inside) = absurd cc
-        by (idles b0 none is) = idle r b0 e (over r) it none is
 
     -- or more user code has come before that
     data Left (So : Plain Output Waker → Done → Type 0) (b : Plain Output Waker) (n : ℕ) (will : Choice → Plain Output Waker) (e : Done)
@@ -142,38 +148,38 @@ module _ (p : ℕ) (new : Machine) (later : new.world.gone ≡ false) (at_last :
       still : So (will (telling n c)) e → Now (will (telling n c)) → Left So b n will e
 
     left_by : (So : Plain Output Waker → Done → Type 0) (b : Plain Output Waker) (n : ℕ) (will : Choice → Plain Output Waker) (e : Done)
-        → is_resting e.next ≡ true → Now b → GoesBy p taker final [] b n e will (λ z. So z e) → Left So b n will e
-    left_by So b n will e rests now (passed so) = goes (runs_on p x [] b n t e will refl rests c last now so)
-    left_by So b n will e rests now (stood so stays) =
+        → is_resting e.next ≡ true → length b.lying < n → Now b → GoesBy p taker final [] b n e will (λ z. So z e) → Left So b n will e
+    left_by So b n will e rests fit now (passed so) = goes (runs_on p x [] b n t e will refl rests c last fit now so)
+    left_by So b n will e rests fit now (stood so stays) =
         still (so c) (between_stays x.run last t b (will (telling n c)) (stays c) now)
 
-    from_left : (So : Plain Output Waker → Done → Type 0) (e : plain_calls.Call Output Waker) → is_end e ≡ true
-        → (r b : Plain Output Waker) → b.inside ≡ codes
+    from_left : (So : Plain Output Waker → Done → Type 0) (e : plain_calls.Call Output Waker) (r : Plain Output Waker)
+        → fits_in r.inside e ≡ true → (b : Plain Output Waker) → b.inside ≡ codes
         → ((z : Plain Output Waker) → Now z → Rests p (λ d. So z d) new → Result z)
-        → Rests p (λ d. Left So b (length r.lying) (λ d. does wakes d e r) d) new → Result r
-    from_left So e it r b same more (Whole so) = by so
+        → Rests p (λ d. Left So b (tells_for r) (λ d. does wakes d e r) d) new → Result r
+    from_left So e r it b same more (Whole so) = by so
       where
-        by : Left So b (length r.lying) (λ d. does wakes d e r) (done new.world []) → Result r
-        by (goes so) = from_after e it r b same (Whole so)
+        by : Left So b (tells_for r) (λ d. does wakes d e r) (done new.world []) → Result r
+        by (goes so) = from_after e r it b same (Whole so)
         by (still so now) =
-            let d1 = telling (length r.lying) c in
+            let d1 = telling (tells_for r) c in
             once_more d1 e r it refl (more (does wakes d1 e r) now (Whole so))
-    from_left So e it r b same more (Inside y) = by y.so
+    from_left So e r it b same more (Inside y) = by y.so
       where
         R : Done → Type 0
-        R d = Left So b (length r.lying) (λ d. does wakes d e r) d
+        R d = Left So b (tells_for r) (λ d. does wakes d e r) d
 
-        by : Left So b (length r.lying) (λ d. does wakes d e r) (done y.machine.world (y.first ∷ y.rest)) → Result r
+        by : Left So b (tells_for r) (λ d. does wakes d e r) (done y.machine.world (y.first ∷ y.rest)) → Result r
         by (goes so) =
-            from_after e it r b same
-            (Inside (again p new R (λ d. After p x [] b (length r.lying) t d (λ d. does wakes d e r)) y so))
+            from_after e r it b same
+            (Inside (again p new R (λ d. After p x [] b (tells_for r) t d (λ d. does wakes d e r)) y so))
         by (still so now) =
-            let d1 = telling (length r.lying) c in
+            let d1 = telling (tells_for r) c in
             once_more d1 e r it refl (more (does wakes d1 e r) now (Inside (again p new R (λ d. So (does wakes d1 e r) d) y so)))
 
     -- the drop of an output ends
     from_loss : (f : ℕ) (b r : Plain Output Waker) → b.inside ≡ codes → Now r → Rests p (λ e. Drops taker final [] f b e r) new → Result r
-    from_loss f b r same now (Whole (answered next inside follows)) = ended r (over r) (inside ∙ same) follows
+    from_loss f b r same now (Whole (answered next inside follows)) = ends_here r (inside ∙ same) follows
     from_loss f b r same now (Whole (loses awaiter next inside ending)) = absurd cc
     from_loss f b r same now (Inside y) = by y.so
       where
@@ -185,7 +191,7 @@ module _ (p : ℕ) (new : Machine) (later : new.world.gone ≡ false) (at_last :
             let both = cons_is y.first (op.User (user_op.DropOutput f)) y.rest os next in
             let r0 : Plain Output Waker = record r { inside = codes } in
             let r1 : Plain Output Waker = record r { inside = Lose awaiter (Some taker) ∷ codes } in
-            let n = length r.lying in
+            let n = tells_for r in
             let c1 = telling n c in
             let is : r1 ≡ r =
             ap (λ (codes : List (Code Output Waker)). record r { inside = codes })
@@ -205,13 +211,13 @@ module _ (p : ℕ) (new : Machine) (later : new.world.gone ≡ false) (at_last :
             let S : Done → Type 0 = λ e. After p x [] r0 n t e (λ d. does wakes d Ends r1) in
             let leads : LeadsSo p (done m.world os) S =
             λ hints all rests.
-            runs_on p x [] r0 n t (alone p hints (done m.world os)) (loses_with taker awaiter r0) refl rests c last
+            runs_on p x [] r0 n t (alone p hints (done m.world os)) (loses_with taker awaiter r0) refl rests c last (most r0)
             (between_inside x.run last t r codes now)
-            (lost_by taker final p f [] m.world r0 awaiter c1 ending0 (least n n refl) hints all rests) in
+            (lost_by taker final p f [] m.world r0 awaiter c1 ending0 (least r0) hints all rests) in
             let here : LeadsSo p (done (react p y.first y.end m.world).world ((react p y.first y.end m.world).next ++ y.rest)) S =
             subst (λ o. LeadsSo p (done (react p o y.end m.world).world ((react p o y.end m.world).next ++ y.rest)) S) (sym both.0)
             (subst (λ os. LeadsSo p (done m.world os) S) (sym both.1) leads) in
-            subst Result is (from_after Ends refl r1 r0 refl (goes_on (λ e. Drops taker final [] f b e r) S y here))
+            subst Result is (from_after Ends r1 refl r0 refl (goes_on (λ e. Drops taker final [] f b e r) S y here))
 
     -- so does the drop of a future
     from_drop : (R : Done → Type 0) (y : InCode p R new) (f : ℕ) (mv : Move) (why : End Output) → IsGoing y.machine.world f mv why
@@ -223,20 +229,21 @@ module _ (p : ℕ) (new : Machine) (later : new.world.gone ≡ false) (at_last :
         let both = cons_is y.first (op.User (user_op.Drop f)) y.rest os next in
         let r0 : Plain Output Waker = record r { inside = codes } in
         let r1 : Plain Output Waker = record r { inside = Drop f why taker ∷ codes } in
-        let n = length r.lying in
+        let n = tells_for r in
         let is : r1 ≡ r = ap (λ (codes : List (Code Output Waker)). record r { inside = codes }) (sym inside) in
         let So : Plain Output Waker → Done → Type 0 = λ z d. Drops taker final [] f r0 d z in
         let S : Done → Type 0 = λ e. Left So r0 n (λ d. does wakes d Ends r1) e in
         let leads : LeadsSo p (done m.world os) S =
         λ hints all rests.
-        left_by So r0 n (drops_with taker f why r0) (alone p hints (done m.world os)) rests (between_inside x.run last t r codes now)
+        left_by So r0 n (drops_with taker f why r0) (alone p hints (done m.world os)) rests (most r0)
+        (between_inside x.run last t r codes now)
         (dropped_by p [] m.world r0 refl (stands_in codes m.world r follows (sym (ap (λ codes. waking_in codes) inside))) taker final
-        f mv why going.known going.entered going.ends (telling n c) (least n n refl) hints all rests) in
+        f mv why going.known going.entered going.ends (telling n c) (least r0) hints all rests) in
         let here : LeadsSo p (done (react p y.first y.end m.world).world ((react p y.first y.end m.world).next ++ y.rest)) S =
         subst (λ o. LeadsSo p (done (react p o y.end m.world).world ((react p o y.end m.world).next ++ y.rest)) S) (sym both.0)
         (subst (λ os. LeadsSo p (done m.world os) S) (sym both.1) leads) in
         subst Result is
-        (from_left So Ends refl r1 r0 refl (λ z now rests. from_loss f r0 z refl now rests) (goes_on R S y here))
+        (from_left So Ends r1 refl r0 refl (λ z now rests. from_loss f r0 z refl now rests) (goes_on R S y here))
 
     -- so does the drop of a future that nobody could wake any more
     from_forgotten : (f : ℕ) (b r : Plain Output Waker) → b.inside ≡ codes → Now b → Rests p (λ e. Forgets taker final [] f b e r) new
@@ -251,7 +258,7 @@ module _ (p : ℕ) (new : Machine) (later : new.world.gone ≡ false) (at_last :
         let both = cons_is y.first (op.User (user_op.Drop f)) y.rest os y.so.stops.left in
         let r0 : Plain Output Waker = record r { inside = codes } in
         let r1 : Plain Output Waker = record r { inside = Drop f Closed taker ∷ codes } in
-        let n = length r.lying in
+        let n = tells_for r in
         let is : r1 ≡ r =
         ap (λ (codes : List (Code Output Waker)). record r { inside = codes })
         (ap (λ (codes : List (Code Output Waker)). Drop f Closed taker ∷ codes) (sym same) ∙ sym y.so.stops.inside) in
@@ -274,13 +281,13 @@ module _ (p : ℕ) (new : Machine) (later : new.world.gone ≡ false) (at_last :
         let S : Done → Type 0 = λ e. After p x [] r0 n t e (λ d. does wakes d Ends r1) in
         let leads : LeadsSo p (done m.world os) S =
         λ hints all rests.
-        runs_on p x [] r0 n t (alone p hints (done m.world os)) (forgets_with taker f r0) refl rests c last
+        runs_on p x [] r0 n t (alone p hints (done m.world os)) (forgets_with taker f r0) refl rests c last (most r0)
         (between_inside x.run last t r codes (between_stays x.run last t b r y.so.stay now))
-        (forgotten_by taker final p f [] m.world r0 (telling n c) forgotten0 (least n n refl) hints all rests) in
+        (forgotten_by taker final p f [] m.world r0 (telling n c) forgotten0 (least r0) hints all rests) in
         let here : LeadsSo p (done (react p y.first y.end m.world).world ((react p y.first y.end m.world).next ++ y.rest)) S =
         subst (λ o. LeadsSo p (done (react p o y.end m.world).world ((react p o y.end m.world).next ++ y.rest)) S) (sym both.0)
         (subst (λ os. LeadsSo p (done m.world os) S) (sym both.1) leads) in
-        subst Result is (from_after Ends refl r1 r0 refl (goes_on (λ e. Forgets taker final [] f b e r) S y here))
+        subst Result is (from_after Ends r1 refl r0 refl (goes_on (λ e. Forgets taker final [] f b e r) S y here))
       where
         unawaited_in : (f : ℕ) (r : Plain Output Waker)
             → record (unawaited f r) { inside = codes } ≡ unawaited f (record r { inside = codes })
@@ -306,7 +313,7 @@ module _ (p : ℕ) (new : Machine) (later : new.world.gone ≡ false) (at_last :
 
     from_stays : (b r : Plain Output Waker) → b.inside ≡ codes → Now r → Rests p (λ e. StaysSo taker final [] b e r) new → Result r
     from_stays b r same now (Whole so) =
-        ended r (over r) (at_end b.inside new.world [] r.inside so.stays refl ∙ same) so.follows
+        ends_here r (at_end b.inside new.world [] r.inside so.stays refl ∙ same) so.follows
     from_stays b r same now (Inside y) =
         in_drop (λ e. StaysSo taker final [] b e r) y r now y.so.follows (y.first ∷ y.rest) r.inside
         (subst (λ codes. Stays taker final [] codes y.machine.world (y.first ∷ y.rest) r.inside) same y.so.stays) refl refl
@@ -337,7 +344,7 @@ module _ (p : ℕ) (new : Machine) (later : new.world.gone ≡ false) (at_last :
         now0 = between_inside x.run last t r codes now
 
         n : ℕ
-        n = length r.lying
+        n = tells_for r
 
         c1 : Choice
         c1 = telling n c
@@ -365,11 +372,11 @@ module _ (p : ℕ) (new : Machine) (later : new.world.gone ≡ false) (at_last :
                 let S : Done → Type 0 = λ e. Left So r0 n (λ d. does wakes d Pends r1) e in
                 let in_poll : IsInPoll y.machine.world f =
                 record { known = taken.known; polled = taken.polled; entered = taken.entered; reached = reached } in
-                from_left So Pends refl r1 r0 refl (λ z now rests. from_stays r0 z refl now rests)
+                from_left So Pends r1 refl r0 refl (λ z now rests. from_stays r0 z refl now rests)
                 (goes_on R S y (here (end.Polled answer.Pending) S at
                 (λ hints all rests.
-                left_by So r0 n (λ d. does wakes d Pends r1) _ rests now0
-                (pends_by p [] y.machine.world r0 refl follows0 taker final f in_poll c1 (least n n refl) hints all rests))))
+                left_by So r0 n (λ d. does wakes d Pends r1) _ rests (most r0) now0
+                (pends_by p [] y.machine.world r0 refl follows0 taker final f in_poll c1 (least r0) hints all rests))))
             pends true last_one =
                 let S : Done → Type 0 = λ e. Forgets taker final [] f r0 e (does wakes c1 Pends r1) in
                 let last_poll : IsLastPoll y.machine.world f =
@@ -383,7 +390,7 @@ module _ (p : ℕ) (new : Machine) (later : new.world.gone ≡ false) (at_last :
             let new_one = does wakes c1 (EndsWith tt) r1 in
             once_more c1 (EndsWith tt) r1 refl refl
             (from_stays r0 new_one refl
-            (between_stays x.run last t r0 new_one (record { runs = refl; kept = λ k. refl }) now0)
+            (between_stays x.run last t r0 new_one (record { runs = refl; kept = λ k. refl; lying = refl }) now0)
             (goes_on R S y (here (end.Polled answer.Ready) S at
             (λ hints all rests. (gives_so p [] y.machine.world r0 refl follows0 taker final f c1 hints all rests).0 taken))))
         by e at ok = absurd cc
@@ -402,7 +409,7 @@ module _ (p : ℕ) (new : Machine) (later : new.world.gone ≡ false) (at_last :
 
     pub from_take : (b r : Plain Output Waker) → b.inside ≡ codes → Now r → Rests p (λ e. StandsSo taker final [] b e r) new → Result r
     from_take b r same now (Whole so) =
-        ended r (over r) (stands_at_end b.inside new.world [] r.inside so.stands refl ∙ same) so.follows
+        ends_here r (stands_at_end b.inside new.world [] r.inside so.stands refl ∙ same) so.follows
     from_take b r same now (Inside y) =
         in_code (λ e. StandsSo taker final [] b e r) y r now y.so.follows (y.first ∷ y.rest) r.inside
         (subst (λ codes. Stands taker final [] codes y.machine.world (y.first ∷ y.rest) r.inside) same y.so.stands) refl refl

@@ -1,12 +1,9 @@
--- A tick that finds nothing lies down: it sleeps with a copy of its waker, searches again, and replaces the copy by another.
-use Rattle.std.proofs.Common.{◌≡◌, ℕ, zero, suc, ◌+◌, ◌≤◌, ◌<◌, ◌==◌, ◌++◌, ◌||◌, cond, nat_lt, Bool, true, false}
-use Rattle.std.proofs.Common.{List, [], ◌∷◌, length, map, get_or, Option, Some, None, slice_get, slice_set, if◌then◌else◌}
-use Rattle.std.proofs.Common.{refl, sym, ap, subst, ◌∙◌, arith, append_assoc}
-use Rattle.std.specs.Prelude.{find}
-use Rattle.std.proofs.lemmas.List.{get_or-set_same}
+-- A tick that finds nothing lies down.
+use Rattle.std.proofs.Common.{◌≡◌, ℕ, ◌<◌, true, false}
+use Rattle.std.proofs.Common.{List, ◌∷◌, length, Option}
+use Rattle.std.proofs.Common.{refl, sym, subst, arith}
 use Rattle.executor_parts.specs.declared.mark.Mark.{Mark}
 use Rattle.executor_parts.specs.Marks.{first_of}
-use Rattle.executor_parts.specs.Sleepers.{later, listed, next_number, position_of, put_to_sleep, waker_at, waker_in}
 use Rattle.executor_model.specs.declared.call.By.{By}
 use Rattle.executor_model.specs.declared.call.Call.TheVariants as call
 use Rattle.executor_model.specs.declared.call.Reply.TheVariants as reply
@@ -21,442 +18,72 @@ use Rattle.executor_model.specs.declared.op.TickOrRun.{TickOrRun}
 use Rattle.executor_model.specs.declared.op.TickOrRun.TheVariants as tick_or_run
 use Rattle.executor_model.specs.declared.op.Waker.{Waker}
 use Rattle.executor_model.specs.declared.step.Hint.{Hint}
-use Rattle.executor_model.specs.Acts.{copied, is_copy_refused, turned}
-use Rattle.executor_model.specs.ActsOfSleepers.{copy_sleeper_by, fall_asleep_by, pend_as, sleep_again_by, sleep_anew_by, sleep_listed_by}
-use Rattle.executor_model.specs.ActsOfSleepers.{sleeper_goes}
-use Rattle.executor_model.specs.SleepersAgree.{sleeps}
-use Rattle.executor_model.specs.Steps.{lives, waker_of}
-use Rattle.executor_model.specs.World.{Asleep, Awake, Done, Left, Ticker, World, done, log, tick_of}
-use Rattle.plain_scheduler.specs.State.{AtOnce, ATick, Choice, Granted, Later, Lying, NoMemory, Pending, Plain, Refusal, Tick, Who}
-use Rattle.plain_scheduler.specs.Lists.{any, or, without}
-use Rattle.plain_scheduler.specs.Moves.{answers, is_common, is_who, let_go, lies, tell}
-use Rattle.plain_scheduler.specs.Moves as plain
+use Rattle.executor_model.specs.Acts.{turned}
+use Rattle.executor_model.specs.Steps.{waker_of}
+use Rattle.executor_model.specs.World.{Done, World, done, log}
+use Rattle.plain_scheduler.specs.State.{ATick, Choice, Due, Plain, Refusal, Tick}
+use Rattle.plain_scheduler.specs.Lists.{any}
+use Rattle.plain_scheduler.specs.Moves.{is_common}
 use Rattle.plain_scheduler.specs.Takes as plain_takes
 use Rattle.plain_scheduler.specs.Calls.{does, PollTick}
 use Rattle.machine_roads.specs.View.{Output, wakes}
-use Rattle.machine_roads.specs.Road.{AreNumbered, Follows, place_in, sleeper, uncalled, who_of}
-use Rattle.machine_roads.specs.Alone.{alone, is_resting, CanCopy, HasAll}
+use Rattle.machine_roads.specs.Road.{Follows}
+use Rattle.machine_roads.specs.Alone.{alone, is_resting, HasAll}
 use Rattle.machine_roads.specs.Ticking.{CanPoll, TickIsPolledAlike, polling}
-use Rattle.machine_roads.proofs.Aside.{copied_inside, goes_inside}
+use Rattle.machine_roads.proofs.Bedding.{Goes, Idles, lies_down_so}
 use Rattle.machine_roads.proofs.Changing.{logs}
-use Rattle.machine_roads.proofs.Copying.{HasOne, copied_can, copied_due, copied_has, copied_tick}
-use Rattle.machine_roads.proofs.Copying.{copied_wakers, goes_back, lain_has}
-use Rattle.machine_roads.proofs.Lain.{Lies, all_called, all_uncalled, below_test, count_at, count_before, count_others, get_at, here_if}
-use Rattle.machine_roads.proofs.Lain.{left, lies_anew, long, neither}
-use Rattle.machine_roads.proofs.Lain.{none_found, found, one_lies, place_called, place_uncalled, room_called, split_uncalled, told_test}
-use Rattle.machine_roads.proofs.Lain.{uncalled_append}
-use Rattle.machine_roads.proofs.Leaving.{sleeper_goes_so}
-use Rattle.machine_roads.proofs.Lists.{equal, get_last, length_last, map_append}
-use Rattle.machine_roads.proofs.Numbers.{Another, It, IsNamed, Rests, Which, asleep_set, count, count_append, count_one, down, itself}
-use Rattle.machine_roads.proofs.Numbers.{numbered_append, numbered_first, numbered_rest, numbered_still, one_if, place_apart, rests_if}
-use Rattle.machine_roads.proofs.Numbers.{same_who, up as is_up, which}
-use Rattle.machine_roads.proofs.PollCalls.{copied_lying}
-use Rattle.machine_roads.proofs.Polling.{copies_so}
-use Rattle.machine_roads.proofs.Standing.{StandsSo, stops_so}
+use Rattle.machine_roads.proofs.Copying.{copied_can}
+use Rattle.machine_roads.proofs.Standing.{Answered, Behind, Stands, StandsSo, stops_so}
 use Rattle.machine_roads.proofs.Stepping.{Way, next}
-use Rattle.machine_roads.proofs.TickPolls.{Comes, answers_so, searches, searches_none, sleepy}
+use Rattle.machine_roads.proofs.TickPolls.{Comes, searches, searches_none, sleepy}
 use Rattle.machine_roads.proofs.Unseen.{turns}
-
--- lists: one that comes last is put again, and is where it is looked for
-module _ {B : Type 0} where
-  last_again : (xs : List B) (x : B) → slice_set (xs ++ x ∷ []) (length xs) x ≡ xs ++ x ∷ []
-  last_again [] x = refl
-  last_again (y ∷ ys) x = ap (λ zs. y ∷ zs) (last_again ys x)
-
-  set_at : (xs ys : List B) (x y : B) → slice_set (xs ++ x ∷ ys) (length xs) y ≡ xs ++ y ∷ ys
-  set_at [] ys x y = refl
-  set_at (z ∷ zs) ys x y = ap (λ us. z ∷ us) (set_at zs ys x y)
-
-  lengths : (xs ys : List B) (x y : B) → length (xs ++ x ∷ ys) ≡ length (xs ++ y ∷ ys)
-  lengths [] ys x y = refl
-  lengths (z ∷ zs) ys x y = ap suc (lengths zs ys x y)
-
-  none_without : (test : B → Bool) (xs : List B) → any test xs ≡ false → without test xs ≡ xs
-  none_without test [] none = refl
-  none_without test (x ∷ xs) none =
-      let both = neither (test x) (any test xs) none in
-      ap (λ b. cond b xs (x ∷ without test xs)) both.0 ∙ ap (λ ys. x ∷ ys) (none_without test xs both.1)
-
-  none_changed : (test : B → Bool) (h : B → B) (xs : List B) → any test xs ≡ false → map (λ x. if test x then h x else x) xs ≡ xs
-  none_changed test h [] none = refl
-  none_changed test h (x ∷ xs) none =
-      let both = neither (test x) (any test xs) none in
-      ap (λ b. (if b then h x else x) ∷ map (λ x. if test x then h x else x) xs) both.0
-      ∙ ap (λ ys. x ∷ ys) (none_changed test h xs both.1)
-
-  one_changed : (test : B → Bool) (h : B → B) (xs ys : List B) (y : B) → any test xs ≡ false → test y ≡ true → any test ys ≡ false
-      → map (λ x. if test x then h x else x) (xs ++ y ∷ ys) ≡ xs ++ h y ∷ ys
-  one_changed test h [] ys y none it nor =
-      ap (λ b. (if b then h y else y) ∷ map (λ x. if test x then h x else x) ys) it
-      ∙ ap (λ zs. h y ∷ zs) (none_changed test h ys nor)
-  one_changed test h (x ∷ xs) ys y none it nor =
-      let both = neither (test x) (any test xs) none in
-      ap (λ b. (if b then h x else x) ∷ map (λ x. if test x then h x else x) (xs ++ y ∷ ys)) both.0
-      ∙ ap (λ zs. x ∷ zs) (one_changed test h xs ys y both.1 it nor)
-
-position_last : (n : ℕ) (s : Sleeping) (ws : List (ℕ × Sleeping)) → position_of n (ws ++ (n, s) ∷ []) ≡ Some (length ws)
-position_last n s [] = ap here_if (equal n n refl)
-position_last n s (e ∷ es) =
-    ap (λ o. later o (here_if (n == e.0))) (position_last n s es) ∙ ap (λ k. Some k) (one_more (length es))
-  where
-    one_more : (n : ℕ) → n + 1 ≡ suc n
-    one_more n = omega arith
-
-in_ticks : (xs : List Ticker) (t : ℕ) → get_or xs t Left ≡ Awake → t < length xs
-in_ticks [] t is = absurd cc
-in_ticks (x ∷ xs) zero is = omega arith
-in_ticks (x ∷ xs) (suc t) is = let below = in_ticks xs t is in omega (arith, below)
-
--- other sleepers, as many of them called
-replaced : (w : World) (q : Plain Output Waker) (ws : List (ℕ × Sleeping)) (ls : List (Lying Waker)) → Follows w q
-    → map sleeper ws ≡ uncalled ls → length ls ≡ length q.lying → length (uncalled ls) ≡ length (uncalled q.lying)
-    → ((who : Who) → count who ls ≡ count who q.lying) → AreNumbered w.ticks w.runs ws
-    → Follows (record w { sleepers = record w.sleepers { wakers = ws } }) (record q { lying = ls })
-replaced w q ws ls r same many few counted numbered = record {
-  limit = r.limit;
-  kind = r.kind;
-  many = r.many;
-  places = r.places;
-  marked = r.marked;
-  tasks = r.tasks;
-  stored = r.stored;
-  marks = r.marks;
-  calm = r.calm;
-  table = r.table;
-  common = r.common;
-  kept = r.kept;
-  wakers = same;
-  count = r.count ∙ sym many;
-  flag =
-      r.flag
-      ∙ (told_test q.lying
-      ∙ (ap (λ n. (n == 0) || nat_lt (length (uncalled q.lying)) n) (sym many)
-      ∙ (ap (λ n. (length ls == 0) || nat_lt n (length ls)) (sym few) ∙ sym (told_test ls))));
-  asleep = λ x. counted (who_of x) ∙ r.asleep x;
-  numbered = numbered;
-  runs = r.runs;
-  waking = r.waking;
-  seen = r.seen;
-}
 
 module _ (p : ℕ) (below : List Op) (under : is_resting below ≡ true) (end : Done) (rests : is_resting end.next ≡ true) (c : Choice)
     (t : ℕ) (a : Waker) (k : ℕ) where
-  abbrev who : Who
-  who = ATick t
+  abbrev it : TickOrRun
+  it = tick_or_run.Tick t
 
   abbrev s : Sleeping
   s = sleepy p below under end rests c t a k
 
-  abbrev fits : Plain Output Waker → Type 0
-  fits q = length q.lying ≤ c.tells
+  -- nothing without a keeper is due
+  abbrev IsQuiet : List Due → Type 0
+  IsQuiet due = (m : Mark) → any (is_common m) due ≡ false
 
-  abbrev Goes : Plain Output Waker → Plain Output Waker → Type 0
-  Goes q new = Comes p below under end rests c t a q new
+  finds_none : (w : World) (q : Plain Output Waker) → Follows w q → IsQuiet q.due → Way p end w (op.Tick (tick_op.Search s) ∷ below)
+      → Idles p below under end rests c it a k w q
+  finds_none w q follows quiet way =
+      let v = turned p w in
+      record {
+        world = v;
+        follows =
+            logs (record w { urgent_turns = v.urgent_turns }) q (turns v.urgent_turns w q follows)
+            (event.Looked p (first_of w.urgent_turns)) refl;
+        place = refl;
+        wakers = refl;
+        way = searches_none p below under end rests c t a k w q follows quiet way;
+      }
 
-  abbrev Result : Plain Output Waker → Type 0
-  Result q = (r : Refusal) × Goes q (plain_takes.rests wakes c r who a q)
+  -- it is answered
+  comes : (q new : Plain Output Waker) → Goes p below under end rests c it a k q new → Comes p below under end rests c t a q new
+  comes q new g =
+      let final = op.End reply.Ready (hold.Tick t) in
+      record {
+        stands =
+            subst (λ codes. Stands (Tick t a) final below q.inside end.world end.next codes) (sym g.inside)
+            (subst (λ os. Stands (Tick t a) final below q.inside end.world os q.inside) (sym g.next) (Behind below q.inside Answered));
+        follows = g.follows;
+      }
 
-  abbrev new_one : Lying Waker
-  new_one = record { who = who; waker = Some a }
-
-  -- it sleeps, and its entry is the last
-  record IsBedded (w : World) : Type 0 where
-    number : ℕ
-    before : List (ℕ × Sleeping)
-    place : tick_of w t ≡ Asleep number
-    last : w.sleepers.wakers ≡ before ++ (number, s) ∷ []
-
-  -- it searches once more, and its copy is replaced by another one
-  again : (w : World) (q z : Plain Output Waker) → Follows w z → fits z → z.inside ≡ q.inside → IsBedded w → HasOne a z
-      → ((m : Mark) → any (is_common m) z.due ≡ false) → plain_takes.lies_down wakes c who a q ≡ z
-      → Way p end w (op.Tick (tick_op.Search s) ∷ below) → Result q
-  again w q z follows fit inside bed one quiet lies_is way =
-      let w3 = turned p w in
-      let follows3 : Follows w3 z =
-      logs (record w { urgent_turns = w3.urgent_turns }) z (turns w3.urgent_turns w z follows)
-      (event.Looked p (first_of w.urgent_turns)) refl in
-      let step =
-      next p end rests (op.Tick (tick_op.CopyWaker s)) w3 below refl
-      (searches_none p below under end rests c t a k w z follows quiet way) in
-      by (is_copy_refused step.hint w3 a) step.has follows3 step.way
-    where
-      by : (b : Bool) → CanCopy (turned p w) a → Follows (turned p w) z
-          → Way p end (copy_sleeper_by b (turned p w) s).world ((copy_sleeper_by b (turned p w) s).next ++ below) → Result q
-      by true can follows3 way = (
-        Later,
-        subst (λ z. Goes q (answers NoMemory z)) (sym lies_is)
-            (answers_so p below under end rests c t a (turned p w) q z reply.NoMemory (hold.Tick t) NoMemory refl inside follows3 way),
-      )
-      by false can follows3 way =
-          let w4 = copied (turned p w) a in
-          let q4 = plain.copied wakes a z in
-          let n = bed.number in
-          let e : ℕ × Sleeping = (n, s) in
-          let i = length bed.before in
-          let os = op.End reply.Pending (hold.Tick t) ∷ below in
-          let follows4 : Follows w4 q4 = copies_so a (turned p w) z follows3 can in
-          let wakers4 : w4.sleepers.wakers ≡ bed.before ++ e ∷ [] = copied_wakers a (turned p w) ∙ bed.last in
-          let way5 : Way p end (sleep_again_by (position_of n w4.sleepers.wakers) w4 n s).world
-          ((sleep_again_by (position_of n w4.sleepers.wakers) w4 n s).next ++ below) =
-          subst (λ x. Way p end (fall_asleep_by x w4 s).world ((fall_asleep_by x w4 s).next ++ below))
-          (copied_tick a (turned p w) t ∙ bed.place)
-          (next p end rests (op.Tick (tick_op.FallAsleep s)) w4 below refl way).way in
-          let way6 : Way p end (record w4 { sleepers = record w4.sleepers { wakers = slice_set w4.sleepers.wakers i e } })
-          ((sleeper_goes (waker_at (Some i) w4.sleepers.wakers) ++ pend_as (tick_or_run.Tick t)) ++ below) =
-          subst (λ o. Way p end (sleep_again_by o w4 n s).world ((sleep_again_by o w4 n s).next ++ below))
-          (ap (position_of n) wakers4 ∙ position_last n s bed.before) way5 in
-          let same : slice_set w4.sleepers.wakers i e ≡ w4.sleepers.wakers =
-          ap (λ xs. slice_set xs i e) wakers4 ∙ (last_again bed.before e ∙ sym wakers4) in
-          let got : waker_at (Some i) w4.sleepers.wakers ≡ Some s =
-          ap (λ xs. waker_in (slice_get xs i)) wakers4 ∙ ap waker_in (get_last bed.before e) in
-          let way7 : Way p end w4 ((sleeper_goes (Some s) ++ pend_as (tick_or_run.Tick t)) ++ below) =
-          subst (λ o. Way p end w4 ((sleeper_goes o ++ pend_as (tick_or_run.Tick t)) ++ below)) got
-          (subst
-          (λ xs. Way p end (record w4 { sleepers = record w4.sleepers { wakers = xs } })
-          ((sleeper_goes (waker_at (Some i) w4.sleepers.wakers) ++ pend_as (tick_or_run.Tick t)) ++ below)) same way6) in
-          let g =
-          sleeper_goes_so p end rests c (Some s) w4 os q4 follows4 (subst (λ ls. length ls ≤ c.tells) (sym (copied_lying a z)) fit)
-          (subst (Way p end w4) (append_assoc (sleeper_goes (Some s)) (pend_as (tick_or_run.Tick t)) below) way7) in
-          let back = goes_back c a (turned p w) z follows3 can one in (
-            Granted,
-            subst (λ z. Goes q (answers Pending z)) (back ∙ sym lies_is)
-                (answers_so p below under end rests c t a g.world q (let_go wakes (tell wakes c) a q4) reply.Pending (hold.Tick t) Pending
-                refl (ap (λ (q : Plain Output Waker). q.inside) back ∙ inside) g.follows g.way),
-          )
-
-  -- with a copy of its waker, in a world that is this
-  module _ (w : World) (q : Plain Output Waker) (follows : Follows w q) (fit : fits q) (can_copy : CanCopy w a)
-      (quiet : (m : Mark) → any (is_common m) q.due ≡ false) where
-    abbrev w1 : World
-    w1 = copied w a
-
-    abbrev q1 : Plain Output Waker
-    q1 = plain.copied wakes a q
-
-    follows1 : Follows w1 q1
-    follows1 = copies_so a w q follows can_copy
-
-    fit1 : fits q1
-    fit1 = subst (λ ls. length ls ≤ c.tells) (sym (copied_lying a q)) fit
-
-    quiet1 : (m : Mark) → any (is_common m) q1.due ≡ false
-    quiet1 m = ap (any (is_common m)) (copied_due a q) ∙ quiet m
-
-    abbrev lying_by : Option (Lying Waker) → Plain Output Waker
-    lying_by o =
-        or o (λ l. or l.waker (λ old. plain_takes.lain_again wakes c who a old q1) (plain_takes.lain wakes c who a q1))
-        (plain_takes.lain wakes c who a q1)
-
-    lies_by : (o : Option (Lying Waker)) → find (lies who) q1.lying ≡ o → plain_takes.lies_down wakes c who a q ≡ lying_by o
-    lies_by o is = ap lying_by (ap (find (lies who)) (sym (copied_lying a q)) ∙ is)
-
-    abbrev lain : Plain Output Waker
-    lain = plain_takes.lain wakes c who a q1
-
-    -- from the list of who lies without it
-    lain_so : (ws : List (ℕ × Sleeping)) (n : ℕ) → map sleeper ws ≡ uncalled (without (lies who) q1.lying)
-        → map sleeper (ws ++ (n, s) ∷ []) ≡ uncalled lain.lying
-    lain_so ws n same =
-        map_append sleeper ws ((n, s) ∷ [])
-        ∙ (ap (λ ps. ps ++ (who, a) ∷ []) same ∙ sym (uncalled_append (without (lies who) q1.lying) (new_one ∷ [])))
-
-    -- it was awake
-    lies_anew_so : CanPoll w1 t → tick_of w1 t ≡ Awake → any (lies who) q1.lying ≡ false → length q1.lying < c.tells
-        → Way p end (fall_asleep_by Awake w1 s).world ((fall_asleep_by Awake w1 s).next ++ below) → Result q
-    lies_anew_so can awake none room way =
-        let n = next_number w1.sleepers in
-        let as_it_was : without (lies who) q1.lying ≡ q1.lying = none_without (lies who) q1.lying none in
-        let w2 = (sleep_anew_by true w1 s).world in
-        let now : Way p end w2 (op.Tick (tick_op.Search s) ∷ below) =
-        subst (λ b. Way p end (sleep_anew_by b w1 s).world ((sleep_anew_by b w1 s).next ++ below))
-        (below_test w1.sleepers.count w1.sleepers.rooms (can.roomed awake)) way in
-        let follows2 : Follows w2 lain =
-        lies_anew w1 q1 (put_to_sleep s w1.sleepers) lain.lying (slice_set w1.ticks t (Asleep n)) w1.runs follows1
-        (lain_so w1.sleepers.wakers n (follows1.wakers ∙ ap uncalled (sym as_it_was)))
-        (ap (λ n. n + 1) follows1.count
-        ∙ (one_more (length q1.lying)
-        ∙ (ap (λ (ls : List (Lying Waker)). suc (length ls)) (sym as_it_was)
-        ∙ sym (length_last (without (lies who) q1.lying) new_one))))
-        (λ x. abed x (which (tick_or_run.Tick t) x))
-        (numbered_append (slice_set w1.ticks t (Asleep n)) w1.runs w1.sleepers.wakers ((n, s) ∷ [])
-        (numbered_still w1.ticks w1.runs (slice_set w1.ticks t (Asleep n)) w1.runs
-        (asleep_set w1.ticks w1.runs (tick_or_run.Tick t) (Asleep n) (ap sleeps awake)) w1.sleepers.wakers follows1.numbered)
-        (get_or-set_same w1.ticks t (Asleep n) Left (in_ticks w1.ticks t awake), tt)) refl in
-        let bed : IsBedded w2 =
-        record {
-          number = n;
-          before = w1.sleepers.wakers;
-          place = get_or-set_same w1.ticks t (Asleep n) Left (in_ticks w1.ticks t awake);
-          last = refl;
-        } in
-        again w2 q lain follows2
-        (omega (arith, room, ap (λ (ls : List (Lying Waker)). length ls) as_it_was, length_last (without (lies who) q1.lying) new_one))
-        (copied_inside a q) bed (lain_has a q1 lain.lying (copied_has a w q follows can_copy)) quiet1
-        (lies_by None (none_found (lies who) q1.lying none)) now
-      where
-        one_more : (n : ℕ) → n + 1 ≡ suc n
-        one_more n = omega arith
-
-        -- it sleeps too
-        abed : (x : TickOrRun) → Which (tick_or_run.Tick t) x
-            → count (who_of x) lain.lying ≡ sleeps (place_in (slice_set w1.ticks t (Asleep (next_number w1.sleepers))) w1.runs x)
-        abed x It =
-            let here = get_or-set_same w1.ticks t (Asleep (next_number w1.sleepers)) Left (in_ticks w1.ticks t awake) in
-            let before : count who q1.lying ≡ 0 = follows1.asleep (tick_or_run.Tick t) ∙ ap sleeps awake in
-            let same : count who (without (lies who) q1.lying) ≡ 0 =
-            ap (count who) (none_without (lies who) q1.lying none) ∙ before in
-            let last : count who (new_one ∷ []) ≡ 1 = count_one who new_one ∙ ap one_if (itself (tick_or_run.Tick t)) in
-            let total : count who lain.lying ≡ count who (without (lies who) q1.lying) + count who (new_one ∷ []) =
-            count_append who (without (lies who) q1.lying) (new_one ∷ []) in
-            let one : count who lain.lying ≡ 1 = omega (arith, total, last, same) in
-            one ∙ ap sleeps (sym here)
-        abed x (Another z apart turned_apart) =
-            let last : count (who_of z) (new_one ∷ []) ≡ 0 = count_one (who_of z) new_one ∙ ap one_if apart in
-            let total : count (who_of z) lain.lying
-            ≡ count (who_of z) (without (lies who) q1.lying) + count (who_of z) (new_one ∷ []) =
-            count_append (who_of z) (without (lies who) q1.lying) (new_one ∷ []) in
-            let same : count (who_of z) lain.lying ≡ count (who_of z) (without (lies who) q1.lying) =
-            omega (arith, total, last) in
-            same
-            ∙ (ap (count (who_of z)) (none_without (lies who) q1.lying none)
-            ∙ (follows1.asleep z
-            ∙ ap sleeps (sym (place_apart w1.ticks w1.runs (tick_or_run.Tick t) (Asleep (next_number w1.sleepers)) z turned_apart))))
-
-    module _ (n : ℕ) (is : tick_of w1 t ≡ Asleep n) (l : Lies who q1.lying) where
-      -- it was called
-      lies_called : (named : IsNamed n who w1.sleepers.wakers) → l.one.waker ≡ None
-          → Way p end (fall_asleep_by (Asleep n) w1 s).world ((fall_asleep_by (Asleep n) w1 s).next ++ below) → Result q
-      lies_called named called way =
-          let less = left n who w1 q1 follows1 named l in
-          let w2 = (sleep_listed_by true w1 n s).world in
-          let now : Way p end w2 (op.Tick (tick_op.Search s) ∷ below) =
-          subst (λ b. Way p end (sleep_listed_by b w1 n s).world ((sleep_listed_by b w1 n s).next ++ below))
-          (room_called n who w1 q1 follows1 named l called)
-          (subst (λ o. Way p end (sleep_again_by o w1 n s).world ((sleep_again_by o w1 n s).next ++ below))
-          (place_called n who w1 q1 follows1 named l called) way) in
-          let many : suc (length (without (lies who) q1.lying)) ≡ length q1.lying =
-          ap (λ (ls : List (Lying Waker)). suc (length ls)) less ∙ sym (long n who w1 q1 follows1 named l) in
-          let follows2 : Follows w2 lain =
-          lies_anew w1 q1 (listed n s w1.sleepers) lain.lying w1.ticks w1.runs follows1
-          (lain_so w1.sleepers.wakers n
-          (follows1.wakers
-          ∙ (all_called n who w1 q1 follows1 named l called ∙ (sym (uncalled_append l.before l.after) ∙ ap uncalled (sym less)))))
-          (follows1.count ∙ (sym many ∙ sym (length_last (without (lies who) q1.lying) new_one)))
-          (λ x. listed_count (who_of x) ∙ follows1.asleep x)
-          (numbered_append w1.ticks w1.runs w1.sleepers.wakers ((n, s) ∷ []) follows1.numbered (is, tt)) refl in
-          let bed : IsBedded w2 = record { number = n; before = w1.sleepers.wakers; place = is; last = refl } in
-          again w2 q lain follows2
-          (omega (arith, fit1, many, length_last (without (lies who) q1.lying) new_one))
-          (copied_inside a q) bed (lain_has a q1 lain.lying (copied_has a w q follows can_copy)) quiet1
-          (lies_by (Some l.one) (found n who w1 q1 follows1 named l)
-          ∙ ap (λ (o : Option Waker). or o (λ old. plain_takes.lain_again wakes c who a old q1) lain) called) now
-        where
-          listed_count : (x : Who) → count x lain.lying ≡ count x q1.lying
-          listed_count x =
-              let last : count x (new_one ∷ []) ≡ one_if (is_who x l.one.who) =
-              count_one x new_one ∙ ap (λ who. one_if (is_who x who)) (same_who who l.one.who l.it) in
-              let total : count x lain.lying ≡ count x (without (lies who) q1.lying) + count x (new_one ∷ []) =
-              count_append x (without (lies who) q1.lying) (new_one ∷ []) in
-              let it = tick_or_run.Tick t in
-              omega (arith, total, last, count_others n it w1 q1 follows1 l x, count_before n it w1 q1 follows1 l x)
-
-      -- it lay still: its waker is replaced
-      lies_again : (named : IsNamed n who w1.sleepers.wakers) (x : Waker) → l.one.waker ≡ Some x
-          → Way p end (fall_asleep_by (Asleep n) w1 s).world ((fall_asleep_by (Asleep n) w1 s).next ++ below) → Result q
-      lies_again named x waker way =
-          let sp = split_uncalled n who w1 q1 follows1 named l x waker in
-          let i = length sp.first in
-          let os = op.End reply.Pending (hold.Tick t) ∷ below in
-          let ws : List (ℕ × Sleeping) = sp.first ++ (n, s) ∷ sp.rest in
-          let parts = subst (AreNumbered w1.ticks w1.runs) sp.is follows1.numbered in
-          let one : Lying Waker = record l.one { waker = Some a } in
-          let ls : List (Lying Waker) = l.before ++ one ∷ l.after in
-          let changed : map (λ l. if lies who l then record l { waker = Some a } else l) q1.lying ≡ ls =
-          ap (map (λ l. if lies who l then record l { waker = Some a } else l)) l.is
-          ∙ one_changed (lies who) (λ l. record l { waker = Some a }) l.before l.after l.one l.none_before l.it l.none_after in
-          let w2 : World = record w1 { sleepers = record w1.sleepers { wakers = ws } } in
-          let q2 : Plain Output Waker = record q1 { lying = ls } in
-          let same : map sleeper ws ≡ uncalled ls =
-          map_append sleeper sp.first ((n, s) ∷ sp.rest)
-          ∙ (ap (λ xs. xs ++ (who, a) ∷ map sleeper sp.rest) sp.firsts
-          ∙ (ap (λ ys. uncalled l.before ++ (who, a) ∷ ys) sp.rests
-          ∙ (ap (λ v. uncalled l.before ++ (v, a) ∷ uncalled l.after) (same_who who l.one.who l.it)
-          ∙ sym (uncalled_append l.before (one ∷ l.after))))) in
-          let follows2 : Follows w2 q2 =
-          replaced w1 q1 ws ls follows1 same (lengths l.before l.after one l.one ∙ ap length (sym l.is))
-          (ap length (uncalled_append l.before (one ∷ l.after))
-          ∙ (lengths (uncalled l.before) (uncalled l.after) (l.one.who, a) (l.one.who, x)
-          ∙ ap length (sym (all_uncalled n who w1 q1 follows1 named l x waker))))
-          (λ x. count_at x l.before l.after one
-          ∙ (sym (count_at x l.before l.after l.one) ∙ ap (count x) (sym l.is)))
-          (numbered_append w1.ticks w1.runs sp.first ((n, s) ∷ sp.rest)
-          (numbered_first w1.ticks w1.runs sp.first (sp.one ∷ sp.rest) parts)
-          (is, (numbered_rest w1.ticks w1.runs sp.first (sp.one ∷ sp.rest) parts).1)) in
-          let fit2 : fits q2 =
-          subst (λ n. n ≤ c.tells) (ap length l.is ∙ lengths l.before l.after l.one one) fit1 in
-          let way2 : Way p end (record w1 { sleepers = record w1.sleepers { wakers = slice_set w1.sleepers.wakers i (n, s) } })
-          ((sleeper_goes (waker_at (Some i) w1.sleepers.wakers) ++ pend_as (tick_or_run.Tick t)) ++ below) =
-          subst (λ o. Way p end (sleep_again_by o w1 n s).world ((sleep_again_by o w1 n s).next ++ below))
-          (place_uncalled n who w1 q1 follows1 named l x waker) way in
-          let way3 : Way p end w2 ((sleeper_goes (Some sp.one.1) ++ pend_as (tick_or_run.Tick t)) ++ below) =
-          subst (λ o. Way p end w2 ((sleeper_goes o ++ pend_as (tick_or_run.Tick t)) ++ below))
-          (ap (λ xs. waker_in (slice_get xs i)) sp.is ∙ ap waker_in (get_at sp.first sp.rest sp.one))
-          (subst
-          (λ xs. Way p end (record w1 { sleepers = record w1.sleepers { wakers = xs } })
-          ((sleeper_goes (waker_at (Some i) w1.sleepers.wakers) ++ pend_as (tick_or_run.Tick t)) ++ below))
-          (ap (λ xs. slice_set xs i (n, s)) sp.is ∙ set_at sp.first sp.rest sp.one (n, s)) way2) in
-          let g =
-          sleeper_goes_so p end rests c (Some sp.one.1) w2 os q2 follows2 fit2
-          (subst (Way p end w2) (append_assoc (sleeper_goes (Some sp.one.1)) (pend_as (tick_or_run.Tick t)) below) way3) in
-          let more = tell wakes c in
-          let old : sp.one.1.waker ≡ x = ap (λ (e : Who × Waker). e.1) sp.here in
-          let lies_is : plain_takes.lies_down wakes c who a q ≡ let_go wakes more sp.one.1.waker q2 =
-          lies_by (Some l.one) (found n who w1 q1 follows1 named l)
-          ∙ (ap (λ (o : Option Waker). or o (λ old. plain_takes.lain_again wakes c who a old q1) lain) waker
-          ∙ (ap (λ ls. let_go wakes more x (record q1 { lying = ls })) changed ∙ ap (λ x. let_go wakes more x q2) (sym old))) in (
-            Granted,
-            subst (λ z. Goes q (answers Pending z)) (sym lies_is)
-                (answers_so p below under end rests c t a g.world q (let_go wakes more sp.one.1.waker q2) reply.Pending (hold.Tick t)
-                Pending refl (goes_inside c (Some sp.one.1.waker) q2 ∙ copied_inside a q) g.follows g.way),
-          )
-
-    falls_asleep : length q.lying < c.tells → Rests w1 q1 (tick_or_run.Tick t) → CanPoll w1 t
-        → Way p end (fall_asleep_by (tick_of w1 t) w1 s).world ((fall_asleep_by (tick_of w1 t) w1 s).next ++ below) → Result q
-    falls_asleep room (is_up awake none) can way = by (tick_of w1 t) refl awake can.living way
-      where
-        by : (x : Ticker) → tick_of w1 t ≡ x → sleeps x ≡ 0 → lives x ≡ true
-            → Way p end (fall_asleep_by x w1 s).world ((fall_asleep_by x w1 s).next ++ below) → Result q
-        by Awake is awake living way =
-            lies_anew_so can is none (subst (λ ls. length ls < c.tells) (sym (copied_lying a q)) room) way
-        by (Asleep n) is awake living way = absurd (omega (arith, awake))
-        by Left is awake living way = absurd cc
-    falls_asleep room (down n is named one) can way =
-        let l = one_lies who q1.lying one in
-        by l l.one.waker refl
-        (subst (λ x. Way p end (fall_asleep_by x w1 s).world ((fall_asleep_by x w1 s).next ++ below)) is way)
-      where
-        by : (l : Lies who q1.lying) (o : Option Waker) → l.one.waker ≡ o
-            → Way p end (fall_asleep_by (Asleep n) w1 s).world ((fall_asleep_by (Asleep n) w1 s).next ++ below) → Result q
-        by l None called way = lies_called n is l named called way
-        by l (Some x) waker way = lies_again n is l named x waker way
-
-  -- it lies down, or that is refused
-  pub lies_down_so : (w : World) (q : Plain Output Waker) → Follows w q → length q.lying < c.tells → CanPoll w t
-      → ((m : Mark) → any (is_common m) q.due ≡ false) → Way p end w (op.Tick (tick_op.CopyWaker s) ∷ below) → Result q
-  lies_down_so w q follows room can quiet way =
-      let step = next p end rests (op.Tick (tick_op.CopyWaker s)) w below refl way in
-      by (is_copy_refused step.hint w a) step.has step.way
-    where
-      by : (b : Bool) → CanCopy w a → Way p end (copy_sleeper_by b w s).world ((copy_sleeper_by b w s).next ++ below) → Result q
-      by true can_copy way = (
-        AtOnce,
-        answers_so p below under end rests c t a w q q reply.NoMemory (hold.Tick t) NoMemory refl refl follows way,
-      )
-      by false can_copy way =
-          let two = next p end rests (op.Tick (tick_op.FallAsleep s)) (copied w a) below refl way in
-          falls_asleep w q follows (omega (arith, room)) can_copy quiet room
-          (rests_if (tick_or_run.Tick t) (copied w a) (plain.copied wakes a q) (copies_so a w q follows can_copy) (λ n is. two.has))
-          (copied_can a w t can) two.way
+  lies_down : (w : World) (q : Plain Output Waker) → Follows w q → length q.lying < c.tells → CanPoll w t → IsQuiet q.due
+      → Way p end w (op.Tick (tick_op.CopyWaker s) ∷ below)
+      → (r : Refusal) × Comes p below under end rests c t a q (plain_takes.rests wakes c r (ATick t) a q)
+  lies_down w q follows room can quiet way =
+      let still = copied_can a w t can in
+      let g =
+      lies_down_so p below under end rests c it a k IsQuiet finds_none w q follows room
+      (λ none. record { living = still.living; roomed = still.roomed }) quiet way in
+      (g.0, comes q (plain_takes.rests wakes c g.0 (ATick t) a q) g.1)
 
 pub polls_tick_so : (p : ℕ) (here : Option Waker) (below : List Op) (w : World) (q : Plain Output Waker) → is_resting below ≡ true
     → Follows w q → (c : Choice) (t : ℕ) (b : By) → c.first ≡ first_of w.urgent_turns → length q.lying < c.tells → CanPoll w t
@@ -481,8 +108,7 @@ polls_tick_so p here below w q under follows c t b first room can hints has rest
     (event.Looked p (first_of w.urgent_turns)) refl in
     searches p below under end rests c t a k w1 q (omega (arith, room)) follows1
     (λ quiet way.
-    lies_down_so p below under end rests c t a k w1 q follows1 room (record { living = can.living; roomed = can.roomed })
-    quiet way)
+    lies_down p below under end rests c t a k w1 q follows1 room (record { living = can.living; roomed = can.roomed }) quiet way)
     (subst (λ m. Way p end w1 (op.Tick (tick_op.Look s (look.First m)) ∷ below)) (sym first) one.way)
 
 pub polls_tick : (p : ℕ) (here : Option Waker) (below : List Op) (w : World) (q : Plain Output Waker) → is_resting below ≡ true

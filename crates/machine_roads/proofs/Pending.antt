@@ -121,7 +121,7 @@ module _ (p : ℕ) (below : List Op) (under : is_resting below ≡ true) (end : 
           })))
           (λ d. subst (λ e. RunsStay q (plain_calls.pending_by wakes (telling c.tells d) e f taker q))
           (sym (ap abstract.pending_end (follows.tasks f is.known) ∙ ending))
-          (record { runs = refl; kept = λ k. refl }))
+          (record { runs = refl; kept = λ k. refl; lying = refl }))
       by false true z open_still woken last_one reached ending way =
           let os = final ∷ below in
           let s = world.task w f in

@@ -378,7 +378,7 @@ module _ (p : ℕ) (below : List Op) (under : is_resting below ≡ true) (end : 
           stood (λ d. subst (Drops taker final below f q end)
           (sym (goes_out taker (telling c.tells d) l z aw (Some tt) called_so let_go_so some)) there)
           (λ d. subst (RunsStay q) (sym (goes_out taker (telling c.tells d) l z aw (Some tt) called_so let_go_so some))
-          (record { runs = (put_stays f l.task q).runs; kept = (put_stays f l.task q).kept }))
+          (record { runs = (put_stays f l.task q).runs; kept = (put_stays f l.task q).kept; lying = (put_stays f l.task q).lying }))
 
 -- of another plain scheduler whose code is the same
 module _ (p : ℕ) (taker : Taker Waker) (final : Op) (below : List Op) (f n : ℕ) (end : Done) (q after : Plain Output Waker)

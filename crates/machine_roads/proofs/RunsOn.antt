@@ -1,6 +1,7 @@
--- A run goes on behind the poll or the drop of a future that it took: it takes the next one, lets others go first, or nothing is due.
-use Rattle.std.proofs.Common.{◌≡◌, ℕ, suc, ◌≤◌, ◌==◌, nat_lt, not, Bool, true, false, List, [], ◌∷◌, Option, Some, None, length, slice_get}
-use Rattle.std.proofs.Common.{if◌then◌else◌, refl, sym, ap, subst, ◌∙◌, arith}
+-- A run goes on behind the poll or the drop of a future that it took: it takes the next one, lets others go first, or lies down where
+-- nothing is due.
+use Rattle.std.proofs.Common.{◌≡◌, ℕ, suc, ◌≤◌, ◌<◌, ◌==◌, nat_lt, not, Bool, true, false, List, [], ◌∷◌, Option, Some, None, length}
+use Rattle.std.proofs.Common.{slice_get, if◌then◌else◌, refl, sym, ap, subst, ◌∙◌, arith}
 use Rattle.std.proofs.lemmas.Bool.Decides.{nat_tests}
 use Rattle.executor_parts.specs.Marks.{first_of}
 use Rattle.executor_model.specs.declared.op.Op.{Op}
@@ -14,10 +15,11 @@ use Rattle.plain_scheduler.specs.Takes as plain_takes
 use Rattle.machine_roads.specs.View.{Output, wakes}
 use Rattle.machine_roads.specs.Road.{Follows, futures_in}
 use Rattle.machine_roads.specs.Alone.{is_resting}
-use Rattle.machine_roads.specs.Searching.{CanTake, goes_on_by}
+use Rattle.machine_roads.specs.Searching.{goes_on_by}
 use Rattle.machine_roads.specs.Stopped.{of_last, taken_by}
 use Rattle.machine_roads.proofs.Lists.{clash, same_of}
 use Rattle.machine_roads.proofs.Passing.{Passes, passes_end, telling}
+use Rattle.machine_roads.proofs.RunLies.{lies}
 use Rattle.machine_roads.proofs.RunSearching.{Found, pick, searches}
 use Rattle.machine_roads.proofs.RunsStay.{RunsStay}
 use Rattle.machine_roads.proofs.Stepping.{Way}
@@ -64,8 +66,6 @@ module _ (p : ℕ) (x : RunPoll) (below : List Op) (q : Plain Output Waker) (n t
     takes : (d : Choice) (last : Bool) → StandsSo taker (goes_on_by x last) below q end (new (telling n d))
         → Between x.run last (suc t) (new (telling n d)) → After
     ends : (d : Choice) → end.next ≡ below → Follows end.world (new (telling n d)) → (new (telling n d)).inside ≡ q.inside → After
-    idles : (b : Plain Output Waker) → any is_due b.due ≡ false
-        → ((d : Choice) → new (telling n d) ≡ plain_takes.next wakes (telling n d) taker b) → After
 
   module _ (under : is_resting below ≡ true) (rests : is_resting end.next ≡ true) (c : Choice) where
     -- one more is taken
@@ -109,26 +109,29 @@ module _ (p : ℕ) (x : RunPoll) (below : List Op) (q : Plain Output Waker) (n t
         left_so d k false apart over = takes_none x.run k apart d x.waker b (so.left k over)
 
     -- from a search on
-    pub goes_from : (w : World) (b : Plain Output Waker) → Follows w b → length b.lying ≤ n → Between x.run false t b → b.inside ≡ q.inside
+    pub goes_from : (w : World) (b : Plain Output Waker) → Follows w b → length b.lying < n → Between x.run false t b → b.inside ≡ q.inside
         → Way p end w (goes_on_by x false ∷ below)
         → ((d : Choice) → new (telling n d) ≡ plain_takes.next wakes (telling n d) taker b) → After
     goes_from w b follows fit now inside way is = by (any is_due b.due) refl
       where
         by : (some : Bool) → any is_due b.due ≡ some → After
-        by false none = idles b none is
+        by false none =
+            let e = lies p x below n t end new under rests c w b follows fit now.taken now.early none way is in
+            ends e.0 e.1 e.2 (e.3 ∙ inside)
         by true some =
             let first : Choice = record (telling n c) { first = first_of w.urgent_turns; refusal = Granted } in
             takes_more b now inside first refl
-            (searches p below under end rests first x w b follows fit
+            (searches p below under end rests first x w b follows (omega (arith, fit))
             (record { going = few_of b.runs x.run t now.taken now.early; left = now.left }) some refl way)
             is
 
-    pub goes_on : (last : Bool) → Between x.run last t q → Passes p taker (goes_on_by x last) below q n end new → After
-    goes_on true so pass =
+    pub goes_on : (last : Bool) → length q.lying < n → Between x.run last t q → Passes p taker (goes_on_by x last) below q n end new
+        → After
+    goes_on true fit so pass =
         let e =
         passes_end p below under end rests taker (goes_on_by x true) q (of_last x (so.taken ∙ all_of t so.most so.early)) (telling n c) new
         pass in
         ends c e.0 e.1 e.2
-    goes_on false so pass =
-        goes_from pass.so.world pass.before pass.so.follows pass.fit (between_stays x.run false t q pass.before pass.stay so) pass.inside
-        pass.so.way pass.is
+    goes_on false fit so pass =
+        goes_from pass.so.world pass.before pass.so.follows (omega (arith, fit, pass.stay.lying))
+        (between_stays x.run false t q pass.before pass.stay so) pass.inside pass.so.way pass.is

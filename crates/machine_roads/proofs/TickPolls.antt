@@ -7,9 +7,7 @@ use Rattle.executor_parts.specs.declared.mark.Mark.TheVariants.{Plain as PlainMa
 use Rattle.executor_parts.specs.Marks.{first_of, other}
 use Rattle.queue_steps.specs.ClosableQueue.{taken}
 use Rattle.task_moves.specs.declared.moves.owed.Move.TheVariants as move
-use Rattle.executor_model.specs.declared.call.Reply.{Reply}
 use Rattle.executor_model.specs.declared.call.Reply.TheVariants as reply
-use Rattle.executor_model.specs.declared.op.Hold.{Hold}
 use Rattle.executor_model.specs.declared.op.Hold.TheVariants as hold
 use Rattle.executor_model.specs.declared.op.Look.TheVariants as look
 use Rattle.executor_model.specs.declared.op.Op.{Op}
@@ -22,23 +20,21 @@ use Rattle.executor_model.specs.declared.op.Waker.{Waker}
 use Rattle.executor_model.specs.Acts.{turned}
 use Rattle.executor_model.specs.ActsOfSleepers.{found_by, look_tick_by}
 use Rattle.executor_model.specs.World.{Asleep, Awake, Done, Left, Ticker, World, put_queue, queue_of, tick_of}
-use Rattle.plain_scheduler.specs.State.{Answer, Answers, ATick, Choice, Due, Plain, Refusal, Granted, Tick, Who}
+use Rattle.plain_scheduler.specs.State.{ATick, Choice, Due, Plain, Refusal, Granted, Tick, Who}
 use Rattle.plain_scheduler.specs.Lists.{any, or, without}
-use Rattle.plain_scheduler.specs.Moves.{answers, chosen, commons, is_common, lies, tell, up}
+use Rattle.plain_scheduler.specs.Moves.{chosen, commons, is_common, tell, up}
 use Rattle.plain_scheduler.specs.Takes as plain_takes
 use Rattle.plain_scheduler.specs.Calls.{does, PollTick}
 use Rattle.machine_roads.specs.View.{Output, wakes}
-use Rattle.machine_roads.specs.Seeing.{answer_of, shown}
 use Rattle.machine_roads.specs.Road.{Follows, futures_in}
 use Rattle.machine_roads.specs.Alone.{is_resting}
 use Rattle.machine_roads.proofs.Aside.{tell_inside}
-use Rattle.machine_roads.proofs.Calling.{ends}
 use Rattle.machine_roads.proofs.Due.{First, find_never, find_same, nothing, without_same}
 use Rattle.machine_roads.proofs.Exchanging.{loudly}
 use Rattle.machine_roads.proofs.Lain.{neither}
 use Rattle.machine_roads.proofs.Leaving.{gets_up}
 use Rattle.machine_roads.proofs.Stepping.{Way, next}
-use Rattle.machine_roads.proofs.Standing.{Answered, Behind, Stands, StandsSo}
+use Rattle.machine_roads.proofs.Standing.{Stands, StandsSo}
 use Rattle.machine_roads.proofs.Trying.{runs, takes_first}
 
 -- of each mark, where of one and of the other
@@ -93,19 +89,6 @@ module _ (p : ℕ) (below : List Op) (under : is_resting below ≡ true) (end : 
 
   abbrev pub Comes : Plain Output Waker → Plain Output Waker → Type 0
   Comes q new = StandsSo (Tick t a) final below q end new
-
-  -- the call is answered
-  pub answers_so : (w : World) (q z : Plain Output Waker) (r : Reply) (held : Hold) (x : Answer Output)
-      → Answers (answer_of r) ≡ shown (Answers x) → z.inside ≡ q.inside → Follows w z → Way p end w (op.End r held ∷ below)
-      → Comes q (answers x z)
-  answers_so w q z r held x same inside follows way =
-      let e = ends p below under end rests w z r held x same follows way in
-      record {
-        stands =
-            subst (λ codes. Stands (Tick t a) final below q.inside end.world end.next codes) (sym inside)
-            (subst (λ os. Stands (Tick t a) final below q.inside end.world os q.inside) (sym e.0) (Behind below q.inside Answered));
-        follows = e.1;
-      }
 
   -- what lies below comes behind all that
   found_more : (x : Ticker) (os : List Op) {w : World} → Way p end w (found_by x (tick_or_run.Tick t) os ++ below)

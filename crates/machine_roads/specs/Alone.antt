@@ -1,6 +1,6 @@
 -- What one party does alone, while user code begins no call: what it has to do, the first thing first, until nothing is left or
 -- user code has to answer, and the calls of outside wakers end at once.
-use Rattle.std.specs.Prelude.{◌≡◌, ℕ, suc, ◌+◌, ◌<◌, ◌≤◌, Bool, true, false, ◌&&◌, not, List, [], ◌∷◌, ◌++◌, length}
+use Rattle.std.specs.Prelude.{◌≡◌, ℕ, suc, ◌+◌, ◌<◌, ◌≤◌, nat_lt, Bool, true, false, ◌&&◌, not, List, [], ◌∷◌, ◌++◌, length}
 use Rattle.task_moves.specs.declared.moves.owed.Move.{Move}
 use Rattle.task_moves.specs.declared.moves.owed.Move.TheVariants as move
 use Rattle.task_moves.specs.declared.moves.state.State.{State}
@@ -25,6 +25,7 @@ use Rattle.executor_model.specs.declared.op.StealOp.TheVariants as steal_op
 use Rattle.executor_model.specs.declared.op.TickOp.{TickOp}
 use Rattle.executor_model.specs.declared.op.TickOp.TheVariants as tick_op
 use Rattle.executor_model.specs.declared.op.TickOrRun.{TickOrRun}
+use Rattle.executor_model.specs.declared.op.TickOrRun.TheVariants as tick_or_run
 use Rattle.executor_model.specs.declared.op.UserOp.TheVariants as user_op
 use Rattle.executor_model.specs.declared.op.Waker.{Waker}
 use Rattle.executor_model.specs.declared.op.Waker.TheVariants.{Task, Outside}
@@ -36,8 +37,8 @@ use Rattle.executor_model.specs.ActsOfRuns.{own_places}
 use Rattle.executor_model.specs.Doing.{act}
 use Rattle.executor_model.specs.Good.{HandleNeeds, IsKnown, IsKnownWaker}
 use Rattle.executor_model.specs.Sound.{times}
-use Rattle.executor_model.specs.Steps.{waits}
-use Rattle.executor_model.specs.World.{Asleep, World, Done, among, done, mark_of, own_of, place_of, queue_of, run_of, task}
+use Rattle.executor_model.specs.Steps.{lives, waits}
+use Rattle.executor_model.specs.World.{Asleep, Awake, World, Done, among, done, mark_of, own_of, place_of, queue_of, run_of, task}
 use Rattle.machine_roads.specs.Moving.{IsQueued}
 use Rattle.machine_roads.specs.Road.{run_view}
 
@@ -109,9 +110,19 @@ HandleHas w o = HandleNeeds w o
 abbrev pub SleepsAlone : World → TickOrRun → Type 0
 SleepsAlone w x = (n : ℕ) → place_of w x ≡ Asleep n → (y : TickOrRun) → place_of w y ≡ Asleep n → y ≡ x
 
+-- it lives, and finds room where it is awake
+pub record CanLie (w : World) (x : TickOrRun) : Type 0 where
+  pub living : lives (place_of w x) ≡ true
+  pub roomed : place_of w x ≡ Awake → w.sleepers.count < w.sleepers.rooms
+
+-- so does a run that lies down; of a tick it is said where it is polled
+abbrev pub RunCanLie : World → TickOrRun → Type 0
+RunCanLie w (tick_or_run.Tick t) = Unit {0}
+RunCanLie w (tick_or_run.Run r) = CanLie w (tick_or_run.Run r)
+
 abbrev pub TickHas : World → TickOp → Type 0
 TickHas w (tick_op.CopyWaker s) = CanCopy w s.waker
-TickHas w (tick_op.FallAsleep s) = SleepsAlone w s.who
+TickHas w (tick_op.FallAsleep s) = SleepsAlone w s.who × RunCanLie w s.who
 TickHas w (tick_op.WakeUp x) = SleepsAlone w x
 TickHas w (tick_op.Leave x) = SleepsAlone w x
 TickHas w _ = Unit {0}
@@ -152,6 +163,24 @@ Has w (op.Run o) = RunHas w o
 Has w (op.Steal o) = StealHas w o
 Has w (op.Closing o) = ClosingHas w o
 Has w _ = Unit {0}
+
+-- what is there at each moment, also once the executor's drop has begun: a place in the queue, whether that is closed or not
+abbrev pub MoveHasIn : Move → World → ℕ → Type 0
+MoveHasIn move.Release w f = token (task w f) < (task w f).references
+MoveHasIn move.DropRunnable w f = IsQueued (task w f)
+MoveHasIn m w f = Unit {0}
+
+abbrev pub ClosingHasIn : World → ClosingOp → Type 0
+ClosingHasIn w closing_op.DropNext = (f : ℕ) (rest : List ℕ) → w.leaving ≡ f ∷ rest → IsKnown w f
+ClosingHasIn w closing_op.WakeNext = (f : ℕ) (rest : List ℕ) → w.waking ≡ f ∷ rest → IsKnown w f
+ClosingHasIn w _ = Unit {0}
+
+abbrev pub HasIn : World → Op → Type 0
+HasIn w (op.Move m f) = IsKnown w f × MoveHasIn m w f
+HasIn w (op.Queue (queue_op.Append f)) = nat_lt (length (queue_of w (mark_of w f)).items) w.limit ≡ true
+HasIn w (op.Waker (waker_op.CallAwaiter f a k)) = IsKnownWaker w a
+HasIn w (op.Closing o) = ClosingHasIn w o
+HasIn w _ = Unit {0}
 
 -- or what else is asked of it, of the first one
 abbrev pub HasFirst : (World → Op → Type 0) → World → List Op → Type 0

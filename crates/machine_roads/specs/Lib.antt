@@ -11,4 +11,7 @@ pub mod Dropped
 pub mod Ticking
 pub mod Searching
 pub mod Lone
+pub mod Behind
 pub mod Course
+pub mod Closing
+pub mod Within

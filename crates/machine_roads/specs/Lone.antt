@@ -24,10 +24,10 @@ use Rattle.executor_model.specs.Acts.{is_copy_refused, is_refused}
 use Rattle.executor_model.specs.Executions.{EveryMachine, run_all}
 use Rattle.executor_model.specs.Quiet.{IsQuiet}
 use Rattle.executor_model.specs.Steps.{Machine, kept, stack, waker_of}
-use Rattle.executor_model.specs.World.{Done, World, done, task}
+use Rattle.executor_model.specs.World.{Done, done, task}
 use Rattle.executor_laws.specs.LoneEnds.{IsLoneCall}
 use Rattle.executor_laws.specs.RunReach.{first_answer}
-use Rattle.plain_scheduler.specs.State.{Choice, Code, Plain, Refusal, Run, Tick, Try}
+use Rattle.plain_scheduler.specs.State.{Choice, Plain, Refusal, Run, Tick, Try}
 use Rattle.plain_scheduler.specs.Lists.{any, or}
 use Rattle.plain_scheduler.specs.Moves.{is_common, is_due}
 use Rattle.plain_scheduler.specs.Moves as plain
@@ -35,7 +35,6 @@ use Rattle.plain_scheduler.specs.Calls.{does, is_granted, Spawn, Wake, Use, Copy
 use Rattle.plain_scheduler.specs.Calls.{DropExecutor, DropRun, DropTick, Ends, EndsWith, IsEmpty, Leak, NewRun, NewTick, Pends, PollTick}
 use Rattle.plain_scheduler.specs.Calls.{PollRun, TryTick}
 use Rattle.plain_scheduler.specs.Calls as plain_calls
-use Rattle.plain_scheduler.specs.Takes as plain_takes
 use Rattle.machine_roads.specs.View.{Output, wakes}
 use Rattle.machine_roads.specs.Alike.{begins, LeavesAlike}
 use Rattle.machine_roads.specs.Road.{Follows}
@@ -79,15 +78,6 @@ pub data Ended : Plain Output Waker → Plain Output Waker → Type 0 where
   over : (q : Plain Output Waker) → Ended q q
   ends : (c : Choice) (e : plain_calls.Call Output Waker) (q r : Plain Output Waker) → is_end e ≡ true → length q.lying ≤ c.tells
       → Ended (does wakes c e q) r → Ended q r
-
--- a poll of a run goes on so by ends of user code: it has ended, and both stand alike; or it goes on from where nothing is due, where
--- the plain scheduler does once such a code ends
-pub data GoesOn (r : ℕ) (a : Waker) (inside : List (Code Output Waker)) (w : World) (q : Plain Output Waker) : Type 0 where
-  ended : (z : Plain Output Waker) → Ended q z → z.inside ≡ inside → Follows w z → GoesOn r a inside w q
-  idle : (z b : Plain Output Waker) (e : plain_calls.Call Output Waker) → Ended q z → is_end e ≡ true → any is_due b.due ≡ false
-      → ((d : Choice) → does wakes (record d { tells = length z.lying }) e z
-      ≡ plain_takes.next wakes (record d { tells = length z.lying }) (Run r a) b)
-      → GoesOn r a inside w q
 
 -- of each machine at rest and each plain scheduler where both stand alike
 abbrev pub EachLoneAlike : (Machine → Plain Output Waker → Type 0) → Type 0
@@ -237,14 +227,14 @@ module _ (s : Machine) (q : Plain Output Waker) where
       × IsLast r last (does wakes d Pends (does wakes c (PollRun r (waker_of None b)) q)))
       new
 
-  -- from the end of its own future's poll without an output on, with the ends of all the code that it comes to, a poll of a run that
-  -- isn't over and has taken fewer than 200 goes on alike until it has taken 200 and lets others go first, or nothing is due
+  -- with the ends of all the code that it comes to, a poll of a run that has taken fewer than 200 is one, whatever it finds: behind its own
+  -- future's poll without an output it takes until it has taken 200 and lets others go first, or until nothing is due; there it lies down,
+  -- lies again, or is refused memory
   abbrev pub LoneRunGoesOn : Type 0
   LoneRunGoesOn =
-      (p r : ℕ) (c : Choice) (b : By) (steps : List Step) → first_answer steps ≡ Some (Polled Unready)
-      → or (slice_get q.runs r) (λ run. nat_lt run.taken 200) true ≡ true → or (slice_get q.runs r) (λ run. run.is_over) true ≡ false
+      (p r : ℕ) (c : Choice) (b : By) (steps : List Step) → or (slice_get q.runs r) (λ run. nat_lt run.taken 200) true ≡ true
       → length q.lying ≤ c.tells → (new : Machine) → new.world.gone ≡ false → IsLoneCall p (call.PollRun r b) steps s new
-      → GoesOn r (waker_of None b) q.inside new.world (does wakes c (PollRun r (waker_of None b)) q)
+      → (z : Plain Output Waker) × Ended (does wakes c (PollRun r (waker_of None b)) q) z × (z.inside ≡ q.inside) × Follows new.world z
 
   -- a run goes, with the end of its own future's drop, if that isn't over
   abbrev pub LoneRunGoes : Type 0
@@ -265,22 +255,6 @@ module _ (s : Machine) (q : Plain Output Waker) where
       (p : ℕ) (c : Choice) (steps : List Step) → q.inside ≡ [] → (new : Machine) → IsLoneCall p call.DropExecutor steps s new
       → (r : Plain Output Waker) × Ended (does wakes c DropExecutor q) r × (r.inside ≡ q.inside) × Follows new.world r
       × NoneWaits r
-
-  -- wakes by kept wakers, and these wakers' drops, whether the executor was dropped before or not
-  abbrev pub LoneUsesBehind : Type 0
-  LoneUsesBehind =
-      (p k f : ℕ) (c : Choice) (steps : List Step) → NoneWaits q → kept s.world k ≡ Some f → (new : Machine)
-      → IsLoneCall p (call.Wake k) steps s new → Follows new.world (does wakes c (Use f) q)
-
-  abbrev pub LoneWakesBehind : Type 0
-  LoneWakesBehind =
-      (p k f : ℕ) (c : Choice) (steps : List Step) → NoneWaits q → kept s.world k ≡ Some f → (new : Machine)
-      → IsLoneCall p (call.WakeByRef k) steps s new → Follows new.world (does wakes c (Wake f) q)
-
-  abbrev pub LoneWakerGoesBehind : Type 0
-  LoneWakerGoesBehind =
-      (p k f : ℕ) (c : Choice) (steps : List Step) → NoneWaits q → kept s.world k ≡ Some f → (new : Machine)
-      → IsLoneCall p (call.DropWaker k) steps s new → Follows new.world (does wakes c (Release f) q)
 
   abbrev pub LoneEmpty : Type 0
   LoneEmpty = (p : ℕ) (c : Choice) (steps : List Step) → LeadsTo s p call.IsEmpty steps (does wakes c IsEmpty q)

@@ -1,4 +1,4 @@
-use Rattle.machine_roads.proofs.LoneGoesOn.{lone_run_goes_on}
+use Rattle.machine_roads.proofs.LoneRunPolls.{lone_run_goes_on}
 use Rattle.machine_roads.proofs.lone.lone_runs_go_on.Goals as goal
 
 pub returns : goal.returns

@@ -14,7 +14,7 @@ ghost use Rattle.machine_roads.specs.Dropped.{DropsAlikeInTake, LosesAlikeInTake
 ghost use Rattle.machine_roads.specs.Forgotten.{ForgetsAlikeInTake, ForgottenGoesAlike};
 ghost use Rattle.machine_roads.specs.Losing.{DetachesToLose, GoesToLose, LosesAlike};
 ghost use Rattle.machine_roads.specs.Road.{Follows};
-ghost use Rattle.machine_roads.specs.Searching.{RunTakesAlike};
+ghost use Rattle.machine_roads.specs.Searching.{RunLiesAlike, RunTakesAlike};
 ghost use Rattle.machine_roads.specs.Ticking.{TickGoesAlike, TickIsMadeAlike, TickIsPolledAlike};
 ghost use Rattle.machine_roads.specs.Stopped.{GivesAlikeInTake, PendsAlikeInTake, TriesAlike};
 
@@ -149,6 +149,12 @@ pub fn a_run_is_made_alike()
 /// searches again, or calls its own waker where that was the 200th.
 pub fn a_run_takes_alike()
     ensures { EachAlike RunTakesAlike }
+{}
+
+/// And where nothing is due it is answered, and both stand alike: it lies down, lies again with another
+/// waker, or is refused memory, before or once it lies.
+pub fn a_run_lies_alike()
+    ensures { EachAlike RunLiesAlike }
 {}
 
 /// A leak leaves both alike, of an executor that isn't static.

@@ -9,7 +9,7 @@ use Rattle.executor_model.specs.declared.op.TickOrRun.TheVariants as tick_or_run
 use Rattle.executor_model.specs.declared.op.Waker.{Waker}
 use Rattle.executor_model.specs.ActsOfRuns.{asleep}
 use Rattle.executor_model.specs.World.{Done, World}
-use Rattle.plain_scheduler.specs.State.{Choice, Due, Plain, Refusal, Run, Taker}
+use Rattle.plain_scheduler.specs.State.{ARun, Choice, Due, Plain, Refusal, Run, Taker}
 use Rattle.plain_scheduler.specs.Lists.{any, or, without}
 use Rattle.plain_scheduler.specs.Moves.{chosen, is_due, looks}
 use Rattle.plain_scheduler.specs.Takes as plain_takes
@@ -19,8 +19,10 @@ use Rattle.machine_roads.specs.Alone.{alone, is_resting}
 use Rattle.machine_roads.specs.Searching.{RunLiesAlike, unready}
 use Rattle.machine_roads.specs.Stopped.{taken_by}
 use Rattle.machine_roads.proofs.Bedding.{lies_down_so}
+use Rattle.machine_roads.proofs.Aside.{rests_keeps}
 use Rattle.machine_roads.proofs.Passing.{telling}
 use Rattle.machine_roads.proofs.RunIdle.{IsQuiet, run_finds_none}
+use Rattle.machine_roads.proofs.RunsStay.{runs_aside}
 use Rattle.machine_roads.proofs.Stepping.{Way}
 
 pub none_due : (ds : List Due) → any is_due ds ≡ false → ds ≡ []
@@ -45,8 +47,9 @@ module _ (p : ℕ) (x : RunPoll) (below : List Op) (end : Done) (under : is_rest
   Lies c b =
       (r : Refusal) × (end.next ≡ below) × Follows end.world (plain_takes.take wakes (record c { refusal = r }) taker b)
       × ((plain_takes.take wakes (record c { refusal = r }) taker b).inside ≡ b.inside)
+      × ((plain_takes.take wakes (record c { refusal = r }) taker b).runs ≡ b.runs)
 
-  lies_so : (c : Choice) (w : World) (b : Plain Output Waker) → Follows w b → length b.lying < c.tells → any is_due b.due ≡ false
+  pub lies_so : (c : Choice) (w : World) (b : Plain Output Waker) → Follows w b → length b.lying < c.tells → any is_due b.due ≡ false
       → Way p end w (op.Tick (tick_op.Search (asleep x)) ∷ below) → Lies c b
   lies_so c w b follows room none way =
       let quiet = none_due b.due none in
@@ -60,6 +63,8 @@ module _ (p : ℕ) (x : RunPoll) (below : List Op) (end : Done) (under : is_rest
         g.1.next,
         subst (Follows end.world) (sym same) g.1.follows,
         ap (λ (q : Plain Output Waker). q.inside) same ∙ g.1.inside,
+        ap (λ (q : Plain Output Waker). q.runs) same
+            ∙ rests_keeps (λ (q : Plain Output Waker). q.runs) runs_aside c g.0 (ARun x.run) x.waker b,
       )
 
   -- also behind a future that it took, where it has taken fewer than 200

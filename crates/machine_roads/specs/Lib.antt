@@ -10,5 +10,6 @@ pub mod Losing
 pub mod Dropped
 pub mod Ticking
 pub mod Searching
+pub mod GoingOn
 pub mod Lone
 pub mod Course

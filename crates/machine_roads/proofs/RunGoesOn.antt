@@ -1,4 +1,4 @@
--- User code ends in which the poll of a run stands that took a future, and not its 200th: the run goes on, to the next one or to its answer.
+-- User code ends in which the poll of a run stands that took a future, and not its 200th: the run goes on, to the next or to its answer.
 use Rattle.std.proofs.Common.{◌≡◌, ◌⊎◌, ℕ, ◌≤◌, ◌<◌, nat_lt, Bool, true, false, List, [], ◌∷◌, length, Option, Some, None, slice_get}
 use Rattle.std.proofs.Common.{inl, inr, if◌then◌else◌, refl, sym, ap, subst, ◌∙◌, arith}
 use Rattle.executor_parts.specs.Marks.{first_of}

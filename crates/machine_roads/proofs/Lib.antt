@@ -50,6 +50,11 @@ pub mod Living
 pub mod Having
 pub mod Fitting
 pub mod LoneRuns
+pub mod LoneTold
+pub mod Waits
+pub mod Loose
+pub mod Tableless
+pub mod Beside
 pub mod LoneCalls
 pub mod LoneLosing
 pub mod LoneTicks
@@ -65,6 +70,7 @@ pub mod Sweeping
 pub mod Unborrowed
 pub mod LoneCloses
 pub mod LoneBehind
+pub mod CallsBehind
 pub mod RunsMade
 pub mod Runs
 pub mod RunsGone
@@ -82,6 +88,16 @@ pub mod LoneGoesOn
 pub mod LoneRunPolls
 pub mod Inside
 pub mod Open
+pub mod OneCall
+pub mod CourseBehind
+pub mod InDrop
 pub mod FewTaken
 pub mod FewAfter
 pub mod Course
+pub mod InHand
+pub mod Walked
+pub mod Inmost
+pub mod ActBegins
+pub mod ActEnds
+pub mod Acts
+pub mod OwnPolls

@@ -50,8 +50,9 @@ use Rattle.machine_roads.proofs.Changing.{logs}
 use Rattle.machine_roads.proofs.Fitting.{Ends as EndsBy, Fitting, Over, ended_of}
 use Rattle.machine_roads.proofs.Lists.{clash, cons_is, same_of}
 use Rattle.machine_roads.proofs.LoneCalls.{each}
-use Rattle.machine_roads.proofs.LoneRuns.{InCode, Inside, IsBefore, Rests, Whole, before, begun_so, both_true, ends_so, goes_on_of}
+use Rattle.machine_roads.proofs.LoneRuns.{InCode, Inside, IsBefore, Rests, Whole, before, both_true, ends_so, goes_on_of}
 use Rattle.machine_roads.proofs.LoneRuns.{lone_calls_so, made_is, passed}
+use Rattle.machine_roads.proofs.LoneTold.{begun_so}
 use Rattle.machine_roads.proofs.LoneTicks.{may_begin, there_all}
 use Rattle.machine_roads.proofs.Numbers.{put_view}
 use Rattle.machine_roads.proofs.Runs.{changed, ended_run, over_alike, over_is, same_place}
@@ -157,12 +158,12 @@ module _ (s new : Machine) (reached : Reached s) (p : ℕ) (there : p < length s
         same = refl;
       }
 
-or_ended : (b : Bool) → (b || true) ≡ true
+pub or_ended : (b : Bool) → (b || true) ≡ true
 or_ended true = refl
 or_ended false = refl
 
 -- a run that comes into the list is as it was
-registered_so : (r : ℕ) (w : World) (q : Plain Output Waker) → Follows w q → Follows (registered (run_of w r).stage w r) q
+pub registered_so : (r : ℕ) (w : World) (q : Plain Output Waker) → Follows w q → Follows (registered (run_of w r).stage w r) q
 registered_so r w q follows = by (run_of w r).stage refl
   where
     by : (st : Stage) → (run_of w r).stage ≡ st → Follows (registered st w r) q

@@ -23,10 +23,10 @@ use Rattle.machine_roads.proofs.LoneRuns.{both_true, made_is}
 abbrev pub IsOpen : World → Type 0
 IsOpen w = has is_drop_begun w.trace ≡ false
 
-still : (w v : World) → Hushed is_drop_begun hushed-drop w v → IsOpen w → IsOpen v
+pub still : (w v : World) → Hushed is_drop_begun hushed-drop w v → IsOpen w → IsOpen v
 still w v x open_now = ap (has is_drop_begun) x.is ∙ has-append is_drop_begun w.trace x.more open_now x.none
 
-settled_open : (r : Option Reply) (p : ℕ) (w : World) (os : List Op) → IsOpen w → IsOpen (settled_by r p w os).world
+pub settled_open : (r : Option Reply) (p : ℕ) (w : World) (os : List Op) → IsOpen w → IsOpen (settled_by r p w os).world
 settled_open None p w os open_now = open_now
 settled_open (Some r) p w os open_now = has-append is_drop_begun w.trace (event.CallEnded p r ∷ []) open_now refl
 
@@ -37,7 +37,7 @@ gone_on_open p w os (Some o) d all open_now =
     let todo = below_top os ++ reverse (d o).next in
     settled_open (end_of (top todo)) p (d o).world todo (all o)
 
-step_open : (s : Machine) (p : ℕ) (t : Step) → is_onward_of p t ≡ true → IsOpen s.world → IsOpen (after s t).world
+pub step_open : (s : Machine) (p : ℕ) (t : Step) → is_onward_of p t ≡ true → IsOpen s.world → IsOpen (after s t).world
 step_open s p (Begin q c) onward open_now = absurd cc
 step_open s p (Go q h) onward open_now =
     gone_on_open q s.world (stack s q) (top (stack s q)) (λ o. act q h o s.world)

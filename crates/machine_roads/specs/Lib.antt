@@ -12,4 +12,7 @@ pub mod Ticking
 pub mod Searching
 pub mod GoingOn
 pub mod Lone
+pub mod Behind
 pub mod Course
+pub mod Closing
+pub mod Within

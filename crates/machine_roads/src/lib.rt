@@ -4,5 +4,6 @@
 #![tactic(auto)]
 
 pub mod lone;
+pub mod nested;
 pub mod roads;
 pub mod tasks;

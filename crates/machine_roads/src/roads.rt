@@ -10,6 +10,7 @@ ghost use Rattle.machine_roads.specs.Alike.{EmptyAlike, HandleGoesAlike, HandleP
 ghost use Rattle.machine_roads.specs.Alike.{RunIsMadeAlike};
 ghost use Rattle.machine_roads.specs.Alike.{SpawnsAlike, UsesAlike, WakesAlike, WakesItselfAlike};
 ghost use Rattle.machine_roads.specs.Alike.{WakerGoesAlike};
+ghost use Rattle.machine_roads.specs.Closing.{CallsInDrop, DropGoesOn, LosesInDrop, LossEndsInDrop};
 ghost use Rattle.machine_roads.specs.Dropped.{DropsAlikeInTake, LosesAlikeInTake};
 ghost use Rattle.machine_roads.specs.Forgotten.{ForgetsAlikeInTake, ForgottenGoesAlike};
 ghost use Rattle.machine_roads.specs.GoingOn.{RunDropsAlike, RunForgetsAlike, RunLosesAlike};
@@ -177,4 +178,19 @@ pub fn a_leak_is_a_leak()
 /// And both say alike whether they are empty.
 pub fn both_say_whether_empty()
     ensures { EachAlike EmptyAlike }
+{}
+
+/// In the drop of a future in the executor's drop, too, calls of wakers and handles are calls of the
+/// plain scheduler, which stands in that drop: a call ends, or comes to the drop of an output that goes
+/// with its handle, and ends from the end of that on.
+pub fn calls_in_the_executors_drop_are_calls()
+    ensures calls { CallsInDrop }
+    ensures comes { LosesInDrop }
+    ensures ends { LossEndsInDrop }
+{}
+
+/// From the end of the future's drop on, the executor's drop comes to that of the next one, or to its
+/// end, behind which no task waits for a wake.
+pub fn the_executors_drop_goes_on_alike()
+    ensures { DropGoesOn }
 {}

@@ -1,0 +1,197 @@
+-- From a new machine on, calls that are made one inside another are calls of the plain scheduler.
+use Rattle.std.proofs.Common.{◌≡◌, ℕ, ◌<◌, ◌==◌, ◌++◌, not, nat_lt, Bool, true, false, List, [], ◌∷◌, length}
+use Rattle.std.proofs.Common.{None, Ok, refl, sym, ap, subst, ◌∙◌}
+use Rattle.std.specs.Prelude.{reverse}
+use Rattle.executor_model.specs.declared.call.Call.{Call}
+use Rattle.executor_model.specs.declared.call.Call.TheVariants as call
+use Rattle.executor_model.specs.declared.event.Event.TheVariants as event
+use Rattle.executor_model.specs.declared.op.Op.{Op}
+use Rattle.executor_model.specs.declared.op.Waker.{Waker}
+use Rattle.executor_model.specs.declared.step.Hint.{Hint}
+use Rattle.executor_model.specs.declared.step.Step.{Step}
+use Rattle.executor_model.specs.declared.step.Step.TheVariants.{Answer, Begin, Go}
+use Rattle.executor_model.specs.declared.step.StepError.TheVariants.{NoSuch, Waits, WrongAnswer}
+use Rattle.executor_model.specs.Executions.{run_all}
+use Rattle.executor_model.specs.Steps.{Machine, after, begun, end_of, go_refusal, is_locked_out, is_static_kind, mine, part_refusal}
+use Rattle.executor_model.specs.Steps.{party_of, refusal, stack, start, top, unless, waits}
+use Rattle.executor_model.specs.Trace.{is_drop_begun}
+use Rattle.executor_model.specs.World.{Done, done, log}
+use Rattle.executor_model.proofs.Quiet.Resting.{rests}
+use Rattle.executor_model.proofs.Steps.Hushed.{HushesCall, hushed-called}
+use Rattle.executor_model.proofs.Steps.Reached.{Reached, deep-here, reached-more, run-first}
+use Rattle.executor_model.proofs.Steps.Stepping.{refusal-there}
+use Rattle.executor_model.proofs.Table.LeakStays.{hushed-drop}
+use Rattle.executor_laws.proofs.Termination.LoneEnds.{OthersRest, still-rest}
+use Rattle.plain_scheduler.specs.State.{Plain}
+use Rattle.plain_scheduler.specs.Calls.{new as new_plain}
+use Rattle.machine_roads.specs.View.{Output}
+use Rattle.machine_roads.specs.Road.{Follows}
+use Rattle.machine_roads.specs.Alone.{is_outside, is_resting}
+use Rattle.machine_roads.specs.Dropped.{answered, loses}
+use Rattle.machine_roads.specs.Within.{Act, ActAlike, ActsBy, AreActs, ListsActAlike, Nested, StandsAlike, alike, calls_outside}
+use Rattle.machine_roads.specs.Within.{dropping, forgetting, goes_on, is_on_way, is_own_pending, losing, may_stand_in, nowhere, owes, rests_after, standing}
+use Rattle.machine_roads.proofs.ActBegins.{one_begins}
+use Rattle.machine_roads.proofs.ActEnds.{code_ends}
+use Rattle.machine_roads.proofs.Calling.{begin_alike}
+use Rattle.machine_roads.proofs.Inmost.{rests_in}
+use Rattle.machine_roads.proofs.Lists.{apart_of, clash, equal, same_of}
+use Rattle.machine_roads.proofs.LoneRuns.{both_true, made_is, not_true, passed, tells, within}
+use Rattle.machine_roads.proofs.LoneTicks.{may_begin}
+use Rattle.machine_roads.proofs.Open.{IsOpen, settled_open, step_open, still}
+use Rattle.machine_roads.proofs.Tying.{top_of}
+use Rattle.machine_roads.proofs.Walked.{answer_leads, begun_leads, no_go}
+
+-- the executor's drop hasn't begun, and it doesn't in an act
+
+no_drop : (p : ℕ) (c : Call) → may_stand_in c ≡ true → HushesCall is_drop_begun hushed-drop p c
+no_drop p call.DropExecutor on = absurd cc
+no_drop p c on = tt
+
+begins_open : (s : Machine) (p : ℕ) (c : Call) → may_stand_in c ≡ true → IsOpen s.world → IsOpen (after s (Begin p c)).world
+begins_open s p c on open_now =
+    let d : Done = begun p (log s.world (event.CallBegun p c)) (mine (top (stack s p))) c in
+    let todo = stack s p ++ reverse d.next in
+    settled_open (end_of (top todo)) p d.world todo
+    (still s.world d.world (hushed-called is_drop_begun hushed-drop p s.world (mine (top (stack s p))) c (no_drop p c on)) open_now)
+
+own_test : (p : ℕ) → (p == p) ≡ true
+own_test p = equal p p refl
+
+goes_open : (ts : List Step) (s new : Machine) (p : ℕ) → rests_after p ts s ≡ true → run_all ts s ≡ Ok new → IsOpen s.world
+    → IsOpen new.world
+goes_open [] s new p rests made open_now = subst (λ (m : Machine). IsOpen m.world) (made_is s new made) open_now
+goes_open (t ∷ ts) s new p rests made open_now =
+    let two = both_true (goes_on p s t) (rests_after p ts (after s t)) rests in
+    goes_open ts (after s t) new p two.1 (run-first t ts s new made).1 (by t two.0)
+  where
+    by : (t : Step) → goes_on p s t ≡ true → IsOpen (after s t).world
+    by (Begin q c) on = absurd cc
+    by (Go q h) on = step_open s p (Go q h) on open_now
+    by (Answer q e) on = step_open s p (Answer q e) (both_true (p == q) (calls_outside (top (stack s p))) on).0 open_now
+
+act_open : (s new : Machine) (p : ℕ) (t : Step) (ts : List Step) → is_on_way (reverse (stack s p)) t ≡ true → party_of t ≡ p
+    → rests_after p ts (after s t) ≡ true → run_all ts (after s t) ≡ Ok new → IsOpen s.world → IsOpen new.world
+act_open s new p (Begin q c) ts on its rests made open_now =
+    goes_open ts (after s (Begin q c)) new p rests made
+    (begins_open s q c (both_true (may_stand_in c) (not (owes (reverse (stack s p)))) on).0 open_now)
+act_open s new p (Go q h) ts on its rests made open_now =
+    goes_open ts (after s (Go q h)) new p rests made (step_open s q (Go q h) (own_test q) open_now)
+act_open s new p (Answer q e) ts on its rests made open_now =
+    goes_open ts (after s (Answer q e)) new p rests made (step_open s q (Answer q e) (own_test q) open_now)
+
+-- and the other parties do nothing
+
+goes_rest : (ts : List Step) (s new : Machine) (p : ℕ) → rests_after p ts s ≡ true → run_all ts s ≡ Ok new → OthersRest p s
+    → OthersRest p new
+goes_rest [] s new p rests made others = subst (λ (m : Machine). OthersRest p m) (made_is s new made) others
+goes_rest (t ∷ ts) s new p rests made others =
+    let two = both_true (goes_on p s t) (rests_after p ts (after s t)) rests in
+    goes_rest ts (after s t) new p two.1 (run-first t ts s new made).1 (still-rest p s t (by t two.0) others)
+  where
+    by : (t : Step) → goes_on p s t ≡ true → party_of t ≡ p
+    by (Begin q c) on = absurd cc
+    by (Go q h) on = sym (same_of p q on)
+    by (Answer q e) on = sym (same_of p q (both_true (p == q) (calls_outside (top (stack s p))) on).0)
+
+-- where both stand alike the party rests
+rests_alike : (e : Done) (q : Plain Output Waker) → StandsAlike e q → is_resting e.next ≡ true
+rests_alike e q (alike nested follows) = rests_in e.next q.inside nested
+rests_alike e q (losing f below b nested stops) = ap (λ os. is_resting os) stops.left
+rests_alike e q (dropping taker final below f b it nested (answered next inside follows)) =
+    ap (λ os. is_resting os) next ∙ rests_in below b.inside nested
+rests_alike e q (dropping taker final below f b it nested (loses awaiter next inside ending)) = ap (λ os. is_resting os) next
+rests_alike e q (forgetting taker final below f b it nested stops) = ap (λ os. is_resting os) stops.left
+
+-- who rests does nothing of its own
+no_go_resting : (s : Machine) (p : ℕ) → p < length s.parties → (h : Hint) (os : List Op) → reverse (stack s p) ≡ os
+    → is_resting os ≡ true → refusal s (Go p h) ≡ None → ⊥
+no_go_resting s p there h [] is resting may = no_go s p there h is may
+no_go_resting s p there h (o ∷ os) is resting may =
+    let its_top = (top_of (stack s p) o os is).0 in
+    let goes : unless (not (waits o)) WrongAnswer (unless (not (is_locked_out s.world.lock o)) Waits None) ≡ None =
+    sym (ap (go_refusal s.world) its_top) ∙ (sym (refusal-there s (Go p h) there) ∙ may) in
+    clash
+    (not_true (waits o) (passed (not (waits o)) WrongAnswer (unless (not (is_locked_out s.world.lock o)) Waits None) goes))
+    (both_true (waits o) (not (is_outside o)) resting).0
+
+module _ (s : Machine) (reached : Reached s) (p : ℕ) (q : Plain Output Waker) (so : StandsAlike (standing s p) q) (new : Machine)
+    (later : new.world.gone ≡ false) (open_still : s.world.gone ≡ false) (there : p < length s.parties) where
+  abbrev Comes : Step → Type 0
+  Comes t = (r : Plain Output Waker) × ActsBy s p t q r × StandsAlike (standing new p) r
+
+  call_begins : (c : Call) (ts : List Step) → may_stand_in c ≡ true → owes (reverse (stack s p)) ≡ false
+      → rests_after p ts (after s (Begin p c)) ≡ true → run_all (Begin p c ∷ ts) s ≡ Ok new → Comes (Begin p c)
+  call_begins c ts on even rests made = by so
+    where
+      begins : Nested (reverse (stack s p)) q.inside → Follows s.world q → Comes (Begin p c)
+      begins nested follows =
+          begun_leads p (λ e. (r : Plain Output Waker) × ActsBy s p (Begin p c) q r × StandsAlike e r) new later c ts s reached there
+          (one_begins s reached p q follows nested c on (may_begin s p c (run-first (Begin p c) ts s new made).0)) rests made
+
+      by : StandsAlike (standing s p) q → Comes (Begin p c)
+      by (alike nested follows) = begins nested follows
+      by (losing f below b nested stops) = absurd (clash even (ap (λ os. owes os) stops.left))
+      by (dropping taker final below f b it nested (answered next inside follows)) =
+          begins (subst (λ os. Nested os q.inside) (sym next) (subst (λ codes. Nested below codes) (sym inside) nested)) follows
+      by (dropping taker final below f b it nested (loses awaiter next inside ending)) = absurd (clash even (ap (λ os. owes os) next))
+      by (forgetting taker final below f b it nested stops) = absurd (clash even (ap (λ os. owes os) stops.left))
+
+  one_act : (t : Step) (ts : List Step) → party_of t ≡ p → is_on_way (reverse (stack s p)) t ≡ true
+      → rests_after p ts (after s t) ≡ true → run_all (t ∷ ts) s ≡ Ok new → Comes t
+  one_act (Begin r c) ts its on rests made =
+      let two = both_true (may_stand_in c) (not (owes (reverse (stack s p)))) on in
+      subst (λ n. Comes (Begin n c)) (sym its)
+      (call_begins c ts two.0 (not_true (owes (reverse (stack s p))) two.1)
+      (subst (λ n. rests_after p ts (after s (Begin n c)) ≡ true) its rests)
+      (subst (λ n. run_all (Begin n c ∷ ts) s ≡ Ok new) its made))
+  one_act (Go r h) ts its on rests made =
+      let may = subst (λ n. refusal s (Go n h) ≡ None) its (run-first (Go r h) ts s new made).0 in
+      absurd (no_go_resting s p there h (reverse (stack s p)) refl (rests_alike (standing s p) q so) may)
+  one_act (Answer r u) ts its on rests made =
+      let whole = subst (λ n. run_all (Answer n u ∷ ts) s ≡ Ok new) its made in
+      let e =
+      code_ends s reached p there open_still q so u (not_true (is_own_pending (reverse (stack s p)) u) on)
+      (run-first (Answer p u) ts s new whole).0 in
+      subst (λ n. Comes (Answer n u)) (sym its)
+      (answer_leads p (λ e. (r : Plain Output Waker) × ActsBy s p (Answer p u) q r × StandsAlike e r) new later u e.first e.rest ts s
+      reached there e.is e.leads (subst (λ n. rests_after p ts (after s (Answer n u)) ≡ true) its rests) whole)
+
+-- a party that takes over stands where the one before did, which does nothing
+taken_over : (s : Machine) (p r : ℕ) → OthersRest p s → OthersRest r s → (b : Bool) → (p == r) ≡ b → standing s p ≡ standing s r
+taken_over s p r ps rs true same = ap (λ n. standing s n) (same_of p r same)
+taken_over s p r ps rs false other =
+    let apart = apart_of p r other in
+    ap (λ xs. done s.world (reverse xs)) (rs p apart ∙ sym (ps r (λ is. apart (sym is))))
+
+lists : (acts : List Act) (s : Machine) → Reached s → (p : ℕ) → OthersRest p s → IsOpen s.world → (q : Plain Output Waker)
+    → StandsAlike (standing s p) q → AreActs s acts → ActAlike s q acts
+lists [] s reached p others open_now q so are = tt
+lists (a ∷ acts) s reached p others open_now q so are =
+    let it = are.0 in
+    let k = run-first a.first a.steps s a.left it.made in
+    let next = reached-more (a.first ∷ a.steps) s a.left reached it.made in
+    let later = act_open s a.left a.party a.first a.steps are.1 it.its it.rests k.1 open_now in
+    let there : a.party < length s.parties =
+    subst (λ n. n < length s.parties) it.its
+    (within (party_of a.first) (length s.parties)
+    (passed (nat_lt (party_of a.first) (length s.parties)) NoSuch
+    (part_refusal s.world s.parties (stack s (party_of a.first)) a.first) k.0)) in
+    let now = subst (λ e. StandsAlike e q) (taken_over s p a.party others it.others (p == a.party) refl) so in
+    let one =
+    one_act s reached a.party q now a.left (sym (tells a.left next) ∙ later) (sym (tells s reached) ∙ open_now) there a.first a.steps
+    it.its are.1 it.rests it.made in (
+      one.0,
+      one.1,
+      one.2,
+      lists acts a.left next a.party (goes_rest a.steps (after s a.first) a.left a.party it.rests k.1
+          (still-rest a.party s a.first it.its it.others)) later one.0 one.2 are.2,
+    )
+
+pub acts_alike : ListsActAlike
+acts_alike limit kind parties acts are =
+    let s = start limit kind parties in
+    let reached : Reached s = record { limit = limit; kind = kind; parties = parties; steps = []; is = refl } in
+    let none : (n : ℕ) → stack s n ≡ [] = rests s (deep-here s reached) (λ party. refl) in
+    let q : Plain Output Waker = new_plain limit (is_static_kind kind) in
+    lists acts s reached 0 (λ n apart. none n) refl q
+    (subst (λ xs. StandsAlike (done s.world (reverse xs)) q) (sym (none 0)) (alike nowhere (begin_alike limit kind parties))) are

@@ -1,0 +1,171 @@
+-- Calls one inside another. A party begins a call, also where it stands in user code, or user code of its ends; then it goes on until
+-- nothing is left to do or it stands in user code once more. Each of these is a call of the plain scheduler, or the end of the code that
+-- is innermost there.
+use Rattle.std.specs.Prelude.{◌≡◌, ℕ, ◌==◌, Bool, true, false, ◌&&◌, not, List, [], ◌∷◌, reverse, Option, Some, None, Ok}
+use Rattle.executor_parts.specs.declared.mark.Mark.{Mark}
+use Rattle.executor_model.specs.declared.call.By.{By}
+use Rattle.executor_model.specs.declared.call.Call.{Call}
+use Rattle.executor_model.specs.declared.call.Call.TheVariants as call
+use Rattle.executor_model.specs.declared.call.Reply.TheVariants as reply
+use Rattle.executor_model.specs.declared.event.Answer.TheVariants.{Pending, Ready}
+use Rattle.executor_model.specs.declared.kind.Kind.{Kind}
+use Rattle.executor_model.specs.declared.op.HandleOp.TheVariants as handle_op
+use Rattle.executor_model.specs.declared.op.ListOp.TheVariants as list_op
+use Rattle.executor_model.specs.declared.op.Op.{Op}
+use Rattle.executor_model.specs.declared.op.Op.TheVariants as op
+use Rattle.executor_model.specs.declared.op.RunPoll.{RunPoll}
+use Rattle.executor_model.specs.declared.op.Section.TheVariants as section
+use Rattle.executor_model.specs.declared.op.TableOp.TheVariants as table_op
+use Rattle.executor_model.specs.declared.op.UserOp.TheVariants as user_op
+use Rattle.executor_model.specs.declared.op.Waker.{Waker}
+use Rattle.executor_model.specs.declared.step.Step.{Step}
+use Rattle.executor_model.specs.declared.step.Step.TheVariants.{Answer, Begin, Go}
+use Rattle.executor_model.specs.declared.step.UserEnd.{UserEnd}
+use Rattle.executor_model.specs.declared.step.UserEnd.TheVariants.{Done as IsDone, Polled}
+use Rattle.executor_model.specs.Executions.{run_all}
+use Rattle.executor_model.specs.Steps.{Machine, after, future_of, is_static_kind, kept, mine, party_of, stack, start, top, waker_of}
+use Rattle.executor_model.specs.World.{Done, World, done}
+use Rattle.plain_scheduler.specs.State.{Choice, Code, DropOwn, Plain, PollOwn, Ready as IsReady, Taker}
+use Rattle.plain_scheduler.specs.Calls as plain
+use Rattle.plain_scheduler.specs.Calls.{does, new}
+use Rattle.machine_roads.specs.View.{Output, wakes}
+use Rattle.machine_roads.specs.Road.{Follows}
+use Rattle.machine_roads.specs.Alone.{is_outside, is_resting}
+use Rattle.machine_roads.specs.Course.{IsChosen}
+use Rattle.machine_roads.specs.Dropped.{Drops}
+use Rattle.machine_roads.specs.Forgotten.{StopsForgetting}
+use Rattle.machine_roads.specs.Losing.{StopsLosing}
+use Rattle.machine_roads.specs.Stopped.{Finally, Stopped}
+
+-- a call that begins or user code that ends, the steps behind that, and the machine that they leave
+pub record Act : Type 0 where
+  pub party : ℕ
+  pub first : Step
+  pub steps : List Step
+  pub left : Machine
+
+abbrev pub calls_outside : Option Op → Bool
+calls_outside None = false
+calls_outside (Some o) = is_outside o
+
+-- a step by which the party goes on: it does what it has to do, or the call of an outside waker ends
+abbrev pub goes_on : ℕ → Machine → Step → Bool
+goes_on p s (Begin q c) = false
+goes_on p s (Go q h) = p == q
+goes_on p s (Answer q e) = (p == q) && calls_outside (top (stack s p))
+
+-- behind such steps it rests: nothing is left to do, or user code has to answer
+abbrev pub rests_after : ℕ → List Step → Machine → Bool
+rests_after p [] s = is_resting (reverse (stack s p))
+rests_after p (t ∷ ts) s = goes_on p s t && rests_after p ts (after s t)
+
+-- it acts so, and no other party has begun anything
+pub record IsAct (s : Machine) (a : Act) : Type 0 where
+  pub others : (q : ℕ) → ¬ (q ≡ a.party) → stack s q ≡ []
+  pub its : party_of a.first ≡ a.party
+  pub made : run_all (a.first ∷ a.steps) s ≡ Ok a.left
+  pub rests : rests_after a.party a.steps (after s a.first) ≡ true
+
+-- where the party stands
+abbrev pub standing : Machine → ℕ → Done
+standing s p = done s.world (reverse (stack s p))
+
+-- in the drop of an output, and in that of a future that nobody could wake any more, the call still owes something
+abbrev pub owes : List Op → Bool
+owes (op.User (user_op.DropOutput f) ∷ os) = true
+owes (op.User (user_op.Drop f) ∷ op.Table (table_op.LeaveTable g) ∷ op.Handle (handle_op.LetGo h) ∷ os) = true
+owes _ = false
+
+-- but drops of runs, and the executor's drop
+abbrev pub may_stand_in : Call → Bool
+may_stand_in (call.DropRun r) = false
+may_stand_in call.DropExecutor = false
+may_stand_in _ = true
+
+-- a run's own future gives no output
+abbrev pub is_own_pending : List Op → UserEnd → Bool
+is_own_pending (op.User (user_op.PollOwn x) ∷ os) (Polled Pending) = true
+is_own_pending _ u = false
+
+-- no call begins where one owes something, and no run's own future gives no output
+abbrev pub is_on_way : List Op → Step → Bool
+is_on_way os (Begin p c) = may_stand_in c && not (owes os)
+is_on_way os (Go p h) = true
+is_on_way os (Answer p u) = not (is_own_pending os u)
+
+-- one act after the other
+abbrev pub AreActs : Machine → List Act → Type 0
+AreActs s [] = Unit {0}
+AreActs s (a ∷ acts) = IsAct s a × (is_on_way (reverse (stack s a.party)) a.first ≡ true) × AreActs a.left acts
+
+-- which call of the plain scheduler begins, in a poll by this waker if in one: a kept waker is that of its future
+pub data IsCallIn (here : Option Waker) (w : World) : Call → plain.Call Output Waker → Type 0 where
+  spawn : (m : Mark) → IsCallIn here w (call.Spawn m) (plain.Spawn m)
+  try_tick : IsCallIn here w call.TryTick plain.TryTick
+  is_empty : IsCallIn here w call.IsEmpty plain.IsEmpty
+  use_waker : (k f : ℕ) → kept w k ≡ Some f → IsCallIn here w (call.Wake k) (plain.Use f)
+  wake : (k f : ℕ) → kept w k ≡ Some f → IsCallIn here w (call.WakeByRef k) (plain.Wake f)
+  copy : (k f : ℕ) → kept w k ≡ Some f → IsCallIn here w (call.Copy k) (plain.Copy f)
+  release : (k f : ℕ) → kept w k ≡ Some f → IsCallIn here w (call.DropWaker k) (plain.Release f)
+  keep : (f : ℕ) → future_of here ≡ Some f → IsCallIn here w call.Keep (plain.Copy f)
+  wake_self : (f : ℕ) → future_of here ≡ Some f → IsCallIn here w call.WakeSelf (plain.Wake f)
+  poll_handle : (f : ℕ) (b : By) → IsCallIn here w (call.PollHandle f b) (plain.PollHandle f (waker_of here b))
+  cancel : (f : ℕ) → IsCallIn here w (call.Cancel f) (plain.Cancel f)
+  detach : (f : ℕ) → IsCallIn here w (call.Detach f) (plain.Detach f)
+  drop_handle : (f : ℕ) → IsCallIn here w (call.DropHandle f) (plain.DropHandle f)
+  new_tick : IsCallIn here w call.NewTick plain.NewTick
+  poll_tick : (t : ℕ) (b : By) → IsCallIn here w (call.PollTick t b) (plain.PollTick t (waker_of here b))
+  drop_tick : (t : ℕ) → IsCallIn here w (call.DropTick t) (plain.DropTick t)
+  new_run : IsCallIn here w call.NewRun plain.NewRun
+  poll_run : (r : ℕ) (b : By) → IsCallIn here w (call.PollRun r b) (plain.PollRun r (waker_of here b))
+  leak : IsCallIn here w call.Leak plain.Leak
+
+-- what an act is that begins so: a call, or the end of the innermost code
+pub data IsMade (s : Machine) (p : ℕ) : Step → plain.Call Output Waker → Type 0 where
+  begins : (c : Call) (x : plain.Call Output Waker) → IsCallIn (mine (top (stack s p))) s.world c x → IsMade s p (Begin p c) x
+  pends : IsMade s p (Answer p (Polled Pending)) plain.Pends
+  gives : IsMade s p (Answer p (Polled Ready)) (plain.EndsWith tt)
+  ends : IsMade s p (Answer p IsDone) plain.Ends
+
+-- the plain scheduler makes that by what is chosen so
+pub record ActsBy (s : Machine) (p : ℕ) (t : Step) (q r : Plain Output Waker) : Type 0 where
+  pub choice : Choice
+  pub made : plain.Call Output Waker
+  pub chosen : IsChosen s.world q choice
+  pub is : IsMade s p t made
+  pub so : does wakes choice made q ≡ r
+
+-- what a party has still to do in tries, polls of ticks and of runs, one inside another, each in the poll or the drop of the future that it
+-- took, or of the run's own, and the code in which the plain scheduler's calls stand
+pub data Nested : List Op → List (Code Output Waker) → Type 0 where
+  nowhere : Nested [] []
+  takes : (taker : Taker Waker) (final : Op) (below os : List Op) (inside codes : List (Code Output Waker))
+      → ((q : Plain Output Waker) → Finally q taker final) → Nested below inside → Stopped taker final below inside os codes
+      → Nested os codes
+  polls_own : (x : RunPoll) (below : List Op) (inside : List (Code Output Waker)) → Nested below inside
+      → Nested (op.User (user_op.PollOwn x) ∷ below) (PollOwn x.run x.waker ∷ inside)
+  drops_own : (r : ℕ) (below : List Op) (inside : List (Code Output Waker)) → Nested below inside
+      → Nested (op.User (user_op.DropOwn r) ∷ op.List (list_op.LockWrite (section.Unregister r reply.Ready)) ∷ below)
+      (DropOwn r IsReady ∷ inside)
+
+-- both stand alike, or, in such a drop, alike but for what the call still owes
+pub data StandsAlike (e : Done) (q : Plain Output Waker) : Type 0 where
+  alike : Nested e.next q.inside → Follows e.world q → StandsAlike e q
+  losing : (f : ℕ) (below : List Op) (b : Plain Output Waker) → Nested below b.inside → StopsLosing f below b e q → StandsAlike e q
+  dropping : (taker : Taker Waker) (final : Op) (below : List Op) (f : ℕ) (b : Plain Output Waker)
+      → ((q : Plain Output Waker) → Finally q taker final) → Nested below b.inside → Drops taker final below f b e q → StandsAlike e q
+  forgetting : (taker : Taker Waker) (final : Op) (below : List Op) (f : ℕ) (b : Plain Output Waker)
+      → ((q : Plain Output Waker) → Finally q taker final) → Nested below b.inside → StopsForgetting taker final below f b e q
+      → StandsAlike e q
+
+-- at each moment at which a party rests
+abbrev pub ActAlike : Machine → Plain Output Waker → List Act → Type 0
+ActAlike s q [] = Unit {0}
+ActAlike s q (a ∷ acts) =
+    (r : Plain Output Waker) × ActsBy s a.party a.first q r × StandsAlike (standing a.left a.party) r × ActAlike a.left r acts
+
+-- so it is from a new machine on
+abbrev pub ListsActAlike : Type 0
+ListsActAlike =
+    (limit : ℕ) (kind : Kind) (parties : ℕ) (acts : List Act) → AreActs (start limit kind parties) acts
+    → ActAlike (start limit kind parties) (new limit (is_static_kind kind)) acts

@@ -48,7 +48,6 @@ pub mod Tying
 pub mod WhoLeaves
 pub mod Living
 pub mod Having
-pub mod Fitting
 pub mod LoneRuns
 pub mod LoneTold
 pub mod Waits

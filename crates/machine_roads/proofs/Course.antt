@@ -1,7 +1,6 @@
 -- Lone calls of the machine, one after the other, are calls of the plain scheduler.
 use Rattle.std.proofs.Common.{◌≡◌, ℕ, Bool, true, false, List, [], ◌∷◌, length, None}
 use Rattle.std.proofs.Common.{refl, sym, ◌∙◌}
-use Rattle.executor_model.specs.declared.call.By.{By}
 use Rattle.executor_model.specs.declared.call.Call.{Call}
 use Rattle.executor_model.specs.declared.call.Call.TheVariants as call
 use Rattle.executor_model.specs.declared.op.Waker.{Waker}
@@ -14,7 +13,7 @@ use Rattle.executor_model.proofs.Steps.Reached.{Reached, reached-more}
 use Rattle.executor_laws.specs.LoneEnds.{IsLoneCall}
 use Rattle.plain_scheduler.specs.State.{Choice, Granted, Plain, Refusal}
 use Rattle.plain_scheduler.specs.Calls as plain_calls
-use Rattle.plain_scheduler.specs.Calls.{does, is_granted, new as new_plain}
+use Rattle.plain_scheduler.specs.Calls.{does, new as new_plain}
 use Rattle.machine_roads.specs.View.{Output, wakes}
 use Rattle.machine_roads.specs.Road.{Follows}
 use Rattle.machine_roads.specs.Alike.{begins, refused_first, upon}
@@ -23,9 +22,8 @@ use Rattle.machine_roads.specs.Course.{AreLone, GoAlike, GoesBy, IsCall, ListsGo
 use Rattle.machine_roads.specs.Course.{drop_executor, drop_run, drop_tick, is_empty, leak, new_run}
 use Rattle.machine_roads.specs.Course.{new_tick, poll_run, poll_tick, spawn, try_tick}
 use Rattle.machine_roads.proofs.Calling.{begin_alike, empty_alike, spawns}
-use Rattle.machine_roads.proofs.FewAfter.{few_after, few_polled}
+use Rattle.machine_roads.proofs.FewAfter.{few_after}
 use Rattle.machine_roads.proofs.FewTaken.{AllFew}
-use Rattle.machine_roads.proofs.Fitting.{ended_of}
 use Rattle.machine_roads.proofs.Inside.{drop_inside}
 use Rattle.machine_roads.proofs.Inside.{run_inside, spawn_inside, tick_inside}
 use Rattle.machine_roads.proofs.Leaking.{leak_inside}
@@ -62,26 +60,6 @@ module _ (s : Machine) (reached : Reached s) (q : Plain Output Waker) (quiet : I
   plainly c x inside is leads lone =
       quick s q new c x Granted is inside
       (lone_calls_so s reached p c steps new (λ w. Follows w (does wakes (choice Granted) x q)) quiet later leads lone)
-
-  -- a poll of a run, behind which each run has taken fewer than 200 again
-  run_is_polled : (r : ℕ) (b : By) → IsLoneCall p (call.PollRun r b) steps s new
-      → (z : Plain Output Waker) × GoesBy s.world (call.PollRun r b) q z × Follows new.world z × AllFew z.runs
-  run_is_polled r b lone =
-      let a = waker_of None b in
-      let made = does wakes (choice Granted) (plain_calls.PollRun r a) q in
-      let e = run_polled s reached q quiet follows p r (choice Granted) b steps (few r) (many q) new later lone in (
-        e.0,
-        record {
-          choice = choice Granted;
-          made = plain_calls.PollRun r a;
-          chosen = chosen s q Granted;
-          is = poll_run r b;
-          ended = ended_of made e.0 e.1;
-          inside = e.2;
-        },
-        e.3,
-        few_polled (choice Granted) r a q e.0 nowhere few e.1 (e.2 ∙ nowhere),
-      )
 
   -- each call
   one_call : (c : Call) → is_drop c ≡ false → IsLoneCall p c steps s new → Goes s q new c
@@ -135,7 +113,19 @@ module _ (s : Machine) (reached : Reached s) (q : Plain Output Waker) (quiet : I
       let e = run_made_so s reached q quiet follows p (choice Granted) steps new later lone in
       quick s q new call.NewRun plain_calls.NewRun e.0 new_run (run_inside (choice e.0) q) e.1
   one_call (call.PollRun r b) on_road lone =
-      let e = run_is_polled r b lone in (e.0, e.1, e.2)
+      let a = waker_of None b in
+      let e = run_polled s reached q quiet follows p r (choice Granted) b steps (few r) (many q) new later lone in (
+        e.0,
+        record {
+          choice = choice Granted;
+          made = plain_calls.PollRun r a;
+          chosen = chosen s q Granted;
+          is = poll_run r b;
+          ended = e.1;
+          inside = e.2;
+        },
+        e.3,
+      )
   one_call (call.DropRun r) on_road lone =
       let e = run_goes_so s reached q quiet follows p r (choice Granted) steps (many q) new later lone in (
         e.0,
@@ -161,9 +151,8 @@ module _ (s : Machine) (reached : Reached s) (q : Plain Output Waker) (quiet : I
   -- and each run has taken fewer than 200 behind it
   one_more : (c : Call) → is_drop c ≡ false → IsLoneCall p c steps s new
       → (z : Plain Output Waker) × GoesBy s.world c q z × Follows new.world z × AllFew z.runs
-  one_more (call.PollRun r b) on_road lone = run_is_polled r b lone
   one_more c on_road lone =
-      let e = one_call c on_road lone in (e.0, e.1, e.2, few_after s.world c q e.0 refl on_road e.1 nowhere few)
+      let e = one_call c on_road lone in (e.0, e.1, e.2, few_after s.world c q e.0 on_road e.1 nowhere few)
 
 -- the executor's drop, behind which no task waits
 one_drop : (s : Machine) → Reached s → (q : Plain Output Waker) → IsQuiet s.world.trace → Follows s.world q → q.inside ≡ [] → (p : ℕ)

@@ -1,6 +1,6 @@
 -- Between two calls on the plain scheduler each run has taken fewer than 200 since it last let others go first: behind its 200th it does.
-use Rattle.std.proofs.Common.{◌≡◌, ◌⊎◌, ℕ, zero, suc, ◌==◌, nat_lt, Bool, true, false, List, [], ◌∷◌, ◌++◌, Option, Some, None}
-use Rattle.std.proofs.Common.{inl, inr, slice_get, slice_set, if◌then◌else◌, refl, sym, ap, subst, ◌∙◌, arith}
+use Rattle.std.proofs.Common.{◌≡◌, ℕ, zero, suc, ◌==◌, nat_lt, Bool, true, false, List, [], ◌∷◌, ◌++◌, Option, Some, None}
+use Rattle.std.proofs.Common.{slice_get, slice_set, if◌then◌else◌, refl, sym, ap, subst, ◌∙◌, arith}
 use Rattle.std.specs.Prelude.{count_by, find}
 use Rattle.std.proofs.lemmas.Bool.Decides.{nat_tests}
 use Rattle.task_moves.specs.AbstractTask as abstract
@@ -19,7 +19,6 @@ use Rattle.machine_roads.specs.View.{Output, wakes}
 use Rattle.machine_roads.specs.Lone.{is_end}
 use Rattle.machine_roads.proofs.Aside.{IsAside, becomes_keeps, called_with, goes_keeps, leaves_keeps, put_keeps, rests_keeps}
 use Rattle.machine_roads.proofs.Aside.{tell_keeps, up_keeps}
-use Rattle.machine_roads.proofs.Fitting.{fits, fits_in}
 use Rattle.machine_roads.proofs.Lists.{clash, same_of}
 use Rattle.machine_roads.proofs.Runs.{changed, changed_rest, ended_run, one_more, runs_is}
 
@@ -33,33 +32,28 @@ AllFew rs = (r : ℕ) → or (slice_get rs r) (λ run. nat_lt run.taken 200) tru
 abbrev FewBut : List Running → ℕ → Type 0
 FewBut rs k = (r : ℕ) → (r == k) ≡ false → few rs r ≡ true
 
--- a run may stand in the code of what it took, where it is polled: it may have taken its 200th then
-abbrev pub ByRun : Bool → ℕ → List Running → Type 0
-ByRun true r rs = FewBut rs r
-ByRun false r rs = ⊥
+-- who stands in the code of what it took may have taken its 200th
+abbrev ByTaker : Taker Waker → List Running → Type 0
+ByTaker (Run r a) rs = FewBut rs r
+ByTaker (Tick t a) rs = AllFew rs
+ByTaker Try rs = AllFew rs
 
-abbrev pub ByTaker : Bool → Taker Waker → List Running → Type 0
-ByTaker b (Run r a) rs = ByRun b r rs
-ByTaker b (Tick t a) rs = AllFew rs
-ByTaker b Try rs = AllFew rs
-
-abbrev pub InOwn : Bool → List Running → Type 0
-InOwn true rs = AllFew rs
-InOwn false rs = ⊥
-
-abbrev pub InCode : Bool → Code Output Waker → List Running → Type 0
-InCode b (Poll f by) rs = ByTaker b by rs
-InCode b (Drop f why by) rs = ByTaker b by rs
-InCode b (Lose awaiter (Some by)) rs = ByTaker b by rs
-InCode b (Lose awaiter None) rs = AllFew rs
-InCode b (PollOwn r a) rs = InOwn b rs
-InCode b (DropOwn r x) rs = AllFew rs
-InCode b (Close fs all) rs = ⊥
+abbrev InCode : Code Output Waker → List Running → Type 0
+InCode (Poll f by) rs = ByTaker by rs
+InCode (Drop f why by) rs = ByTaker by rs
+InCode (Lose awaiter (Some by)) rs = ByTaker by rs
+InCode (Lose awaiter None) rs = AllFew rs
+InCode (PollOwn r a) rs = AllFew rs
+InCode (DropOwn r x) rs = AllFew rs
+InCode (Close fs all) rs = ⊥
 
 -- in no code, or in one
-abbrev pub InCodes : Bool → List (Code Output Waker) → List Running → Type 0
-InCodes b [] rs = AllFew rs
-InCodes b (code ∷ codes) rs = InCode b code rs × (codes ≡ [])
+abbrev pub InCodes : List (Code Output Waker) → List Running → Type 0
+InCodes [] rs = AllFew rs
+InCodes (code ∷ codes) rs = InCode code rs × (codes ≡ [])
+
+abbrev pub Counts : Plain Output Waker → Type 0
+Counts q = InCodes q.inside q.runs
 
 -- lists of runs, of which one changes
 
@@ -131,46 +125,15 @@ rest_same q r same rest = record {
   all = subst (λ (s : Sight). AllFew s.runs) (sym same) rest.all;
 }
 
--- whether a run is polled
-module _ (b : Bool) where
-  abbrev pub Counts : Plain Output Waker → Type 0
-  Counts q = InCodes b q.inside q.runs
+pub counts_same : (q r : Plain Output Waker) → sight r ≡ sight q → Counts q → Counts r
+counts_same q r same counts = subst (λ (s : Sight). InCodes s.inside s.runs) (sym same) counts
 
-  pub counts_same : (q r : Plain Output Waker) → sight r ≡ sight q → Counts q → Counts r
-  counts_same q r same counts = subst (λ (s : Sight). InCodes b s.inside s.runs) (sym same) counts
+pub counts_at : (q : Plain Output Waker) → AtRest q → Counts q
+counts_at q rest = subst (λ codes. InCodes codes q.runs) (sym rest.nowhere) rest.all
 
-  pub counts_at : (q : Plain Output Waker) → AtRest q → Counts q
-  counts_at q rest = subst (λ codes. InCodes b codes q.runs) (sym rest.nowhere) rest.all
-
-  by_run : b ≡ true → (r : ℕ) (rs : List Running) → FewBut rs r → ByRun b r rs
-  by_run is r rs few = subst (λ b. ByRun b r rs) (sym is) few
-
-  by_run_only : (r : ℕ) (rs : List Running) → ByRun b r rs → (b ≡ true) × FewBut rs r
-  by_run_only r rs few = only b few
-    where
-      only : (b : Bool) → ByRun b r rs → (b ≡ true) × FewBut rs r
-      only true few = (refl, few)
-      only false few = absurd few
-
-  own_only : (rs : List Running) → InOwn b rs → (b ≡ true) × AllFew rs
-  own_only rs few = only b few
-    where
-      only : (b : Bool) → InOwn b rs → (b ≡ true) × AllFew rs
-      only true few = (refl, few)
-      only false few = absurd few
-
-  -- a run takes only where one is polled
-  abbrev MayTake : Taker Waker → Type 0
-  MayTake Try = Unit {0}
-  MayTake (Tick t a) = Unit {0}
-  MayTake (Run r a) = b ≡ true
-
-module _ (b : Bool) (c : Choice) where
-  abbrev Its : Plain Output Waker → Type 0
-  Its q = Counts b q
-
-  runs_taken : (f : ℕ) (by : Taker Waker) (q : Plain Output Waker) → q.inside ≡ [] → ByTaker b by q.runs
-      → Its (plain_takes.run wakes c f by q)
+module _ (c : Choice) where
+  runs_taken : (f : ℕ) (by : Taker Waker) (q : Plain Output Waker) → q.inside ≡ [] → ByTaker by q.runs
+      → Counts (plain_takes.run wakes c f by q)
   runs_taken f by q nowhere few = begins (task f q).closed
     where
       new : AbstractTask Output Waker
@@ -180,9 +143,9 @@ module _ (b : Bool) (c : Choice) where
       same = put_keeps sight aside f new q
 
       begins : (b : Bool)
-          → Its (if b then plain_takes.dropping wakes c f Closed by q else enters (Poll f by) (see (Polls f) (put f new q)))
+          → Counts (if b then plain_takes.dropping wakes c f Closed by q else enters (Poll f by) (see (Polls f) (put f new q)))
       begins true = (few, nowhere)
-      begins false = (subst (λ (s : Sight). ByTaker b by s.runs) (sym same) few, ap (λ (s : Sight). s.inside) same ∙ nowhere)
+      begins false = (subst (λ (s : Sight). ByTaker by s.runs) (sym same) few, ap (λ (s : Sight). s.inside) same ∙ nowhere)
 
   keeps_sight : (r : ℕ) (test : Due → Bool) (q : Plain Output Waker) → sight (keeps r test q) ≡ sight q
   keeps_sight r test q = by (nat_lt (count_by (is_kept r) q.due) 512)
@@ -217,17 +180,16 @@ module _ (b : Bool) (c : Choice) where
   pub tell_sight : (q : Plain Output Waker) → sight (tell wakes c q) ≡ sight q
   tell_sight q = tell_keeps sight aside c q
 
-  takes_one : (by : Taker Waker) → MayTake b by → (d : Due) (q : Plain Output Waker) → AtRest q
-      → Its (plain_takes.takes wakes c by d q)
-  takes_one Try may d q rest =
+  takes_one : (by : Taker Waker) (d : Due) (q : Plain Output Waker) → AtRest q → Counts (plain_takes.takes wakes c by d q)
+  takes_one Try d q rest =
       let z = tell wakes c q in
       let r = rest_same q z (tell_sight q) rest in
       runs_taken d.future Try z r.nowhere r.all
-  takes_one (Tick t a) may d q rest =
+  takes_one (Tick t a) d q rest =
       let z = tell wakes c (up wakes c (ATick t) q) in
       let r = rest_same q z (tell_sight (up wakes c (ATick t) q) ∙ up_keeps sight aside c (ATick t) q) rest in
       runs_taken d.future (Tick t a) z r.nowhere r.all
-  takes_one (Run r a) may d q rest =
+  takes_one (Run r a) d q rest =
       let q1 = plain_takes.robbed wakes c r d.keeper q in
       let q2 = tell wakes c (up wakes c (ARun r) q1) in
       let q3 = plain_takes.kept wakes c r q2 in
@@ -235,38 +197,35 @@ module _ (b : Bool) (c : Choice) where
       each_sight c.keeps (λ mark. keeps r (is_common mark)) (λ mark z. keeps_sight r (is_common mark) z) q2
       ∙ (tell_sight (up wakes c (ARun r) q1) ∙ (up_keeps sight aside c (ARun r) q1 ∙ robbed_sight r d.keeper q)) in
       let k = rest_same q q3 same rest in
-      subst (λ z. Its (plain_takes.run wakes c d.future (Run r a) z)) (sym (runs_is one_more r q3))
+      subst (λ z. Counts (plain_takes.run wakes c d.future (Run r a) z)) (sym (runs_is one_more r q3))
       (runs_taken d.future (Run r a) (record q3 { runs = changed one_more r q3.runs }) k.nowhere
-      (by_run b may r (changed one_more r q3.runs) (λ j apart. other_few one_more q3.runs r j apart ∙ k.all j)))
+      (λ j apart. other_few one_more q3.runs r j apart ∙ k.all j))
 
-  takes_nothing : (by : Taker Waker) (q : Plain Output Waker) → AtRest q → Its (plain_takes.nothing wakes c by q)
-  takes_nothing Try q rest = counts_at b q rest
+  takes_nothing : (by : Taker Waker) (q : Plain Output Waker) → AtRest q → Counts (plain_takes.nothing wakes c by q)
+  takes_nothing Try q rest = counts_at q rest
   takes_nothing (Tick t a) q rest =
-      counts_same b q (plain_takes.nothing wakes c (Tick t a) q) (rests_keeps sight aside c c.refusal (ATick t) a q) (counts_at b q rest)
+      counts_same q (plain_takes.nothing wakes c (Tick t a) q) (rests_keeps sight aside c c.refusal (ATick t) a q) (counts_at q rest)
   takes_nothing (Run r a) q rest =
-      counts_same b q (plain_takes.nothing wakes c (Run r a) q) (rests_keeps sight aside c c.refusal (ARun r) a q) (counts_at b q rest)
+      counts_same q (plain_takes.nothing wakes c (Run r a) q) (rests_keeps sight aside c c.refusal (ARun r) a q) (counts_at q rest)
 
-  pub takes : (by : Taker Waker) → MayTake b by → (q : Plain Output Waker) → AtRest q → Its (plain_takes.take wakes c by q)
-  takes by may q rest = found (find test q.due)
+  pub takes : (by : Taker Waker) (q : Plain Output Waker) → AtRest q → Counts (plain_takes.take wakes c by q)
+  takes by q rest = found (find test q.due)
     where
       test : Due → Bool
       test = chosen (looks c by) q.due
 
       found : (o : Option Due)
-          → Its (or o (λ d. plain_takes.takes wakes c by d (record q { due = without test q.due })) (plain_takes.nothing wakes c by q))
+          → Counts (or o (λ d. plain_takes.takes wakes c by d (record q { due = without test q.due })) (plain_takes.nothing wakes c by q))
       found None = takes_nothing by q rest
       found (Some d) =
-          takes_one by may d (record q { due = without test q.due }) (record { nowhere = rest.nowhere; all = rest.all })
+          takes_one by d (record q { due = without test q.due }) (record { nowhere = rest.nowhere; all = rest.all })
 
   -- what takes goes on
-  next : (by : Taker Waker) (q : Plain Output Waker) → q.inside ≡ [] → ByTaker b by q.runs → Its (plain_takes.next wakes c by q)
-  next Try q nowhere few = counts_at b q (record { nowhere = nowhere; all = few })
-  next (Tick t a) q nowhere few = counts_at b q (record { nowhere = nowhere; all = few })
+  next : (by : Taker Waker) (q : Plain Output Waker) → q.inside ≡ [] → ByTaker by q.runs → Counts (plain_takes.next wakes c by q)
+  next Try q nowhere few = counts_at q (record { nowhere = nowhere; all = few })
+  next (Tick t a) q nowhere few = counts_at q (record { nowhere = nowhere; all = few })
   next (Run r a) q nowhere few = by (nat_lt (or (slice_get q.runs r) (λ run. run.taken) 0) 200) refl
     where
-      both : (b ≡ true) × FewBut q.runs r
-      both = by_run_only b r q.runs few
-
       h : Running → Running
       h run = record run { taken = 0 }
 
@@ -281,17 +240,17 @@ module _ (b : Bool) (c : Choice) where
       zeroed : AtRest q1
       zeroed = record {
         nowhere = nowhere;
-        all = all_now (changed h r q.runs) r (λ k apart. other_few h q.runs r k apart ∙ both.1 k apart) (one_few h (λ run. refl) q.runs r);
+        all = all_now (changed h r q.runs) r (λ k apart. other_few h q.runs r k apart ∙ few k apart) (one_few h (λ run. refl) q.runs r);
       }
 
       by : (x : Bool) → nat_lt (or (slice_get q.runs r) (λ run. run.taken) 0) 200 ≡ x
-          → Its (if x then plain_takes.take wakes c (Run r a) q else plain_takes.gives_way wakes c r a q)
-      by true now = takes (Run r a) both.0 q (record { nowhere = nowhere; all = all_now q.runs r both.1 (few_now q.runs r now) })
+          → Counts (if x then plain_takes.take wakes c (Run r a) q else plain_takes.gives_way wakes c r a q)
+      by true now = takes (Run r a) q (record { nowhere = nowhere; all = all_now q.runs r few (few_now q.runs r now) })
       by false last =
-          subst (λ z. Its (answers Pending (or (wakes a) (λ f. plain.wake wakes (tell wakes c) f z) (see (Calls a) z))))
+          subst (λ z. Counts (answers Pending (or (wakes a) (λ f. plain.wake wakes (tell wakes c) f z) (see (Calls a) z))))
           (sym (runs_is h r q))
-          (counts_same b q1 (or (wakes a) (λ f. plain.wake wakes (tell wakes c) f q1) (see (Calls a) q1)) (woken (wakes a))
-          (counts_at b q1 zeroed))
+          (counts_same q1 (or (wakes a) (λ f. plain.wake wakes (tell wakes c) f q1) (see (Calls a) q1)) (woken (wakes a))
+          (counts_at q1 zeroed))
 
   pub called_sight : (o : Option Waker) (q : Plain Output Waker) → sight (on o (called wakes (tell wakes c)) q) ≡ sight q
   called_sight None q = refl
@@ -300,10 +259,10 @@ module _ (b : Bool) (c : Choice) where
   -- by a taker, or by none
   abbrev ByOne : Option (Taker Waker) → List Running → Type 0
   ByOne None rs = AllFew rs
-  ByOne (Some by) rs = ByTaker b by rs
+  ByOne (Some by) rs = ByTaker by rs
 
   lost : (awaiter : Option Waker) (by : Option (Taker Waker)) (q : Plain Output Waker) → q.inside ≡ [] → ByOne by q.runs
-      → Its (plain_takes.lost wakes c awaiter by q)
+      → Counts (plain_takes.lost wakes c awaiter by q)
   lost awaiter by q nowhere few = goes by few
     where
       z : Plain Output Waker
@@ -312,13 +271,13 @@ module _ (b : Bool) (c : Choice) where
       same : sight z ≡ sight q
       same = called_sight awaiter q
 
-      goes : (by : Option (Taker Waker)) → ByOne by q.runs → Its (or by (λ taker. plain_takes.next wakes c taker z) (answers Done z))
-      goes None few = counts_same b q z same (counts_at b q (record { nowhere = nowhere; all = few }))
+      goes : (by : Option (Taker Waker)) → ByOne by q.runs → Counts (or by (λ taker. plain_takes.next wakes c taker z) (answers Done z))
+      goes None few = counts_same q z same (counts_at q (record { nowhere = nowhere; all = few }))
       goes (Some taker) few =
-          next taker z (ap (λ (s : Sight). s.inside) same ∙ nowhere) (subst (λ (s : Sight). ByTaker b taker s.runs) (sym same) few)
+          next taker z (ap (λ (s : Sight). s.inside) same ∙ nowhere) (subst (λ (s : Sight). ByTaker taker s.runs) (sym same) few)
 
   out : (left : abstract.Left Output Waker) (by : Option (Taker Waker)) (q : Plain Output Waker) → q.inside ≡ [] → ByOne by q.runs
-      → Its (plain_takes.out wakes c left by q)
+      → Counts (plain_takes.out wakes c left by q)
   out left by q nowhere few = goes left.dropped
     where
       z : Plain Output Waker
@@ -327,18 +286,18 @@ module _ (b : Bool) (c : Choice) where
       same : sight z ≡ sight q
       same = goes_keeps sight aside c left.let_go q
 
-      in_loss : (by : Option (Taker Waker)) → ByOne by q.runs → InCode b (Lose left.called by) q.runs
+      in_loss : (by : Option (Taker Waker)) → ByOne by q.runs → InCode (Lose left.called by) q.runs
       in_loss None few = few
       in_loss (Some taker) few = few
 
       goes : (o : Option Output)
-          → Its (or o (λ v. enters (Lose left.called by) (see (Loses v) q)) (plain_takes.lost wakes c left.called by z))
+          → Counts (or o (λ v. enters (Lose left.called by) (see (Loses v) q)) (plain_takes.lost wakes c left.called by z))
       goes None =
           lost left.called by z (ap (λ (s : Sight). s.inside) same ∙ nowhere) (subst (λ (s : Sight). ByOne by s.runs) (sym same) few)
       goes (Some v) = (in_loss by few, nowhere)
 
   pub ended_by : (f : ℕ) (left : abstract.Left Output Waker) (by : Option (Taker Waker)) (q : Plain Output Waker) → q.inside ≡ []
-      → ByOne by q.runs → Its (plain_takes.ended wakes c f left by q)
+      → ByOne by q.runs → Counts (plain_takes.ended wakes c f left by q)
   ended_by f left by q nowhere few =
       let same = put_keeps sight aside f left.task q in
       out left by (put f left.task q) (ap (λ (s : Sight). s.inside) same ∙ nowhere)
@@ -363,47 +322,47 @@ module _ (b : Bool) (c : Choice) where
       by None = refl
       by (Some x) = refl
 
-  dropped : (f : ℕ) (why : End Output) (by : Taker Waker) (q : Plain Output Waker) → q.inside ≡ [] → ByTaker b by q.runs
-      → Its (plain_takes.dropped wakes c f why by q)
+  dropped : (f : ℕ) (why : End Output) (by : Taker Waker) (q : Plain Output Waker) → q.inside ≡ [] → ByTaker by q.runs
+      → Counts (plain_takes.dropped wakes c f why by q)
   dropped f why by q nowhere few =
       let z = plain_takes.given_up wakes c f (marked f q) in
       let same : sight z ≡ sight q = given_up_sight f (marked f q) ∙ marked_sight f q in
       ended_by f (plain_takes.left_by wakes c why (task f z)) (Some by) z (ap (λ (s : Sight). s.inside) same ∙ nowhere)
-      (subst (λ (s : Sight). ByTaker b by s.runs) (sym same) few)
+      (subst (λ (s : Sight). ByTaker by s.runs) (sym same) few)
 
-  pended : (e : abstract.PendingEnd) (f : ℕ) (by : Taker Waker) (q : Plain Output Waker) → q.inside ≡ [] → ByTaker b by q.runs
-      → Its (calls.pending_by wakes c e f by q)
+  pended : (e : abstract.PendingEnd) (f : ℕ) (by : Taker Waker) (q : Plain Output Waker) → q.inside ≡ [] → ByTaker by q.runs
+      → Counts (calls.pending_by wakes c e f by q)
   pended abstract.PendingEnd.Drops f by q nowhere few = (few, nowhere)
   pended abstract.PendingEnd.Forgets f by q nowhere few =
       let new : AbstractTask Output Waker = record (task f q) { phase = abstract.Phase.Finished; closed = true } in
       let same = put_keeps sight aside f new q in
-      (subst (λ (s : Sight). ByTaker b by s.runs) (sym same) few, ap (λ (s : Sight). s.inside) same ∙ nowhere)
+      (subst (λ (s : Sight). ByTaker by s.runs) (sym same) few, ap (λ (s : Sight). s.inside) same ∙ nowhere)
   pended abstract.PendingEnd.Rests f by q nowhere few = goes_on (abstract.end_pending (task f q)).task
     where
-      goes_on : (new : AbstractTask Output Waker) → Its (plain_takes.next wakes c by (becomes wakes (tell wakes c) f new q))
+      goes_on : (new : AbstractTask Output Waker) → Counts (plain_takes.next wakes c by (becomes wakes (tell wakes c) f new q))
       goes_on new =
           let same = becomes_keeps sight aside c f new q in
           next by (becomes wakes (tell wakes c) f new q) (ap (λ (s : Sight). s.inside) same ∙ nowhere)
-          (subst (λ (s : Sight). ByTaker b by s.runs) (sym same) few)
+          (subst (λ (s : Sight). ByTaker by s.runs) (sym same) few)
   pended abstract.PendingEnd.Queues f by q nowhere few = goes_on (abstract.end_pending (task f q)).task
     where
-      goes_on : (new : AbstractTask Output Waker) → Its (plain_takes.next wakes c by (becomes wakes (tell wakes c) f new q))
+      goes_on : (new : AbstractTask Output Waker) → Counts (plain_takes.next wakes c by (becomes wakes (tell wakes c) f new q))
       goes_on new =
           let same = becomes_keeps sight aside c f new q in
           next by (becomes wakes (tell wakes c) f new q) (ap (λ (s : Sight). s.inside) same ∙ nowhere)
-          (subst (λ (s : Sight). ByTaker b by s.runs) (sym same) few)
+          (subst (λ (s : Sight). ByTaker by s.runs) (sym same) few)
 
   -- a run goes
-  gone : (r : ℕ) (q : Plain Output Waker) → AtRest q → Its (calls.gone wakes c r q)
+  gone : (r : ℕ) (q : Plain Output Waker) → AtRest q → Counts (calls.gone wakes c r q)
   gone r q rest =
       let q1 : Plain Output Waker = record q { runs = changed ended_run r q.runs } in
       let h : Plain Output Waker → Plain Output Waker = λ p. tell wakes c (given_back r p) in
       let n = count_by (is_kept r) q.due in
       let same : sight (leaves wakes c (ARun r) (repeat n h q1)) ≡ sight q1 =
       leaves_keeps sight aside c (ARun r) (repeat n h q1) ∙ repeats_sight n h (λ p. tell_sight (given_back r p) ∙ back p) q1 in
-      subst (λ z. Its (leaves wakes c (ARun r) (repeat n h z))) (sym (runs_is ended_run r q))
-      (counts_same b q1 (leaves wakes c (ARun r) (repeat n h q1)) same
-      (counts_at b q1 (record { nowhere = rest.nowhere; all = λ k. same_few ended_run (λ run. refl) q.runs r k ∙ rest.all k })))
+      subst (λ z. Counts (leaves wakes c (ARun r) (repeat n h z))) (sym (runs_is ended_run r q))
+      (counts_same q1 (leaves wakes c (ARun r) (repeat n h q1)) same
+      (counts_at q1 (record { nowhere = rest.nowhere; all = λ k. same_few ended_run (λ run. refl) q.runs r k ∙ rest.all k })))
     where
       back : (p : Plain Output Waker) → sight (given_back r p) ≡ sight p
       back p = by (find (is_kept r) p.due)
@@ -412,83 +371,56 @@ module _ (b : Bool) (c : Choice) where
           by None = refl
           by (Some d) = refl
 
-  -- user code ends, as that code does where a run is polled
-  abbrev Fits : Code Output Waker → calls.Call Output Waker → Type 0
-  Fits code e = (b ≡ false) ⊎ (fits code e ≡ true)
+  -- user code ends
+  pends : (code : Code Output Waker) (codes : List (Code Output Waker)) (q : Plain Output Waker) → q.inside ≡ [] → InCode code q.runs
+      → is_end (code ∷ codes) calls.Pends ≡ true → Counts (calls.pends wakes c code q)
+  pends (Poll f by) codes q nowhere few fit = pended (abstract.pending_end (task f q)) f by q nowhere few
+  pends (PollOwn r a) codes q nowhere few fit = takes (Run r a) q (record { nowhere = nowhere; all = few })
+  pends code codes q nowhere few fit = absurd cc
 
-  few_taker : b ≡ false → (by : Taker Waker) (rs : List Running) → ByTaker b by rs → AllFew rs
-  few_taker is Try rs few = few
-  few_taker is (Tick t a) rs few = few
-  few_taker is (Run r a) rs few = absurd (clash is (by_run_only b r rs few).0)
+  gives : (v : Output) (code : Code Output Waker) (codes : List (Code Output Waker)) (q : Plain Output Waker) → q.inside ≡ []
+      → InCode code q.runs → is_end (code ∷ codes) (calls.EndsWith v) ≡ true → Counts (calls.gives wakes c v code q)
+  gives v (Poll f by) codes q nowhere few fit = (few, nowhere)
+  gives v (PollOwn r a) codes q nowhere few fit = (few, nowhere)
+  gives v code codes q nowhere few fit = absurd cc
 
-  few_code : b ≡ false → (code : Code Output Waker) (rs : List Running) → InCode b code rs → AllFew rs
-  few_code is (Poll f by) rs few = few_taker is by rs few
-  few_code is (Drop f why by) rs few = few_taker is by rs few
-  few_code is (Lose awaiter None) rs few = few
-  few_code is (Lose awaiter (Some by)) rs few = few_taker is by rs few
-  few_code is (PollOwn r a) rs few = (own_only b rs few).1
-  few_code is (DropOwn r x) rs few = few
-  few_code is (Close fs all) rs few = absurd few
-
-  -- one that is no end of it lets the call go on
-  other : (code : Code Output Waker) (q : Plain Output Waker) → q.inside ≡ [] → InCode b code q.runs
-      → (b ≡ false) ⊎ (false ≡ true) → Its q
-  other code q nowhere few (inl is) = counts_at b q (record { nowhere = nowhere; all = few_code is code q.runs few })
-  other code q nowhere few (inr is) = absurd cc
-
-  pends : (code : Code Output Waker) (q : Plain Output Waker) → q.inside ≡ [] → InCode b code q.runs → Fits code calls.Pends
-      → Its (calls.pends wakes c code q)
-  pends (Poll f by) q nowhere few fit = pended (abstract.pending_end (task f q)) f by q nowhere few
-  pends (PollOwn r a) q nowhere few fit =
-      let own = own_only b q.runs few in
-      takes (Run r a) own.0 q (record { nowhere = nowhere; all = own.1 })
-  pends (Drop f why by) q nowhere few fit = other (Drop f why by) q nowhere few fit
-  pends (Lose awaiter by) q nowhere few fit = other (Lose awaiter by) q nowhere few fit
-  pends (DropOwn r x) q nowhere few fit = other (DropOwn r x) q nowhere few fit
-  pends (Close fs all) q nowhere few fit = absurd few
-
-  gives : (v : Output) (code : Code Output Waker) (q : Plain Output Waker) → q.inside ≡ [] → InCode b code q.runs
-      → Fits code (calls.EndsWith v) → Its (calls.gives wakes c v code q)
-  gives v (Poll f by) q nowhere few fit = (few, nowhere)
-  gives v (PollOwn r a) q nowhere few fit = ((own_only b q.runs few).1, nowhere)
-  gives v (Drop f why by) q nowhere few fit = other (Drop f why by) q nowhere few fit
-  gives v (Lose awaiter by) q nowhere few fit = other (Lose awaiter by) q nowhere few fit
-  gives v (DropOwn r x) q nowhere few fit = other (DropOwn r x) q nowhere few fit
-  gives v (Close fs all) q nowhere few fit = absurd few
-
-  ends_in : (code : Code Output Waker) (q : Plain Output Waker) → q.inside ≡ [] → InCode b code q.runs → Fits code calls.Ends
-      → Its (calls.ends wakes c code q)
-  ends_in (Poll f by) q nowhere few fit = other (Poll f by) q nowhere few fit
-  ends_in (PollOwn r a) q nowhere few fit = other (PollOwn r a) q nowhere few fit
-  ends_in (Drop f why by) q nowhere few fit = dropped f why by q nowhere few
-  ends_in (Lose awaiter None) q nowhere few fit = lost awaiter None q nowhere few
-  ends_in (Lose awaiter (Some by)) q nowhere few fit = lost awaiter (Some by) q nowhere few
-  ends_in (DropOwn r x) q nowhere few fit =
+  ends_in : (code : Code Output Waker) (codes : List (Code Output Waker)) (q : Plain Output Waker) → q.inside ≡ []
+      → InCode code q.runs → is_end (code ∷ codes) calls.Ends ≡ true → Counts (calls.ends wakes c code q)
+  ends_in (Drop f why by) codes q nowhere few fit = dropped f why by q nowhere few
+  ends_in (Lose awaiter None) codes q nowhere few fit = lost awaiter None q nowhere few
+  ends_in (Lose awaiter (Some by)) codes q nowhere few fit = lost awaiter (Some by) q nowhere few
+  ends_in (DropOwn r x) codes q nowhere few fit =
       let z = calls.gone wakes c r q in
-      counts_same b z (answers x z) refl (gone r q (record { nowhere = nowhere; all = few }))
-  ends_in (Close fs all) q nowhere few fit = absurd few
+      counts_same z (answers x z) refl (gone r q (record { nowhere = nowhere; all = few }))
+  ends_in (Close fs all) codes q nowhere few fit = absurd few
+  ends_in code codes q nowhere few fit = absurd cc
 
-  abbrev FitsIn : List (Code Output Waker) → calls.Call Output Waker → Type 0
-  FitsIn codes e = (b ≡ false) ⊎ (fits_in codes e ≡ true)
-
-  pub code_ends : (e : calls.Call Output Waker) → is_end e ≡ true → (q : Plain Output Waker) → FitsIn q.inside e → Its q
-      → Its (does wakes c e q)
-  code_ends calls.Pends it q fit few = by q.inside fit refl few
+  pub code_ends : (e : calls.Call Output Waker) (q : Plain Output Waker) → is_end q.inside e ≡ true → Counts q → Counts (does wakes c e q)
+  code_ends calls.Pends q fit few = by q.inside fit few
     where
-      by : (codes : List (Code Output Waker)) → FitsIn codes calls.Pends → q.inside ≡ codes → InCodes b codes q.runs
-          → Its (calls.innermost wakes c codes (calls.pends wakes c) q)
-      by [] fit is few = subst (λ codes. InCodes b codes q.runs) (sym is) few
-      by (code ∷ codes) fit is few = pends code (record q { inside = codes }) few.1 few.0 fit
-  code_ends (calls.EndsWith v) it q fit few = by q.inside fit refl few
+      by : (codes : List (Code Output Waker)) → is_end codes calls.Pends ≡ true → InCodes codes q.runs
+          → Counts (calls.innermost wakes c codes (calls.pends wakes c) q)
+      by [] fit few = absurd cc
+      by (code ∷ codes) fit few = pends code codes (record q { inside = codes }) few.1 few.0 fit
+  code_ends (calls.EndsWith v) q fit few = by q.inside fit few
     where
-      by : (codes : List (Code Output Waker)) → FitsIn codes (calls.EndsWith v) → q.inside ≡ codes → InCodes b codes q.runs
-          → Its (calls.innermost wakes c codes (calls.gives wakes c v) q)
-      by [] fit is few = subst (λ codes. InCodes b codes q.runs) (sym is) few
-      by (code ∷ codes) fit is few = gives v code (record q { inside = codes }) few.1 few.0 fit
-  code_ends calls.Ends it q fit few = by q.inside fit refl few
+      by : (codes : List (Code Output Waker)) → is_end codes (calls.EndsWith v) ≡ true → InCodes codes q.runs
+          → Counts (calls.innermost wakes c codes (calls.gives wakes c v) q)
+      by [] fit few = absurd cc
+      by (code ∷ codes) fit few = gives v code codes (record q { inside = codes }) few.1 few.0 fit
+  code_ends calls.Ends q fit few = by q.inside fit few
     where
-      by : (codes : List (Code Output Waker)) → FitsIn codes calls.Ends → q.inside ≡ codes → InCodes b codes q.runs
-          → Its (calls.innermost wakes c codes (calls.ends wakes c) q)
-      by [] fit is few = subst (λ codes. InCodes b codes q.runs) (sym is) few
-      by (code ∷ codes) fit is few = ends_in code (record q { inside = codes }) few.1 few.0 fit
-  code_ends e it q fit few = absurd cc
+      by : (codes : List (Code Output Waker)) → is_end codes calls.Ends ≡ true → InCodes codes q.runs
+          → Counts (calls.innermost wakes c codes (calls.ends wakes c) q)
+      by [] fit few = absurd cc
+      by (code ∷ codes) fit few = ends_in code codes (record q { inside = codes }) few.1 few.0 fit
+  code_ends e q fit few = by q.inside fit
+    where
+      by : (codes : List (Code Output Waker)) → is_end codes e ≡ true → Counts (does wakes c e q)
+      by [] fit = absurd cc
+      by (Poll f taker ∷ codes) fit = absurd cc
+      by (PollOwn r a ∷ codes) fit = absurd cc
+      by (Drop f why taker ∷ codes) fit = absurd cc
+      by (Lose awaiter taker ∷ codes) fit = absurd cc
+      by (DropOwn r x ∷ codes) fit = absurd cc
+      by (Close fs all ∷ codes) fit = absurd cc

@@ -48,7 +48,6 @@ pub mod Tying
 pub mod WhoLeaves
 pub mod Living
 pub mod Having
-pub mod Fitting
 pub mod LoneRuns
 pub mod LoneTold
 pub mod Waits
@@ -81,6 +80,7 @@ pub mod RunTaking
 pub mod RunSearching
 pub mod TakenBeside
 pub mod RunLies
+pub mod RunGoesOn
 pub mod RunsOn
 pub mod LoneRunsOn
 pub mod LoneGoesOn

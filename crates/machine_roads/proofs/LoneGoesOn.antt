@@ -27,8 +27,8 @@ use Rattle.plain_scheduler.specs.Calls.{does, Pends, PollRun}
 use Rattle.machine_roads.specs.View.{Output, wakes}
 use Rattle.machine_roads.specs.Road.{Follows, is_ended}
 use Rattle.machine_roads.specs.Alone.{alone, Has}
+use Rattle.machine_roads.specs.Lone.{Ended}
 use Rattle.machine_roads.specs.Stopped.{taken_by}
-use Rattle.machine_roads.proofs.Fitting.{Fitting}
 use Rattle.machine_roads.proofs.Lists.{cons_is}
 use Rattle.machine_roads.proofs.LonePolls.{In, InOwn, last, poll_own, stands_in_own, x0}
 use Rattle.machine_roads.proofs.LoneRuns.{IsBefore, Rests, before, goes_on_of}
@@ -137,10 +137,10 @@ module _ (s : Machine) (reached : Reached s) (q : Plain Output Waker) (quiet : I
       goes_on_of Has IsBefore before p (In s reached q quiet follows p r c b many steps new later lone own.world (it ∷ [])) S new later
       (last s reached q quiet follows p r c b many steps new later lone) lone.ended i here
 
-  pub runs_all : (z : Plain Output Waker) × Fitting (does wakes c (PollRun r a) q) z × (z.inside ≡ q.inside) × Follows new.world z
+  pub runs_all : (z : Plain Output Waker) × Ended (does wakes c (PollRun r a) q) z × (z.inside ≡ q.inside) × Follows new.world z
   runs_all =
       let at_last = last s reached q quiet follows p r c b many steps new later lone in
-      subst (λ m. (z : Plain Output Waker) × Fitting m z × (z.inside ≡ q.inside) × Follows new.world z)
+      subst (λ m. (z : Plain Output Waker) × Ended m z × (z.inside ≡ q.inside) × Follows new.world z)
       (sym (ap (λ b. if b then answers Finished q else polled) unended))
       (from_after p new later at_last lone.ended c q.inside x t false
       (takes_on p new later at_last lone.ended c q.inside x (199 - t) (suc t) (left_to_take t (fewer t few))) Pends polled refl q refl

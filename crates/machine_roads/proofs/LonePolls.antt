@@ -44,10 +44,9 @@ use Rattle.plain_scheduler.specs.Calls.{does, gone, Ends, EndsWith, PollRun}
 use Rattle.machine_roads.specs.View.{Output, wakes}
 use Rattle.machine_roads.specs.Road.{Follows, is_ended, run_view}
 use Rattle.machine_roads.specs.Alone.{alone, Has}
-use Rattle.machine_roads.specs.Lone.{EachLoneAlike, LoneRunEnds}
+use Rattle.machine_roads.specs.Lone.{EachLoneAlike, Ended, LoneRunEnds, ends as ends_with, over}
 use Rattle.machine_roads.proofs.Calling.{ends, idles}
 use Rattle.machine_roads.proofs.Changing.{logs}
-use Rattle.machine_roads.proofs.Fitting.{Ends as EndsBy, Fitting, Over, ended_of}
 use Rattle.machine_roads.proofs.Lists.{clash, cons_is, same_of}
 use Rattle.machine_roads.proofs.LoneCalls.{each}
 use Rattle.machine_roads.proofs.LoneRuns.{InCode, Inside, IsBefore, Rests, Whole, before, both_true, ends_so, goes_on_of}
@@ -210,7 +209,7 @@ module _ (s : Machine) (reached : Reached s) (q : Plain Output Waker) (quiet : I
   empty = rests new (deep-here new last) lone.ended p
 
   abbrev Result : Plain Output Waker → Type 0
-  Result y = (z : Plain Output Waker) × Fitting y z × (z.inside ≡ q.inside) × Follows new.world z
+  Result y = (z : Plain Output Waker) × Ended y z × (z.inside ≡ q.inside) × Follows new.world z
 
   -- one that is over is answered so
   at_once : (run_of w r).stage ≡ RunEnded → Follows new.world (answers Finished q)
@@ -357,8 +356,8 @@ module _ (s : Machine) (reached : Reached s) (q : Plain Output Waker) (quiet : I
   is_ready unpended st is going =
       let z : Plain Output Waker = answers Ready (gone wakes c r q) in (
         z,
-        EndsBy c (EndsWith tt) (enters (PollOwn r a) q) z refl many
-            (EndsBy c Ends (enters (DropOwn r Ready) q) z refl many (Over z)),
+        ends_with c (EndsWith tt) (enters (PollOwn r a) q) z refl many
+            (ends_with c Ends (enters (DropOwn r Ready) q) z refl many (over z)),
         ap (λ (q : Plain Output Waker). q.inside) (sym (left_is c r Ready q)) ∙ left_inside c r Ready q,
         subst (Follows new.world) (left_is c r Ready q) (comes unpended st is going),
       )
@@ -380,7 +379,7 @@ module _ (s : Machine) (reached : Reached s) (q : Plain Output Waker) (quiet : I
   over_by RunEnded is ended =
       let z : Plain Output Waker = answers Finished q in
       subst (λ b. Result (if b then answers Finished q else enters (PollOwn r a) q)) (sym (or_ended (run_of w r).dropped))
-      (z, Over z, refl, at_once is)
+      (z, over z, refl, at_once is)
   over_by New is ended = absurd cc
   over_by Listed is ended = absurd cc
 
@@ -401,16 +400,15 @@ module _ (s : Machine) (reached : Reached s) (q : Plain Output Waker) (quiet : I
 
   -- or it is over, and answers so at once
   pub over_all : or (slice_get q.runs r) (λ run. run.is_over) true ≡ true → Result (does wakes c (PollRun r a) q)
-  over_all over =
+  over_all is_over =
       let is = over_is w.runs q.runs follows.runs r in
       subst (λ b. Result (if b then answers Finished q else enters (PollOwn r a) q)) (sym is)
       (over_by (run_of w r).stage refl
-      (sym (ap (λ b. b || is_ended (run_of w r).stage) unended) ∙ (sym is ∙ over)))
+      (sym (ap (λ b. b || is_ended (run_of w r).stage) unended) ∙ (sym is ∙ is_over)))
 
 pub run_ends_so : (s : Machine) → Reached s → (q : Plain Output Waker) → IsQuiet s.world.trace → Follows s.world q → LoneRunEnds s q
 run_ends_so s reached q quiet follows p r c b steps unpended many new later lone =
-    let e = ends_all s reached q quiet follows p r c b many steps new later lone unpended in
-    (e.0, ended_of (does wakes c (PollRun r (waker_of None b)) q) e.0 e.1, e.2, e.3)
+    ends_all s reached q quiet follows p r c b many steps new later lone unpended
 
 pub lone_run_ends : EachLoneAlike LoneRunEnds
 lone_run_ends = each LoneRunEnds run_ends_so

@@ -17,8 +17,7 @@ use Rattle.plain_scheduler.specs.Lists.{or}
 use Rattle.plain_scheduler.specs.Calls.{does, PollRun}
 use Rattle.machine_roads.specs.View.{Output, wakes}
 use Rattle.machine_roads.specs.Road.{Follows}
-use Rattle.machine_roads.specs.Lone.{EachLoneAlike, LoneRunGoesOn}
-use Rattle.machine_roads.proofs.Fitting.{Fitting, ended_of}
+use Rattle.machine_roads.specs.Lone.{EachLoneAlike, Ended, LoneRunGoesOn}
 use Rattle.machine_roads.proofs.Lists.{clash}
 use Rattle.machine_roads.proofs.LoneCalls.{each}
 use Rattle.machine_roads.proofs.LoneGoesOn.{runs_all}
@@ -39,7 +38,7 @@ module _ (s : Machine) (reached : Reached s) (q : Plain Output Waker) (quiet : I
     (lone : IsLoneCall p (call.PollRun r b) steps s new) where
   abbrev Result : Type 0
   Result =
-      (z : Plain Output Waker) × Fitting (does wakes c (PollRun r (waker_of None b)) q) z × (z.inside ≡ q.inside)
+      (z : Plain Output Waker) × Ended (does wakes c (PollRun r (waker_of None b)) q) z × (z.inside ≡ q.inside)
       × Follows new.world z
 
   pub run_polled : Result
@@ -57,5 +56,4 @@ module _ (s : Machine) (reached : Reached s) (q : Plain Output Waker) (quiet : I
 
 pub lone_run_goes_on : EachLoneAlike LoneRunGoesOn
 lone_run_goes_on = each LoneRunGoesOn (λ s reached q quiet follows p r c b steps going many new later lone.
-    let e = run_polled s reached q quiet follows p r c b steps going many new later lone in
-    (e.0, ended_of (does wakes c (PollRun r (waker_of None b)) q) e.0 e.1, e.2, e.3))
+    run_polled s reached q quiet follows p r c b steps going many new later lone)

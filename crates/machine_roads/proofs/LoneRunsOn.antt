@@ -23,7 +23,6 @@ use Rattle.machine_roads.specs.Road.{Follows, waking_in}
 use Rattle.machine_roads.specs.Alone.{alone, is_resting, Has}
 use Rattle.machine_roads.specs.Dropped.{Drops, IsEnding, answered, loses, rest_of, without_run}
 use Rattle.machine_roads.specs.Forgotten.{IsForgotten, IsLastPoll, unawaited, without_awaiter}
-use Rattle.machine_roads.proofs.Fitting.{Ends as EndsBy, Fitting, Over, fits_in}
 use Rattle.machine_roads.proofs.Forgetting.{Forgets, forgets_by, forgets_with, forgotten_by}
 use Rattle.machine_roads.proofs.Lists.{cons_is}
 use Rattle.machine_roads.proofs.Puts.{put_at, put_by}
@@ -36,6 +35,7 @@ use Rattle.executor_model.proofs.Steps.Reached.{Reached}
 use Rattle.plain_scheduler.specs.State.{Choice, Closed, Code, Drop, End, Future, Lose, Plain, Poll, Run, Taker}
 use Rattle.plain_scheduler.specs.Moves.{task as plain_task}
 use Rattle.plain_scheduler.specs.Calls.{does, Ends, EndsWith, Pends}
+use Rattle.machine_roads.specs.Lone.{Ended, ends as ends_with, is_end, over}
 use Rattle.machine_roads.specs.Searching.{goes_on_by}
 use Rattle.machine_roads.specs.Stopped.{IsInPoll}
 use Rattle.machine_roads.proofs.LoneRuns.{InCode, Inside, IsBefore, Rests, Whole, before, goes_on_of}
@@ -75,7 +75,7 @@ module _ (p : ℕ) (new : Machine) (later : new.world.gone ≡ false) (at_last :
   taker = Run x.run x.waker
 
   abbrev pub Result : Plain Output Waker → Type 0
-  Result r = (z : Plain Output Waker) × Fitting r z × (z.inside ≡ codes) × Follows new.world z
+  Result r = (z : Plain Output Waker) × Ended r z × (z.inside ≡ codes) × Follows new.world z
 
   -- who lies down last is told, also where one more lies down
   abbrev pub tells_for : Plain Output Waker → ℕ
@@ -91,12 +91,12 @@ module _ (p : ℕ) (new : Machine) (later : new.world.gone ≡ false) (at_last :
   more_tells r m is = omega (arith, is)
 
   ends_here : (r : Plain Output Waker) → r.inside ≡ codes → Follows new.world r → Result r
-  ends_here r inside follows = (r, Over r, inside, follows)
+  ends_here r inside follows = (r, over r, inside, follows)
 
   -- one code more has ended
-  once_more : (d : Choice) (e : plain_calls.Call Output Waker) (r : Plain Output Waker) → fits_in r.inside e ≡ true → d.tells ≡ tells_for r
+  once_more : (d : Choice) (e : plain_calls.Call Output Waker) (r : Plain Output Waker) → is_end r.inside e ≡ true → d.tells ≡ tells_for r
       → Result (does wakes d e r) → Result r
-  once_more d e r it told so = (so.0, EndsBy d e r so.0 it (more_tells r d.tells told) so.1, so.2, so.3)
+  once_more d e r it told so = (so.0, ends_with d e r so.0 it (more_tells r d.tells told) so.1, so.2, so.3)
 
   -- from the end of user code on
   goes_on : (R S : Done → Type 0) (y : InCode p R new)
@@ -118,7 +118,7 @@ module _ (p : ℕ) (new : Machine) (later : new.world.gone ≡ false) (at_last :
     Now r = Between x.run last t r
 
     -- it has taken the next one, has let others go first, or has lain down
-    pub from_after : (e : plain_calls.Call Output Waker) (r : Plain Output Waker) → fits_in r.inside e ≡ true
+    pub from_after : (e : plain_calls.Call Output Waker) (r : Plain Output Waker) → is_end r.inside e ≡ true
         → (b : Plain Output Waker) → b.inside ≡ codes
         → Rests p (λ d. After p x [] b (tells_for r) t d (λ d. does wakes d e r)) new → Result r
     from_after e r it b same (Whole so) = by so
@@ -154,7 +154,7 @@ module _ (p : ℕ) (new : Machine) (later : new.world.gone ≡ false) (at_last :
         still (so c) (between_stays x.run last t b (will (telling n c)) (stays c) now)
 
     from_left : (So : Plain Output Waker → Done → Type 0) (e : plain_calls.Call Output Waker) (r : Plain Output Waker)
-        → fits_in r.inside e ≡ true → (b : Plain Output Waker) → b.inside ≡ codes
+        → is_end r.inside e ≡ true → (b : Plain Output Waker) → b.inside ≡ codes
         → ((z : Plain Output Waker) → Now z → Rests p (λ d. So z d) new → Result z)
         → Rests p (λ d. Left So b (tells_for r) (λ d. does wakes d e r) d) new → Result r
     from_left So e r it b same more (Whole so) = by so

@@ -70,8 +70,8 @@ module _ (p : ℕ) (new : Machine) (later : new.world.gone ≡ false) (last : Re
   least n = omega arith
 
   -- one code more has ended
-  once_more : (e : plain_calls.Call Output Waker) (r : Plain Output Waker) → is_end e ≡ true → Result (does wakes (telling r) e r)
-      → Result r
+  once_more : (e : plain_calls.Call Output Waker) (r : Plain Output Waker) → is_end r.inside e ≡ true
+      → Result (does wakes (telling r) e r) → Result r
   once_more e r it so = (so.0, ends_with (telling r) e r so.0 it (least (length r.lying)) so.1, so.2, so.3)
 
   -- so the call leaves both

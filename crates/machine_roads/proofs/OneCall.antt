@@ -1,5 +1,5 @@
 -- One lone call in a list: what is chosen in it, and calls of wakers and handles.
-use Rattle.std.proofs.Common.{◌≡◌, ℕ, suc, ◌<◌, ◌≤◌, ◌&&◌, not, Bool, true, false, List, [], length, Option, Some, None}
+use Rattle.std.proofs.Common.{◌≡◌, ℕ, suc, ◌<◌, ◌≤◌, ◌&&◌, not, Bool, true, false, List, [], ◌∷◌, length, Option, Some, None}
 use Rattle.std.proofs.Common.{is_some as is_there, refl, ap, ◌∙◌, arith}
 use Rattle.executor_parts.specs.Marks.{first_of}
 use Rattle.executor_model.specs.declared.call.Call.{Call}
@@ -16,15 +16,15 @@ use Rattle.executor_model.specs.World.{World, done, task}
 use Rattle.executor_model.proofs.Quiet.Resting.{rests}
 use Rattle.executor_model.proofs.Steps.Reached.{Reached, deep-here, run-first}
 use Rattle.executor_laws.specs.LoneEnds.{IsLoneCall}
-use Rattle.plain_scheduler.specs.State.{AtOnce, Choice, Granted, Plain, Refusal}
+use Rattle.plain_scheduler.specs.State.{AtOnce, Choice, Granted, Lose, Plain, Refusal}
 use Rattle.plain_scheduler.specs.Moves as plain
 use Rattle.plain_scheduler.specs.Moves.{tell}
 use Rattle.plain_scheduler.specs.Calls as plain_calls
-use Rattle.plain_scheduler.specs.Calls.{does, is_granted, new as new_plain}
+use Rattle.plain_scheduler.specs.Calls.{does, is_granted}
 use Rattle.machine_roads.specs.View.{Output, wakes}
 use Rattle.machine_roads.specs.Road.{Follows}
 use Rattle.machine_roads.specs.Alike.{begins, refuses_first, refuses_second, upon}
-use Rattle.machine_roads.specs.Lone.{ends as ends_with, over}
+use Rattle.machine_roads.specs.Lone.{ends as ends_with, is_end, over}
 use Rattle.machine_roads.specs.Course.{GoesBy, IsCall, IsChosen}
 use Rattle.machine_roads.specs.Course.{cancel, copy, detach, drop_handle}
 use Rattle.machine_roads.specs.Course.{poll_handle, release, use_waker, wake}
@@ -101,9 +101,9 @@ module _ (s : Machine) (q : Plain Output Waker) where
 
     -- one that ends with the drop of an output
     pub lossy : (c : Call) (x : plain_calls.Call Output Waker) → IsCall s.world c x
-        → (does wakes (last x) plain_calls.Ends (does wakes (choice Granted) x q)).inside ≡ q.inside
+        → (does wakes (choice Granted) x q).inside ≡ Lose None None ∷ q.inside
         → Follows new.world (does wakes (last x) plain_calls.Ends (does wakes (choice Granted) x q)) → Goes c
-    lossy c x is inside leaves =
+    lossy c x is loses leaves =
         let y : Plain Output Waker = does wakes (choice Granted) x q in
         let z : Plain Output Waker = does wakes (last x) plain_calls.Ends y in (
           z,
@@ -112,8 +112,10 @@ module _ (s : Machine) (q : Plain Output Waker) where
             made = x;
             chosen = chosen Granted;
             is = is;
-            ended = ends_with (last x) plain_calls.Ends y z refl (least (length y.lying)) (over z);
-            inside = inside;
+            ended =
+                ends_with (last x) plain_calls.Ends y z (ap (λ codes. is_end codes plain_calls.Ends) loses) (least (length y.lying))
+                (over z);
+            inside = ends_inside (last x) y q.inside loses;
           },
           leaves,
         )
@@ -164,7 +166,7 @@ module _ (s : Machine) (reached : Reached s) (q : Plain Output Waker) (quiet : I
 
   -- one that ends with the drop of an output
   loses_one : (c : Call) (x : plain_calls.Call Output Waker) → IsCall s.world c x
-      → (does wakes (last s q x) plain_calls.Ends (does wakes granted x q)).inside ≡ q.inside
+      → (does wakes granted x q).inside ≡ Lose None None ∷ q.inside
       → Follows new.world (does wakes (last s q x) plain_calls.Ends (does wakes granted x q)) × Also new.world → Gone c
   loses_one c x is inside e = (lossy s q new c x is inside e.0, e.1)
 
@@ -184,7 +186,7 @@ module _ (s : Machine) (reached : Reached s) (q : Plain Output Waker) (quiet : I
   detached f lone (Some v) some =
       let z : Plain Output Waker = does wakes granted (plain_calls.Detach f) q in
       loses_one (call.Detach f) (plain_calls.Detach f) (detach f)
-      (ends_inside (last s q (plain_calls.Detach f)) z q.inside (detach_inside granted q f (Some v) some))
+      (detach_inside granted q f (Some v) some)
       (loses (call.Detach f) refl f z (last s q (plain_calls.Detach f))
       (detaches_to_lose p None [] s.world q refl follows granted f (ap (λ o. is_there o) some)) lone)
 
@@ -197,7 +199,7 @@ module _ (s : Machine) (reached : Reached s) (q : Plain Output Waker) (quiet : I
   handle_gone f lone (Some v) some =
       let z : Plain Output Waker = does wakes granted (plain_calls.DropHandle f) q in
       loses_one (call.DropHandle f) (plain_calls.DropHandle f) (drop_handle f)
-      (ends_inside (last s q (plain_calls.DropHandle f)) z q.inside (handle_inside granted q f (Some v) (kept_output f ∙ some)))
+      (handle_inside granted q f (Some v) (kept_output f ∙ some))
       (loses (call.DropHandle f) refl f z (last s q (plain_calls.DropHandle f))
       (goes_to_lose p None [] s.world q refl follows granted f (ap (λ o. is_there o) some)) lone)
 

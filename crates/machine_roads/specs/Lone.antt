@@ -27,7 +27,7 @@ use Rattle.executor_model.specs.Steps.{Machine, kept, stack, waker_of}
 use Rattle.executor_model.specs.World.{Done, done, task}
 use Rattle.executor_laws.specs.LoneEnds.{IsLoneCall}
 use Rattle.executor_laws.specs.RunReach.{first_answer}
-use Rattle.plain_scheduler.specs.State.{Choice, Plain, Refusal, Run, Tick, Try}
+use Rattle.plain_scheduler.specs.State.{Choice, Close, Code, Drop, DropOwn, Lose, Plain, Poll, PollOwn, Refusal, Run, Tick, Try}
 use Rattle.plain_scheduler.specs.Lists.{any, or}
 use Rattle.plain_scheduler.specs.Moves.{is_common, is_due}
 use Rattle.plain_scheduler.specs.Moves as plain
@@ -66,17 +66,22 @@ pub record RestsFirst (p : ℕ) (So : Done → Type 0) (new : Machine) : Type 0 
   pub made : run_all rest machine ≡ Ok new
   pub so : So (done machine.world (reverse (stack machine p)))
 
--- a user's code ends
-abbrev pub is_end : plain_calls.Call Output Waker → Bool
-is_end Pends = true
-is_end (EndsWith v) = true
-is_end Ends = true
-is_end _ = false
+-- the innermost of these codes of users may end so: a poll with Pending or with an output, a drop as drops do
+abbrev pub is_end : List (Code Output Waker) → plain_calls.Call Output Waker → Bool
+is_end (Poll f by ∷ codes) Pends = true
+is_end (Poll f by ∷ codes) (EndsWith v) = true
+is_end (PollOwn r a ∷ codes) Pends = true
+is_end (PollOwn r a ∷ codes) (EndsWith v) = true
+is_end (Drop f why by ∷ codes) Ends = true
+is_end (Lose awaiter by ∷ codes) Ends = true
+is_end (DropOwn r x ∷ codes) Ends = true
+is_end (Close fs all ∷ codes) Ends = true
+is_end _ _ = false
 
 -- by such ends, each of which tells who lay down last
 pub data Ended : Plain Output Waker → Plain Output Waker → Type 0 where
   over : (q : Plain Output Waker) → Ended q q
-  ends : (c : Choice) (e : plain_calls.Call Output Waker) (q r : Plain Output Waker) → is_end e ≡ true → length q.lying ≤ c.tells
+  ends : (c : Choice) (e : plain_calls.Call Output Waker) (q r : Plain Output Waker) → is_end q.inside e ≡ true → length q.lying ≤ c.tells
       → Ended (does wakes c e q) r → Ended q r
 
 -- of each machine at rest and each plain scheduler where both stand alike

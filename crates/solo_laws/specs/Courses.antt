@@ -94,7 +94,8 @@ pub data Makes {F T X : Type 0} (its : ℕ → Lent) (c : Choice) (s : Solo F T 
       → p.inside ≡ Lose awaiter by ∷ rest → HasLife 2 s.lines
       → Makes its c s p Ends (call_shows awaiter by s) (calls awaiter s)
 
--- and so with ticks, and with runs: a tick that is polled or goes was made and hasn't gone, and each that lies has a number
+-- and so with ticks, and with runs: a tick that is polled or goes was made and hasn't gone, each that lies has a number, and a run that
+-- searches is as its owner has it
 pub data Acts {F T X : Type 0} (its : ℕ → Lent) (owner : Owner) (c : Choice) (s : Solo F T X) (p : Plain T (SoloWaker X))
     : Call T (SoloWaker X) → List (Event T (SoloWaker X)) → Owner → Solo F T X → Type 0 where
   makes : (call : Call T (SoloWaker X)) (shown : List (Event T (SoloWaker X))) (z : Solo F T X) → Makes its c s p call shown z

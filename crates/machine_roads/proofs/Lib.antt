@@ -90,6 +90,8 @@ pub mod Open
 pub mod OneCall
 pub mod CourseBehind
 pub mod InDrop
+pub mod OpenCalls
+pub mod DropActs
 pub mod FewTaken
 pub mod FewAfter
 pub mod Course

@@ -181,7 +181,7 @@ pub record Stays (d : Done) : Type 0 where
   pub world : NoTaskWaits d.world
   pub fits : are_of_tasks d.next ≡ true
 
-put_stays : (w : World) (f : ℕ) (s : State) → NoTaskWaits w → waits_in s ≡ false → NoTaskWaits (put w f s)
+pub put_stays : (w : World) (f : ℕ) (s : State) → NoTaskWaits w → waits_in s ≡ false → NoTaskWaits (put w f s)
 put_stays w f s none calm g at = by (f == g) refl (subst (λ n. g < n) (length_set w.tasks f s) at)
   where
     by : (b : Bool) → (f == g) ≡ b → g < length w.tasks → waits_in (world.task (put w f s) g) ≡ false

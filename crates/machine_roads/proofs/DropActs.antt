@@ -1,6 +1,6 @@
 -- Acts from the executor's drop on leave both alike at each moment at which a party rests.
-use Rattle.std.proofs.Common.{◌≡◌, ℕ, suc, ◌≤◌, ◌<◌, ◌==◌, ◌++◌, ◌&&◌, nat_lt, Bool, true, false, List, [], ◌∷◌, length, Option, Some, None, Ok}
-use Rattle.std.proofs.Common.{refl, sym, ap, subst, ◌∙◌, get_or-set_same, get_or-set_other}
+use Rattle.std.proofs.Common.{◌≡◌, ℕ, suc, ◌≤◌, ◌<◌, ◌==◌, ◌++◌, ◌&&◌, nat_lt, Bool, true, false, List, [], ◌∷◌, length}
+use Rattle.std.proofs.Common.{Option, Some, None, Ok, refl, sym, ap, subst, ◌∙◌, get_or-set_same, get_or-set_other}
 use Rattle.std.specs.Prelude.{reverse}
 use Rattle.task_moves.specs.declared.moves.state.State.{State}
 use Rattle.executor_model.specs.declared.call.Call.{Call}
@@ -110,7 +110,8 @@ waking_of w fs all q is = is.follows.waking ∙ ap (λ codes. waking_in codes) i
 still_left : (f : ℕ) (fs all : List ℕ) (w v : World) (q z : Plain Output Waker) → IsInDrop w fs all [] q → IsInDrop v fs all [] z
     → op.User (user_op.Drop f) ∷ left_to_close fs w ≡ op.User (user_op.Drop f) ∷ left_to_close fs v
 still_left f fs all w v q z is so =
-    ap (λ ws. op.User (user_op.Drop f) ∷ left_to_close fs (record w { waking = ws })) (waking_of w fs all q is ∙ sym (waking_of v fs all z so))
+    ap (λ ws. op.User (user_op.Drop f) ∷ left_to_close fs (record w { waking = ws }))
+    (waking_of w fs all q is ∙ sym (waking_of v fs all z so))
 
 -- where it stands the party rests
 rests_so : (e : Done) (q : Plain Output Waker) → StandsDropping e q → is_resting e.next ≡ true
@@ -199,7 +200,8 @@ module _ (s : Machine) (reached : Reached s) (p : ℕ) (there : p < length s.par
         let off = not_off c may in
         let x = one_named c may no_poll off in
         begun_leads_of HasOpen IsAny of_calls p (Reaches (Begin p c)) new tt c ts s reached there
-        (subst (λ here. LeadsSoOf HasOpen p (upon below (begins p here c s.world)) (Reaches (Begin p c))) (sym no_poll) (leads off x)) rests made
+        (subst (λ here. LeadsSoOf HasOpen p (upon below (begins p here c s.world)) (Reaches (Begin p c))) (sym no_poll) (leads off x))
+        rests made
       where
         leads : is_on_executor c ≡ false → Named s.world c
             → LeadsSoOf HasOpen p (upon below (begins p None c s.world)) (Reaches (Begin p c))
@@ -334,11 +336,14 @@ module _ (s : Machine) (reached : Reached s) (p : ℕ) (there : p < length s.par
                   z,
                   acts c x.made Granted (is_in c x.made no_poll_behind x.within_none),
                   loses_behind f q nowhere
-                      (none_of (without_handle f e.world) z k.so.1.losing.follows (handle_there f e.world k.so.1.losing.known k.none)) k.so.1,
+                      (none_of (without_handle f e.world) z k.so.1.losing.follows
+                      (handle_there f e.world k.so.1.losing.known k.none))
+                      k.so.1,
                 )
 
   -- the drop of an output there ends
-  module _ (g : ℕ) (b : Plain Output Waker) (nowhere : b.inside ≡ []) (none : NoneWaits q) (stops : StopsLosing g [] b (standing s p) q) where
+  module _ (g : ℕ) (b : Plain Output Waker) (nowhere : b.inside ≡ []) (none : NoneWaits q)
+      (stops : StopsLosing g [] b (standing s p) q) where
     loss_ends_behind : (u : UserEnd) (ts : List Step) → accepts (op.User (user_op.DropOutput g)) u ≡ true
         → rests_after p ts (after s (Answer p u)) ≡ true → run_all (Answer p u ∷ ts) s ≡ Ok new → Reaches (Answer p u) (standing new p)
     loss_ends_behind IsDone ts on rests made =
@@ -388,11 +393,12 @@ module _ (s : Machine) (reached : Reached s) (p : ℕ) (there : p < length s.par
             drop_ends f fs all next is u ts (accepted (op.User (user_op.Drop f)) (left_to_close fs s.world) u next may) rests made
         by (loses_inside g f fs all b next same is) =
             loss_ends g f fs all b next same is u ts
-            (accepted (op.User (user_op.DropOutput g)) (left_of g ++ op.User (user_op.Drop f) ∷ left_to_close fs s.world) u next may) rests made
+            (accepted (op.User (user_op.DropOutput g)) (left_of g ++ op.User (user_op.Drop f) ∷ left_to_close fs s.world) u next may)
+            rests made
         by (behind next inside follows none) = absurd (no_answer s p there u next may)
         by (loses_behind g b nowhere none stops) =
-            loss_ends_behind g b nowhere none stops u ts (accepted (op.User (user_op.DropOutput g)) (left_of g ++ []) u stops.left may) rests
-            made
+            loss_ends_behind g b nowhere none stops u ts
+            (accepted (op.User (user_op.DropOutput g)) (left_of g ++ []) u stops.left may) rests made
 
     one_act : (t : Step) (ts : List Step) → party_of t ≡ p → may_act (reverse (stack s p)) t ≡ true
         → rests_after p ts (after s t) ≡ true → run_all (t ∷ ts) s ≡ Ok new → Reaches t (standing new p)

@@ -1,4 +1,4 @@
--- In the drop of a future in the executor's drop, calls of wakers and handles leave both alike, and the executor's drop goes on from its end.
+-- In the drop of a future in the executor's drop calls of wakers and handles leave both alike, and the executor's drop goes on behind it.
 use Rattle.std.proofs.Common.{◌≡◌, ℕ, ◌<◌, ◌≤◌, ◌==◌, ◌++◌, Bool, true, false, List, [], ◌∷◌, length, Option, Some, None}
 use Rattle.std.proofs.Common.{is_some, refl, sym, ap, subst, ◌∙◌, arith, get_or-set_same, get_or-set_other}
 use Rattle.executor_parts.specs.declared.mark.Mark.{Mark}
@@ -28,7 +28,8 @@ use Rattle.machine_roads.specs.Alike.{begins, refuses_first, refuses_second, upo
 use Rattle.machine_roads.specs.Losing.{IsLosing, StopsLosing, left_of, without_handle}
 use Rattle.machine_roads.specs.Lone.{EachLoneAlike, waits_for}
 use Rattle.machine_roads.specs.Course.{IsCall, cancel, copy, detach, drop_handle, poll_handle, release, use_waker, wake}
-use Rattle.machine_roads.specs.Closing.{CallsInDrop, ComesOn, DropGoesOn, IsInDrop, IsLosingInDrop, LoneDropRests, LosesInDrop, LossEndsInDrop}
+use Rattle.machine_roads.specs.Closing.{CallsInDrop, ComesOn, DropGoesOn, IsInDrop, IsLosingInDrop, LoneDropRests, LosesInDrop}
+use Rattle.machine_roads.specs.Closing.{LossEndsInDrop}
 use Rattle.machine_roads.specs.Closing.{called, loses}
 use Rattle.machine_roads.proofs.Beside.{Along, along, calls_beside, rest_goes, go_append}
 use Rattle.machine_roads.proofs.Calling.{cancels, copies_kept, detaches, handle_goes, uses_alike, waker_goes, wakes_kept}
@@ -173,7 +174,8 @@ module _ (fs all : List ℕ) (codes : List (Code Output Waker)) where
       abbrev e : Done
       e = called p hints below c w
 
-      there : Along Among fs w.leaving w.own p hints w (upon below (begins p None c (record w { table = fs }))) (upon below (begins p None c w))
+      there : Along Among fs w.leaving w.own p hints w (upon below (begins p None c (record w { table = fs })))
+          (upon below (begins p None c w))
       there = calls_beside Among fs w.leaving w.own p c w below hints off under (only_in w q is) has
 
       kept_so : e ≡ beside_done Among w.table w.leaving w.own e

@@ -81,6 +81,7 @@ pub mod RunTaking
 pub mod RunSearching
 pub mod TakenBeside
 pub mod RunLies
+pub mod RunGoesOn
 pub mod RunsOn
 pub mod LoneRunsOn
 pub mod LoneGoesOn

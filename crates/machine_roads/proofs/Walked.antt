@@ -56,7 +56,8 @@ module _ (Asked : World → Op → Type 0) (Fine : Machine → Type 0) (walks : 
       → run_all ts (after s t) ≡ Ok new → R (standing new p)
   step_on ts onwards s reached there t d goes leads may rests made =
       onwards (after s t) (ended p d.world d.next).next (reached-step s t may reached) (still-party p s t there) goes.todo
-      (subst (λ w. LeadsSoOf Asked p (done w (ended p d.world d.next).next) R) (sym goes.world) (leads_ended Asked walks.easy p R d.world d.next leads))
+      (subst (λ w. LeadsSoOf Asked p (done w (ended p d.world d.next).next) R) (sym goes.world)
+      (leads_ended Asked walks.easy p R d.world d.next leads))
       rests made
 
   walked : (ts : List Step) (s : Machine) (os : List Op) → Walking ts s os
@@ -72,8 +73,8 @@ module _ (Asked : World → Op → Type 0) (Fine : Machine → Type 0) (walks : 
       let whole = subst (λ n. run_all (Go n h ∷ ts) s ≡ Ok new) at made in
       by (walked ts) os is leads whole (subst (λ n. rests_after p ts (after s (Go n h)) ≡ true) at two.1)
     where
-      by : ((s : Machine) (os : List Op) → Walking ts s os) → (os : List Op) → reverse (stack s p) ≡ os → LeadsSoOf Asked p (done s.world os) R
-          → run_all (Go p h ∷ ts) s ≡ Ok new
+      by : ((s : Machine) (os : List Op) → Walking ts s os) → (os : List Op) → reverse (stack s p) ≡ os
+          → LeadsSoOf Asked p (done s.world os) R → run_all (Go p h ∷ ts) s ≡ Ok new
           → rests_after p ts (after s (Go p h)) ≡ true → R (standing new p)
       by onwards [] is leads whole rests = absurd (no_go s p there h is (run-first (Go p h) ts s new whole).0)
       by onwards (o ∷ os) is leads whole rests =
@@ -92,15 +93,18 @@ module _ (Asked : World → Op → Type 0) (Fine : Machine → Type 0) (walks : 
       let one = both_true (p == q) (calls_outside (top (stack s p))) two.0 in
       let at : q ≡ p = sym (same_of p q one.0) in
       let whole = subst (λ n. run_all (Answer n e ∷ ts) s ≡ Ok new) at made in
-      by (walked ts) os is leads (run-first (Answer p e) ts s new whole).0 one.1 (subst (λ n. rests_after p ts (after s (Answer n e)) ≡ true) at two.1)
+      by (walked ts) os is leads (run-first (Answer p e) ts s new whole).0 one.1
+      (subst (λ n. rests_after p ts (after s (Answer n e)) ≡ true) at two.1)
       (run-first (Answer p e) ts s new whole).1
     where
-      ends : ((s : Machine) (os : List Op) → Walking ts s os) → (o : Op) (os : List Op) → reverse (stack s p) ≡ o ∷ os → LeadsSoOf Asked p (done s.world (o ∷ os)) R → is_outside o ≡ true
+      ends : ((s : Machine) (os : List Op) → Walking ts s os) → (o : Op) (os : List Op) → reverse (stack s p) ≡ o ∷ os
+          → LeadsSoOf Asked p (done s.world (o ∷ os)) R → is_outside o ≡ true
           → refusal s (Answer p e) ≡ None → rests_after p ts (after s (Answer p e)) ≡ true → run_all ts (after s (Answer p e)) ≡ Ok new
           → R (standing new p)
       ends onwards (op.User (user_op.CallOutside x)) os is leads outside may rests made =
           step_on ts onwards s reached there (Answer p e) (done s.world os)
-          (answers p s there (op.User (user_op.CallOutside x)) os is e) (leads_outside Asked walks.easy p R x s.world os leads) may rests made
+          (answers p s there (op.User (user_op.CallOutside x)) os is e)
+          (leads_outside Asked walks.easy p R x s.world os leads) may rests made
       ends onwards o os is leads outside may rests made = absurd cc
 
       by : ((s : Machine) (os : List Op) → Walking ts s os) → (os : List Op) → reverse (stack s p) ≡ os

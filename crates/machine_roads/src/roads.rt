@@ -13,9 +13,11 @@ ghost use Rattle.machine_roads.specs.Alike.{WakerGoesAlike};
 ghost use Rattle.machine_roads.specs.Closing.{CallsInDrop, DropGoesOn, LosesInDrop, LossEndsInDrop};
 ghost use Rattle.machine_roads.specs.Dropped.{DropsAlikeInTake, LosesAlikeInTake};
 ghost use Rattle.machine_roads.specs.Forgotten.{ForgetsAlikeInTake, ForgottenGoesAlike};
+ghost use Rattle.machine_roads.specs.GoingOn.{RunDropsAlike, RunForgetsAlike, RunLosesAlike};
+ghost use Rattle.machine_roads.specs.GoingOn.{RunPendsAlike};
 ghost use Rattle.machine_roads.specs.Losing.{DetachesToLose, GoesToLose, LosesAlike};
 ghost use Rattle.machine_roads.specs.Road.{Follows};
-ghost use Rattle.machine_roads.specs.Searching.{RunTakesAlike};
+ghost use Rattle.machine_roads.specs.Searching.{RunLiesAlike, RunTakesAlike};
 ghost use Rattle.machine_roads.specs.Ticking.{TickGoesAlike, TickIsMadeAlike, TickIsPolledAlike};
 ghost use Rattle.machine_roads.specs.Stopped.{GivesAlikeInTake, PendsAlikeInTake, TriesAlike};
 
@@ -150,6 +152,22 @@ pub fn a_run_is_made_alike()
 /// searches again, or calls its own waker where that was the 200th.
 pub fn a_run_takes_alike()
     ensures { EachAlike RunTakesAlike }
+{}
+
+/// And where nothing is due it is answered, and both stand alike: it lies down, lies again with another
+/// waker, or is refused memory, before or once it lies.
+pub fn a_run_lies_alike()
+    ensures { EachAlike RunLiesAlike }
+{}
+
+/// Behind a future that it took, if that wasn't the 200th, it goes on so: once the poll of that future
+/// has ended without an output, or its drop, or the drop of an output that nobody can take, it comes to
+/// the next one or is answered, or stands in one of these drops.
+pub fn a_run_goes_on_alike()
+    ensures pends { EachAlike RunPendsAlike }
+    ensures drops { EachAlike RunDropsAlike }
+    ensures loses { RunLosesAlike }
+    ensures forgets { RunForgetsAlike }
 {}
 
 /// A leak leaves both alike, of an executor that isn't static.

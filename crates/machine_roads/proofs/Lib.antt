@@ -103,3 +103,4 @@ pub mod ActBegins
 pub mod ActEnds
 pub mod Acts
 pub mod OwnPolls
+pub mod ActsToEnd

@@ -10,17 +10,19 @@ use Rattle.executor_model.specs.declared.op.Waker.{Waker}
 use Rattle.executor_model.specs.declared.step.Step.{Step}
 use Rattle.executor_model.specs.declared.step.Step.TheVariants.{Answer, Begin, Go}
 use Rattle.executor_model.specs.Acts.{closing_ops}
-use Rattle.executor_model.specs.Steps.{Machine, stack}
+use Rattle.executor_model.specs.declared.kind.Kind.{Kind}
+use Rattle.executor_model.specs.Quiet.{IsQuiet}
+use Rattle.executor_model.specs.Steps.{Machine, is_static_kind, stack, start}
 use Rattle.executor_model.specs.World.{Done, World}
 use Rattle.plain_scheduler.specs.State.{Choice, Lose, Plain}
 use Rattle.plain_scheduler.specs.Calls as plain
-use Rattle.plain_scheduler.specs.Calls.{does}
+use Rattle.plain_scheduler.specs.Calls.{does, new}
 use Rattle.machine_roads.specs.View.{Output, wakes}
 use Rattle.machine_roads.specs.Road.{Follows}
 use Rattle.machine_roads.specs.Losing.{StopsLosing, left_of}
 use Rattle.machine_roads.specs.Lone.{NoneWaits}
 use Rattle.machine_roads.specs.Closing.{IsInDrop, IsLosingInDrop}
-use Rattle.machine_roads.specs.Within.{Act, ActsBy, IsAct, owes, standing}
+use Rattle.machine_roads.specs.Within.{Act, ActAlike, ActsBy, AreActs, IsAct, owes, standing}
 
 -- what is left to do of the executor's drop behind that of a future
 abbrev pub left_to_close : List ℕ → World → List Op
@@ -59,3 +61,21 @@ DropActsAlike s q =
     → AreDropActs a.left acts
     → StandsDropping (standing a.left a.party) (does wakes d plain.DropExecutor q)
     × DropActAlike a.left (does wakes d plain.DropExecutor q) acts
+
+-- the machine that acts leave, and the plain scheduler
+abbrev pub left_by : Machine → List Act → Machine
+left_by s [] = s
+left_by s (a ∷ acts) = left_by a.left acts
+
+abbrev pub plain_behind : (acts : List Act) (s : Machine) (q : Plain Output Waker) → ActAlike s q acts → Plain Output Waker
+plain_behind [] s q alike = q
+plain_behind (a ∷ acts) s q alike = plain_behind acts a.left alike.0 alike.3
+
+-- from a new machine on both act alike, and, where no call is in progress any more, from the executor's drop on
+abbrev pub ListsActToTheEnd : Type 0
+ListsActToTheEnd =
+    (limit : ℕ) (kind : Kind) (parties : ℕ) (acts : List Act) → AreActs (start limit kind parties) acts
+    → IsQuiet (left_by (start limit kind parties) acts).world.trace
+    → (alike : ActAlike (start limit kind parties) (new limit (is_static_kind kind)) acts)
+    × DropActsAlike (left_by (start limit kind parties) acts)
+    (plain_behind acts (start limit kind parties) (new limit (is_static_kind kind)) alike)

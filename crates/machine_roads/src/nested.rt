@@ -1,6 +1,6 @@
 //! Calls that a party makes one inside another, in the polls and drops that its calls come to, are
 //! calls of the plain scheduler.
-ghost use Rattle.machine_roads.specs.DropActs.{DropActsAlike};
+ghost use Rattle.machine_roads.specs.DropActs.{DropActsAlike, ListsActToTheEnd};
 ghost use Rattle.machine_roads.specs.Lone.{EachLoneAlike};
 ghost use Rattle.machine_roads.specs.Within.{ListsActAlike};
 
@@ -19,4 +19,10 @@ pub fn lists_of_nested_calls_go_alike()
 /// begins in the drop of an output.
 pub fn calls_nested_in_the_executors_drop_go_alike()
     ensures { EachLoneAlike DropActsAlike }
+{}
+
+/// So it is from a new machine on to the end: such calls, and then, where no call is in progress any
+/// more, the executor's drop with the calls inside of it and behind it.
+pub fn lists_of_nested_calls_go_alike_to_the_end()
+    ensures { ListsActToTheEnd }
 {}

@@ -96,3 +96,4 @@ pub mod RunsBeside
 pub mod Counting
 pub mod RunHere
 pub mod ActLands
+pub mod ActCodes

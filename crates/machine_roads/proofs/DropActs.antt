@@ -159,7 +159,7 @@ module _ (s : Machine) (reached : Reached s) (p : ℕ) (there : p < length s.par
   acts c x r is = record { choice = choice r; made = x; chosen = chosen_in s q r; is = begins_by c x is; so = refl }
 
   end_acts : ActsBy s p (Answer p IsDone) q (does wakes granted plain.Ends q)
-  end_acts = record { choice = granted; made = plain.Ends; chosen = chosen_in s q Granted; is = ends_by; so = refl }
+  end_acts = record { choice = granted; made = plain.Ends; chosen = (chosen_in s q Granted).tells; is = ends_by; so = refl }
 
   -- the executor's calls are refused
   no_executors : (c : Call) → refusal s (Begin p c) ≡ None → is_on_executor c ≡ true → ⊥

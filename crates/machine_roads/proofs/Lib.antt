@@ -103,4 +103,10 @@ pub mod ActBegins
 pub mod ActEnds
 pub mod Acts
 pub mod OwnPolls
+pub mod RunApart
+pub mod RunsBeside
+pub mod Counting
+pub mod RunHere
+pub mod ActLands
+pub mod ActCodes
 pub mod ActsToEnd

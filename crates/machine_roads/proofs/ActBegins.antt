@@ -1,6 +1,6 @@
 -- A call that begins where a party stands in code of calls one inside another, or does nothing: where it rests first, both stand alike.
-use Rattle.std.proofs.Common.{◌≡◌, ℕ, suc, ◌<◌, ◌≤◌, ◌&&◌, not, Bool, true, false, List, [], ◌∷◌, length, Option, Some, None}
-use Rattle.std.proofs.Common.{is_some as is_there, refl, sym, ap, subst, ◌∙◌, arith}
+use Rattle.std.proofs.Common.{◌≡◌, ℕ, suc, ◌<◌, ◌≤◌, ◌&&◌, not, Bool, true, false, List, [], ◌∷◌, ◌++◌, length, Option, Some, None}
+use Rattle.std.proofs.Common.{is_some as is_there, slice_get, if◌then◌else◌, refl, sym, ap, subst, ◌∙◌, arith}
 use Rattle.std.specs.Prelude.{reverse}
 use Rattle.executor_parts.specs.Marks.{first_of}
 use Rattle.executor_model.specs.declared.call.By.{By}
@@ -18,9 +18,10 @@ use Rattle.executor_model.specs.Steps.{Machine, begin_refusal, future_of, has_al
 use Rattle.executor_model.specs.Steps.{is_known, is_there as is_in_use}
 use Rattle.executor_model.specs.World.{Done, done, run_of, task}
 use Rattle.executor_model.proofs.Steps.Reached.{Reached}
-use Rattle.plain_scheduler.specs.State.{AtOnce, Choice, Granted, Plain, Refusal, Taker, Tick, Try}
+use Rattle.plain_scheduler.specs.State.{AtOnce, Choice, Finished, Granted, Plain, PollOwn, Refusal, Taker, Tick, Try}
 use Rattle.plain_scheduler.specs.Moves as plain
-use Rattle.plain_scheduler.specs.Moves.{tell}
+use Rattle.plain_scheduler.specs.Lists.{or}
+use Rattle.plain_scheduler.specs.Moves.{answers, enters, tell}
 use Rattle.plain_scheduler.specs.Calls as plain_calls
 use Rattle.plain_scheduler.specs.Calls.{does, is_granted}
 use Rattle.machine_roads.specs.View.{Output, wakes}
@@ -28,13 +29,15 @@ use Rattle.machine_roads.specs.Road.{Follows}
 use Rattle.machine_roads.specs.Alone.{alone, is_resting}
 use Rattle.machine_roads.specs.Alike.{begins, refused_first, refuses_first, refuses_second, upon, LeavesAlike}
 use Rattle.machine_roads.specs.Course.{IsChosen}
-use Rattle.machine_roads.specs.Stopped.{Finally, Stops, of_tick, of_try}
-use Rattle.machine_roads.specs.Within.{ActsBy, IsCallIn, Nested, StandsAlike, alike, begins as begins_by, losing, may_stand_in, takes}
+use Rattle.machine_roads.specs.Losing.{StopsLosing, left_of}
+use Rattle.machine_roads.specs.Stopped.{Stops}
+use Rattle.machine_roads.specs.Within.{ActsBy, GoesOnBy, IsCallIn, Nested, alike, by_tick, by_try, begins as begins_by, losing, may_stand_in, takes}
 use Rattle.machine_roads.specs.Within.{cancel, copy, detach, drop_handle, drop_tick, is_empty, keep, leak, new_run, new_tick, poll_handle}
 use Rattle.machine_roads.specs.Within.{poll_run, poll_tick, polls_own, release, spawn, try_tick, use_waker, wake, wake_self}
 use Rattle.machine_roads.proofs.Calling.{cancels, copies_kept, detaches, empty_alike, handle_goes, keeps_own, spawns, uses_alike}
 use Rattle.machine_roads.proofs.Calling.{waker_goes, wakes_itself, wakes_kept}
 use Rattle.machine_roads.proofs.Cancelling.{cancel_output}
+use Rattle.machine_roads.proofs.Counting.{Alike, Comes as Comes_to, Counted, StandsSo, at_end, comes, in_code, like, makes_counted}
 use Rattle.machine_roads.proofs.Exchanging.{loudly}
 use Rattle.machine_roads.proofs.Inmost.{rests_in, wakes_none}
 use Rattle.machine_roads.proofs.Inside.{cancel_inside, copy_inside, detach_inside, drop_inside, handle_inside, poll_inside}
@@ -46,6 +49,8 @@ use Rattle.machine_roads.proofs.Losing.{detaches_to_lose, goes_to_lose}
 use Rattle.machine_roads.proofs.LyingDown.{polls_tick_so}
 use Rattle.machine_roads.proofs.OwnPolls.{Polls, at_once, in_own, its_poll, polls_run}
 use Rattle.machine_roads.proofs.PollCalls.{polls}
+use Rattle.machine_roads.proofs.RunsBeside.{cancel_runs, copy_runs, detach_runs, drop_runs, handle_runs, leak_runs, poll_runs, poll_tick_runs}
+use Rattle.machine_roads.proofs.RunsBeside.{release_runs, spawn_runs, tick_runs, try_runs, use_runs, wake_runs}
 use Rattle.machine_roads.proofs.RunsMade.{makes_run}
 use Rattle.machine_roads.proofs.Standing.{stops_so}
 use Rattle.machine_roads.proofs.Ticking.{makes_tick, tick_goes}
@@ -76,7 +81,7 @@ choice_in s q r =
       refusal = r;
     }
 
-more_by_one : (n : ℕ) → n < suc n
+pub more_by_one : (n : ℕ) → n < suc n
 more_by_one n = omega arith
 
 pub enough : (n : ℕ) → n ≤ suc n
@@ -86,7 +91,7 @@ pub chosen_in : (s : Machine) (q : Plain Output Waker) (r : Refusal) → IsChose
 chosen_in s q r = record { first = refl; tells = more_by_one (length q.lying) }
 
 module _ (s : Machine) (reached : Reached s) (p : ℕ) (q : Plain Output Waker) (follows : Follows s.world q)
-    (nested : Nested (reverse (stack s p)) q.inside) where
+    (nested : Nested (reverse (stack s p)) q.inside) (counted : Counted (reverse (stack s p)) q.runs) where
   abbrev choice : Refusal → Choice
   choice r = choice_in s q r
 
@@ -106,7 +111,7 @@ module _ (s : Machine) (reached : Reached s) (p : ℕ) (q : Plain Output Waker) 
   many = enough (length q.lying)
 
   abbrev Comes : Call → Done → Type 0
-  Comes c e = (r : Plain Output Waker) × ActsBy s p (Begin p c) q r × StandsAlike e r
+  Comes c e = (r : Plain Output Waker) × ActsBy s p (Begin p c) q r × StandsSo e r
 
   abbrev Leads : Call → Type 0
   Leads c = LeadsSo p (upon below (begins p here c s.world)) (Comes c)
@@ -117,29 +122,53 @@ module _ (s : Machine) (reached : Reached s) (p : ℕ) (q : Plain Output Waker) 
 
   -- a call that comes to no user code
   quick : (c : Call) (x : plain_calls.Call Output Waker) (r : Refusal) → IsCallIn here s.world c x
-      → (does wakes (choice r) x q).inside ≡ q.inside → (e : Done) → e.next ≡ below → Follows e.world (does wakes (choice r) x q)
-      → Comes c e
-  quick c x r is inside e at leaves =
+      → (does wakes (choice r) x q).inside ≡ q.inside → Counted below (does wakes (choice r) x q).runs → (e : Done) → e.next ≡ below
+      → Follows e.world (does wakes (choice r) x q) → Comes c e
+  quick c x r is inside count e at leaves =
       let z : Plain Output Waker = does wakes (choice r) x q in (
         z,
         acts c x r is,
-        alike (subst (λ os. Nested os z.inside) (sym at) (subst (λ codes. Nested below codes) (sym inside) nested)) leaves,
+        record {
+          alike = alike (subst (λ os. Nested os z.inside) (sym at) (subst (λ codes. Nested below codes) (sym inside) nested)) leaves;
+          counted = subst (λ os. Counted os z.runs) (sym at) count;
+        },
       )
 
+  -- where no run changes
+  stays : (z : Plain Output Waker) → z.runs ≡ q.runs → Counted below z.runs
+  stays z runs = subst (Counted below) (sym runs) counted
+
   plainly : (c : Call) (x : plain_calls.Call Output Waker) → IsCallIn here s.world c x
-      → (does wakes (choice Granted) x q).inside ≡ q.inside
+      → (does wakes (choice Granted) x q).inside ≡ q.inside → (does wakes (choice Granted) x q).runs ≡ q.runs
       → LeavesAlike p below (begins p here c s.world) (does wakes (choice Granted) x q) → Leads c
-  plainly c x is inside leaves hints all rests =
+  plainly c x is inside runs leaves hints all rests =
       let e = leaves hints tt all rests in
-      quick c x Granted is inside (alone p hints (upon below (begins p here c s.world))) e.0 e.1
+      quick c x Granted is inside (stays (does wakes (choice Granted) x q) runs) (alone p hints (upon below (begins p here c s.world))) e.0 e.1
 
   -- one that takes a future
   take : (c : Call) (x : plain_calls.Call Output Waker) (r : Refusal) → IsCallIn here s.world c x → (taker : Taker Waker) (final : Op)
-      → ((q : Plain Output Waker) → Finally q taker final) → (e : Done) → Stops taker final below q e (does wakes (choice r) x q)
-      → Comes c e
-  take c x r is taker final it e stops =
-      let z : Plain Output Waker = does wakes (choice r) x q in
-      (z, acts c x r is, alike (takes taker final below e.next q.inside z.inside it nested stops.stopped) stops.follows)
+      → GoesOnBy taker final → Alike below (final ∷ below) → (e : Done) → (does wakes (choice r) x q).runs ≡ q.runs
+      → Stops taker final below q e (does wakes (choice r) x q) → Comes c e
+  take c x r is taker final it same e runs stops =
+      let z : Plain Output Waker = does wakes (choice r) x q in (
+        z,
+        acts c x r is,
+        record {
+          alike = alike (takes taker final below e.next q.inside z.inside it nested stops.stopped) stops.follows;
+          counted = by (comes taker final below q.inside e.next z.inside stops.stopped);
+        },
+      )
+    where
+      z : Plain Output Waker
+      z = does wakes (choice r) x q
+
+      by : Comes_to final below q.inside e.next z.inside → Counted e.next z.runs
+      by (at_end at codes) = subst (λ os. Counted os z.runs) (sym at) (stays z runs)
+      by (in_code code) = like (final ∷ below) e.next z.runs code (like below (final ∷ below) z.runs same (stays z runs))
+
+  -- what is nothing to runs is done first
+  above : (os : List Op) (e : Done) → e.next ≡ os → Alike below os → (z : Plain Output Waker) → z.runs ≡ q.runs → Counted e.next z.runs
+  above os e at same z runs = subst (λ os. Counted os z.runs) (sym at) (like below os z.runs same (stays z runs))
 
   there : (c : Call) → begin_refusal s.world s.parties its c ≡ None → has_all s.world s.parties its c ≡ true
   there c may = there_all s.world s.parties its c may
@@ -150,29 +179,39 @@ module _ (s : Machine) (reached : Reached s) (p : ℕ) (q : Plain Output Waker) 
   kept_output : (f : ℕ) → (plain.task f (plain_calls.cancel wakes (choice Granted) f q)).output ≡ (plain.task f q).output
   kept_output f = cancel_output (tell wakes (choice Granted)) (loudly 0 (done s.world []) refl (choice Granted)).outputs f q
 
+  -- in the drop of an output
+  lossy : (f : ℕ) (e : Done) (z : Plain Output Waker) → z.runs ≡ q.runs → StopsLosing f below q e z → StandsSo e z
+  lossy f e z runs stops = record {
+    alike = losing f below q nested stops;
+    counted =
+        above (op.User (user_op.DropOutput f) ∷ (left_of f ++ below)) e stops.left (record { last = λ r. refl; left = λ r. refl }) z runs;
+  }
+
   -- a handle that goes
   detached : (f : ℕ) (o : Option Output) → (plain.task f q).output ≡ o → Leads (call.Detach f)
   detached f None off =
-      plainly (call.Detach f) (plain_calls.Detach f) (detach f) (detach_inside (choice Granted) q f None off)
+      plainly (call.Detach f) (plain_calls.Detach f) (detach f) (detach_inside (choice Granted) q f None off) (detach_runs (choice Granted) q f)
       (detaches p below under here s.world q follows (choice Granted) f off many)
   detached f (Some v) some = λ hints all rests.
       let x : plain_calls.Call Output Waker = plain_calls.Detach f in (
         does wakes (choice Granted) x q,
         acts (call.Detach f) x Granted (detach f),
-        losing f below q nested
+        lossy f (alone p hints (upon below (begins p here (call.Detach f) s.world))) (does wakes (choice Granted) x q)
+            (detach_runs (choice Granted) q f)
             (detaches_to_lose p here below s.world q under follows (choice Granted) f (ap (λ o. is_there o) some) hints all rests),
       )
 
   gone : (f : ℕ) (o : Option Output) → (plain.task f q).output ≡ o → Leads (call.DropHandle f)
   gone f None off =
       plainly (call.DropHandle f) (plain_calls.DropHandle f) (drop_handle f)
-      (handle_inside (choice Granted) q f None (kept_output f ∙ off))
+      (handle_inside (choice Granted) q f None (kept_output f ∙ off)) (handle_runs (choice Granted) q f)
       (handle_goes p below under here s.world q follows (choice Granted) f off many)
   gone f (Some v) some = λ hints all rests.
       let x : plain_calls.Call Output Waker = plain_calls.DropHandle f in (
         does wakes (choice Granted) x q,
         acts (call.DropHandle f) x Granted (drop_handle f),
-        losing f below q nested
+        lossy f (alone p hints (upon below (begins p here (call.DropHandle f) s.world))) (does wakes (choice Granted) x q)
+            (handle_runs (choice Granted) q f)
             (goes_to_lose p here below s.world q under follows (choice Granted) f (ap (λ o. is_there o) some) hints all rests),
       )
 
@@ -182,55 +221,55 @@ module _ (s : Machine) (reached : Reached s) (p : ℕ) (q : Plain Output Waker) 
       let b = refused_first hints in
       let r = refused_as b in
       let e = spawns p below under here s.world q follows (choice r) m many hints (granted_as b) all rests in
-      quick (call.Spawn m) (plain_calls.Spawn m) r (spawn m) (spawn_inside (choice r) q m)
+      quick (call.Spawn m) (plain_calls.Spawn m) r (spawn m) (spawn_inside (choice r) q m) (stays (does wakes (choice r) (plain_calls.Spawn m) q) (spawn_runs (choice r) q m))
       (alone p hints (upon below (begins p here (call.Spawn m) s.world))) e.0 e.1
   one_begins call.TryTick on may = λ hints all rests.
       let e = alone p hints (upon below (begins p here call.TryTick s.world)) in
       let x : plain_calls.Call Output Waker = plain_calls.TryTick in
-      take call.TryTick x Granted try_tick Try yes (λ q. of_try) e
+      take call.TryTick x Granted try_tick Try yes by_try (record { last = λ r. refl; left = λ r. refl }) e (try_runs (choice Granted) q)
       (stops_so Try yes below q e (does wakes (choice Granted) x q)
       (tries_so p below s.world q under follows (choice Granted) refl many hints all rests))
   one_begins call.IsEmpty on may =
-      plainly call.IsEmpty plain_calls.IsEmpty is_empty refl (empty_alike p below under here s.world q follows (choice Granted))
+      plainly call.IsEmpty plain_calls.IsEmpty is_empty refl refl (empty_alike p below under here s.world q follows (choice Granted))
   one_begins (call.Wake k) on may =
       let f = kept_one k (there (call.Wake k) may) in
-      plainly (call.Wake k) (plain_calls.Use f.0) (use_waker k f.0 f.1) (use_inside (choice Granted) q f.0)
+      plainly (call.Wake k) (plain_calls.Use f.0) (use_waker k f.0 f.1) (use_inside (choice Granted) q f.0) (use_runs (choice Granted) q f.0)
       (uses_alike p below under here s.world q follows (choice Granted) k f.0 f.1 many)
   one_begins (call.WakeByRef k) on may =
       let f = some_kept (kept s.world k) (there (call.WakeByRef k) may) in
-      plainly (call.WakeByRef k) (plain_calls.Wake f.0) (wake k f.0 f.1) (wake_inside (choice Granted) q f.0)
+      plainly (call.WakeByRef k) (plain_calls.Wake f.0) (wake k f.0 f.1) (wake_inside (choice Granted) q f.0) (wake_runs (choice Granted) q f.0)
       (wakes_kept p below under here s.world q follows (choice Granted) k f.0 f.1 many)
   one_begins (call.Copy k) on may = λ hints all rests.
       let f = some_kept (kept s.world k) (there (call.Copy k) may) in
       let b = refuses_first hints (task s.world f.0) in
       let r = refused_as b in
       let e = copies_kept p below under here s.world q follows (choice r) k f.0 f.1 hints (granted_as b) all rests in
-      quick (call.Copy k) (plain_calls.Copy f.0) r (copy k f.0 f.1) (copy_inside (choice r) q f.0)
+      quick (call.Copy k) (plain_calls.Copy f.0) r (copy k f.0 f.1) (copy_inside (choice r) q f.0) (stays (does wakes (choice r) (plain_calls.Copy f.0) q) (copy_runs (choice r) q f.0))
       (alone p hints (upon below (begins p here (call.Copy k) s.world))) e.0 e.1
   one_begins (call.DropWaker k) on may =
       let f = kept_one k (there (call.DropWaker k) may) in
-      plainly (call.DropWaker k) (plain_calls.Release f.0) (release k f.0 f.1) (release_inside (choice Granted) q f.0)
+      plainly (call.DropWaker k) (plain_calls.Release f.0) (release k f.0 f.1) (release_inside (choice Granted) q f.0) (release_runs (choice Granted) q f.0)
       (waker_goes p below under here s.world q follows (choice Granted) k f.0 f.1 many)
   one_begins call.Keep on may = λ hints all rests.
       let f = some_kept (future_of here) (there call.Keep may) in
       let b = refuses_first hints (task s.world f.0) in
       let r = refused_as b in
       let e = keeps_own p below under here s.world q follows (choice r) f.0 f.1 hints (granted_as b) all rests in
-      quick call.Keep (plain_calls.Copy f.0) r (keep f.0 f.1) (copy_inside (choice r) q f.0)
+      quick call.Keep (plain_calls.Copy f.0) r (keep f.0 f.1) (copy_inside (choice r) q f.0) (stays (does wakes (choice r) (plain_calls.Copy f.0) q) (copy_runs (choice r) q f.0))
       (alone p hints (upon below (begins p here call.Keep s.world))) e.0 e.1
   one_begins call.WakeSelf on may =
       let f = some_kept (future_of here) (there call.WakeSelf may) in
-      plainly call.WakeSelf (plain_calls.Wake f.0) (wake_self f.0 f.1) (wake_inside (choice Granted) q f.0)
+      plainly call.WakeSelf (plain_calls.Wake f.0) (wake_self f.0 f.1) (wake_inside (choice Granted) q f.0) (wake_runs (choice Granted) q f.0)
       (wakes_itself p below under here s.world q follows (choice Granted) f.0 f.1 many)
   one_begins (call.PollHandle f b) on may = λ hints all rests.
       let a = waker_of here b in
       let x = refuses_second hints s.world a in
       let r = refused_as x in
       let e = polls p here below s.world q under follows (choice r) f b many hints (λ waits. granted_as x) all rests in
-      quick (call.PollHandle f b) (plain_calls.PollHandle f a) r (poll_handle f b) (poll_inside (choice r) q f a)
+      quick (call.PollHandle f b) (plain_calls.PollHandle f a) r (poll_handle f b) (poll_inside (choice r) q f a) (stays (does wakes (choice r) (plain_calls.PollHandle f a) q) (poll_runs (choice r) q f a))
       (alone p hints (upon below (begins p here (call.PollHandle f b) s.world))) e.0 e.1
   one_begins (call.Cancel f) on may =
-      plainly (call.Cancel f) (plain_calls.Cancel f) (cancel f) (cancel_inside (choice Granted) q f)
+      plainly (call.Cancel f) (plain_calls.Cancel f) (cancel f) (cancel_inside (choice Granted) q f) (cancel_runs (choice Granted) q f)
       (cancels p below under here s.world q follows (choice Granted) f many)
   one_begins (call.Detach f) on may = detached f (plain.task f q).output refl
   one_begins (call.DropHandle f) on may = gone f (plain.task f q).output refl
@@ -238,7 +277,7 @@ module _ (s : Machine) (reached : Reached s) (p : ℕ) (q : Plain Output Waker) 
       let b = refused_first hints in
       let r = refused_as b in
       let e = makes_tick p here below s.world q under follows (choice r) hints (granted_as b) all rests in
-      quick call.NewTick plain_calls.NewTick r new_tick (tick_inside (choice r) q)
+      quick call.NewTick plain_calls.NewTick r new_tick (tick_inside (choice r) q) (stays (does wakes (choice r) (plain_calls.NewTick) q) (tick_runs (choice r) q))
       (alone p hints (upon below (begins p here call.NewTick s.world))) e.0 e.1
   one_begins (call.PollTick t b) on may = λ hints all rests.
       let a = waker_of here b in
@@ -248,14 +287,15 @@ module _ (s : Machine) (reached : Reached s) (p : ℕ) (q : Plain Output Waker) 
       let so =
       polls_tick_so p here below s.world q under follows (choice Granted) t b refl (more_by_one (length q.lying))
       (can_poll s reached p t b may) hints all rests in
-      take (call.PollTick t b) x so.0 (poll_tick t b) (Tick t a) final (λ q. of_tick t a) e
+      take (call.PollTick t b) x so.0 (poll_tick t b) (Tick t a) final (by_tick t a) (record { last = λ r. refl; left = λ r. refl }) e
+      (poll_tick_runs (choice so.0) q t a)
       (stops_so (Tick t a) final below q e (does wakes (choice so.0) x q) so.1)
   one_begins (call.DropTick t) on may =
-      plainly (call.DropTick t) (plain_calls.DropTick t) (drop_tick t) (drop_inside (choice Granted) q t)
+      plainly (call.DropTick t) (plain_calls.DropTick t) (drop_tick t) (drop_inside (choice Granted) q t) (drop_runs (choice Granted) q t)
       (tick_goes p here below s.world q under follows (choice Granted) t many)
   one_begins call.NewRun on may = λ hints all rests.
       let e = makes_run p here below s.world q under follows (choice Granted) hints all rests in
-      quick call.NewRun plain_calls.NewRun e.0 new_run (run_inside (choice e.0) q)
+      quick call.NewRun plain_calls.NewRun e.0 new_run (run_inside (choice e.0) q) (makes_counted below (choice e.0) q counted)
       (alone p hints (upon below (begins p here call.NewRun s.world))) e.1 e.2
   one_begins (call.PollRun r b) on may = λ hints all rests.
       let a = waker_of here b in
@@ -269,23 +309,35 @@ module _ (s : Machine) (reached : Reached s) (p : ℕ) (q : Plain Output Waker) 
           (both_true (is_in_use (run_of s.world r)) (is_unused (running_of r) s.parties)
           (both_true (is_in_use (run_of s.world r) && is_unused (running_of r) s.parties) (is_known its b) has).0).0
 
+      polled_runs : (r : ℕ) (a : Waker) → (does wakes (choice Granted) (plain_calls.PollRun r a) q).runs ≡ q.runs
+      polled_runs r a = whether (or (slice_get q.runs r) (λ run. run.is_over) true)
+        where
+          whether : (o : Bool) → (if o then answers Finished q else enters (PollOwn r a) q).runs ≡ q.runs
+          whether true = refl
+          whether false = refl
+
       by : (r : ℕ) (b : By) (e : Done) → Polls p here below under s.world q follows (choice Granted) r b e → Comes (call.PollRun r b) e
       by r b e (at_once next inside leaves) =
-          quick (call.PollRun r b) (plain_calls.PollRun r (waker_of here b)) Granted (poll_run r b) inside e next leaves
+          quick (call.PollRun r b) (plain_calls.PollRun r (waker_of here b)) Granted (poll_run r b) inside (stays (does wakes (choice Granted) (plain_calls.PollRun r (waker_of here b)) q) (polled_runs r (waker_of here b))) e next leaves
       by r b e (in_own next inside leaves) =
           let x : plain_calls.Call Output Waker = plain_calls.PollRun r (waker_of here b) in
           let z : Plain Output Waker = does wakes (choice Granted) x q in (
             z,
             acts (call.PollRun r b) x Granted (poll_run r b),
-            alike
-                (subst (λ os. Nested os z.inside) (sym next)
-                (subst (λ codes. Nested (op.User (user_op.PollOwn (its_poll p here below under s.world q follows (choice Granted) r b)) ∷ below) codes)
-                (sym inside)
-                (polls_own (its_poll p here below under s.world q follows (choice Granted) r b) below q.inside nested)))
-                leaves,
+            record {
+              alike = alike
+                  (subst (λ os. Nested os z.inside) (sym next)
+                  (subst (λ codes. Nested (op.User (user_op.PollOwn (its_poll p here below under s.world q follows (choice Granted) r b)) ∷ below) codes)
+                  (sym inside)
+                  (polls_own (its_poll p here below under s.world q follows (choice Granted) r b) below q.inside nested)))
+                  leaves;
+              counted =
+                  above (op.User (user_op.PollOwn (its_poll p here below under s.world q follows (choice Granted) r b)) ∷ below) e next
+                  (record { last = λ r. refl; left = λ r. refl }) z (polled_runs r (waker_of here b));
+            },
           )
   one_begins call.Leak on may =
-      plainly call.Leak plain_calls.Leak leak (leak_inside (choice Granted) q)
+      plainly call.Leak plain_calls.Leak leak (leak_inside (choice Granted) q) (leak_runs (choice Granted) q)
       (leaks p here below s.world q under follows (choice Granted)
       (sym follows.kind ∙ owned_by s.world s.parties its call.Leak refl refl may) (wakes_none below q.inside nested) many)
   one_begins c on may = absurd cc

@@ -29,10 +29,11 @@ use Rattle.machine_roads.specs.Road.{Follows}
 use Rattle.machine_roads.specs.Alone.{is_outside, is_resting}
 use Rattle.machine_roads.specs.Dropped.{answered, loses}
 use Rattle.machine_roads.specs.Within.{Act, ActAlike, ActsBy, AreActs, ListsActAlike, Nested, StandsAlike, alike, calls_outside}
-use Rattle.machine_roads.specs.Within.{dropping, forgetting, goes_on, is_on_way, is_own_pending, losing, may_stand_in, nowhere, owes, rests_after, standing}
+use Rattle.machine_roads.specs.Within.{dropping, forgetting, goes_on, is_on_way, losing, may_stand_in, nowhere, owes, rests_after, standing}
 use Rattle.machine_roads.proofs.ActBegins.{one_begins}
 use Rattle.machine_roads.proofs.ActEnds.{code_ends}
 use Rattle.machine_roads.proofs.Calling.{begin_alike}
+use Rattle.machine_roads.proofs.Counting.{StandsSo}
 use Rattle.machine_roads.proofs.Inmost.{rests_in}
 use Rattle.machine_roads.proofs.Lists.{apart_of, clash, equal, same_of}
 use Rattle.machine_roads.proofs.LoneRuns.{both_true, made_is, not_true, passed, tells, within}
@@ -81,7 +82,7 @@ act_open s new p (Answer q e) ts on its rests made open_now =
 
 -- and the other parties do nothing
 
-goes_rest : (ts : List Step) (s new : Machine) (p : ℕ) → rests_after p ts s ≡ true → run_all ts s ≡ Ok new → OthersRest p s
+pub goes_rest : (ts : List Step) (s new : Machine) (p : ℕ) → rests_after p ts s ≡ true → run_all ts s ≡ Ok new → OthersRest p s
     → OthersRest p new
 goes_rest [] s new p rests made others = subst (λ (m : Machine). OthersRest p m) (made_is s new made) others
 goes_rest (t ∷ ts) s new p rests made others =
@@ -103,7 +104,7 @@ rests_alike e q (dropping taker final below f b it nested (loses awaiter next in
 rests_alike e q (forgetting taker final below f b it nested stops) = ap (λ os. is_resting os) stops.left
 
 -- who rests does nothing of its own
-no_go_resting : (s : Machine) (p : ℕ) → p < length s.parties → (h : Hint) (os : List Op) → reverse (stack s p) ≡ os
+pub no_go_resting : (s : Machine) (p : ℕ) → p < length s.parties → (h : Hint) (os : List Op) → reverse (stack s p) ≡ os
     → is_resting os ≡ true → refusal s (Go p h) ≡ None → ⊥
 no_go_resting s p there h [] is resting may = no_go s p there h is may
 no_go_resting s p there h (o ∷ os) is resting may =
@@ -114,19 +115,19 @@ no_go_resting s p there h (o ∷ os) is resting may =
     (not_true (waits o) (passed (not (waits o)) WrongAnswer (unless (not (is_locked_out s.world.lock o)) Waits None) goes))
     (both_true (waits o) (not (is_outside o)) resting).0
 
-module _ (s : Machine) (reached : Reached s) (p : ℕ) (q : Plain Output Waker) (so : StandsAlike (standing s p) q) (new : Machine)
-    (later : new.world.gone ≡ false) (open_still : s.world.gone ≡ false) (there : p < length s.parties) where
+module _ (s : Machine) (reached : Reached s) (p : ℕ) (q : Plain Output Waker) (stands : StandsSo (standing s p) q) (new : Machine)
+    (later : new.world.gone ≡ false) (open_still : s.world.gone ≡ false) (others : OthersRest p s) (there : p < length s.parties) where
   abbrev Comes : Step → Type 0
-  Comes t = (r : Plain Output Waker) × ActsBy s p t q r × StandsAlike (standing new p) r
+  Comes t = (r : Plain Output Waker) × ActsBy s p t q r × StandsSo (standing new p) r
 
   call_begins : (c : Call) (ts : List Step) → may_stand_in c ≡ true → owes (reverse (stack s p)) ≡ false
       → rests_after p ts (after s (Begin p c)) ≡ true → run_all (Begin p c ∷ ts) s ≡ Ok new → Comes (Begin p c)
-  call_begins c ts on even rests made = by so
+  call_begins c ts on even rests made = by stands.alike
     where
       begins : Nested (reverse (stack s p)) q.inside → Follows s.world q → Comes (Begin p c)
       begins nested follows =
-          begun_leads p (λ e. (r : Plain Output Waker) × ActsBy s p (Begin p c) q r × StandsAlike e r) new later c ts s reached there
-          (one_begins s reached p q follows nested c on (may_begin s p c (run-first (Begin p c) ts s new made).0)) rests made
+          begun_leads p (λ e. (r : Plain Output Waker) × ActsBy s p (Begin p c) q r × StandsSo e r) new later c ts s reached there
+          (one_begins s reached p q follows nested stands.counted c on (may_begin s p c (run-first (Begin p c) ts s new made).0)) rests made
 
       by : StandsAlike (standing s p) q → Comes (Begin p c)
       by (alike nested follows) = begins nested follows
@@ -146,25 +147,25 @@ module _ (s : Machine) (reached : Reached s) (p : ℕ) (q : Plain Output Waker) 
       (subst (λ n. run_all (Begin n c ∷ ts) s ≡ Ok new) its made))
   one_act (Go r h) ts its on rests made =
       let may = subst (λ n. refusal s (Go n h) ≡ None) its (run-first (Go r h) ts s new made).0 in
-      absurd (no_go_resting s p there h (reverse (stack s p)) refl (rests_alike (standing s p) q so) may)
+      absurd (no_go_resting s p there h (reverse (stack s p)) refl (rests_alike (standing s p) q stands.alike) may)
   one_act (Answer r u) ts its on rests made =
       let whole = subst (λ n. run_all (Answer n u ∷ ts) s ≡ Ok new) its made in
       let e =
-      code_ends s reached p there open_still q so u (not_true (is_own_pending (reverse (stack s p)) u) on)
+      code_ends s reached p there open_still others q stands.counted stands.alike u
       (run-first (Answer p u) ts s new whole).0 in
       subst (λ n. Comes (Answer n u)) (sym its)
-      (answer_leads p (λ e. (r : Plain Output Waker) × ActsBy s p (Answer p u) q r × StandsAlike e r) new later u e.first e.rest ts s
+      (answer_leads p (λ e. (r : Plain Output Waker) × ActsBy s p (Answer p u) q r × StandsSo e r) new later u e.first e.rest ts s
       reached there e.is e.leads (subst (λ n. rests_after p ts (after s (Answer n u)) ≡ true) its rests) whole)
 
 -- a party that takes over stands where the one before did, which does nothing
-taken_over : (s : Machine) (p r : ℕ) → OthersRest p s → OthersRest r s → (b : Bool) → (p == r) ≡ b → standing s p ≡ standing s r
+pub taken_over : (s : Machine) (p r : ℕ) → OthersRest p s → OthersRest r s → (b : Bool) → (p == r) ≡ b → standing s p ≡ standing s r
 taken_over s p r ps rs true same = ap (λ n. standing s n) (same_of p r same)
 taken_over s p r ps rs false other =
     let apart = apart_of p r other in
     ap (λ xs. done s.world (reverse xs)) (rs p apart ∙ sym (ps r (λ is. apart (sym is))))
 
 lists : (acts : List Act) (s : Machine) → Reached s → (p : ℕ) → OthersRest p s → IsOpen s.world → (q : Plain Output Waker)
-    → StandsAlike (standing s p) q → AreActs s acts → ActAlike s q acts
+    → StandsSo (standing s p) q → AreActs s acts → ActAlike s q acts
 lists [] s reached p others open_now q so are = tt
 lists (a ∷ acts) s reached p others open_now q so are =
     let it = are.0 in
@@ -176,13 +177,13 @@ lists (a ∷ acts) s reached p others open_now q so are =
     (within (party_of a.first) (length s.parties)
     (passed (nat_lt (party_of a.first) (length s.parties)) NoSuch
     (part_refusal s.world s.parties (stack s (party_of a.first)) a.first) k.0)) in
-    let now = subst (λ e. StandsAlike e q) (taken_over s p a.party others it.others (p == a.party) refl) so in
+    let now = subst (λ e. StandsSo e q) (taken_over s p a.party others it.others (p == a.party) refl) so in
     let one =
-    one_act s reached a.party q now a.left (sym (tells a.left next) ∙ later) (sym (tells s reached) ∙ open_now) there a.first a.steps
+    one_act s reached a.party q now a.left (sym (tells a.left next) ∙ later) (sym (tells s reached) ∙ open_now) it.others there a.first a.steps
     it.its are.1 it.rests it.made in (
       one.0,
       one.1,
-      one.2,
+      one.2.alike,
       lists acts a.left next a.party (goes_rest a.steps (after s a.first) a.left a.party it.rests k.1
           (still-rest a.party s a.first it.its it.others)) later one.0 one.2 are.2,
     )
@@ -194,4 +195,8 @@ acts_alike limit kind parties acts are =
     let none : (n : ℕ) → stack s n ≡ [] = rests s (deep-here s reached) (λ party. refl) in
     let q : Plain Output Waker = new_plain limit (is_static_kind kind) in
     lists acts s reached 0 (λ n apart. none n) refl q
-    (subst (λ xs. StandsAlike (done s.world (reverse xs)) q) (sym (none 0)) (alike nowhere (begin_alike limit kind parties))) are
+    (subst (λ xs. StandsSo (done s.world (reverse xs)) q) (sym (none 0))
+    (record {
+      alike = alike nowhere (begin_alike limit kind parties);
+      counted = record { taken = λ r. refl; going = λ r is. absurd cc };
+    })) are

@@ -32,11 +32,11 @@ abbrev pub may_go : List Op → Bool
 may_go [] = true
 may_go (o ∷ os) = is_resting (o ∷ os) || (is_of_call o && may_go os)
 
-second : (a b : Bool) → b ≡ true → (a || b) ≡ true
+pub second : (a b : Bool) → b ≡ true → (a || b) ≡ true
 second true b is = refl
 second false b is = is
 
-of_two : (a b : Bool) → a ≡ false → (a || b) ≡ true → b ≡ true
+pub of_two : (a b : Bool) → a ≡ false → (a || b) ≡ true → b ≡ true
 of_two true b off is = absurd cc
 of_two false b off is = is
 
@@ -82,7 +82,7 @@ module _ (A : ℕ → Bool) (t l : List ℕ) (own : List (List ℕ)) where
   has_beside (op.End r held) w is has = tt
   has_beside o w is has = absurd cc
 
-  has_user : (o : Op) (w : World) → waits o ≡ true → Has w o
+  pub has_user : (o : Op) (w : World) → waits o ≡ true → Has w o
   has_user (op.User o) w is = tt
   has_user o w is = absurd cc
 

@@ -32,7 +32,7 @@ use Rattle.machine_roads.proofs.OneCall.{of_task}
 use Rattle.machine_roads.proofs.Waits.{NoTaskWaits}
 
 -- an executor's call that may begin is made before its drop
-before_drop : (w : World) (ss : List (List Op)) (o : Option Op) (c : Call) → is_on_executor c ≡ true → begin_refusal w ss o c ≡ None
+pub before_drop : (w : World) (ss : List (List Op)) (o : Option Op) (c : Call) → is_on_executor c ≡ true → begin_refusal w ss o c ≡ None
     → w.gone ≡ false
 before_drop w ss o c on may =
     let last = unless (not (is_owners c) || is_unborrowed w ss) Borrowed None in
@@ -49,7 +49,7 @@ before_drop w ss o c on may =
     by true is = absurd cc
 
 -- what has begun stays so
-still_gone : (ts : List Step) (s new : Machine) → Reached s → run_all ts s ≡ Ok new → s.world.gone ≡ true → new.world.gone ≡ true
+pub still_gone : (ts : List Step) (s new : Machine) → Reached s → run_all ts s ≡ Ok new → s.world.gone ≡ true → new.world.gone ≡ true
 still_gone ts s new reached made gone = by new.world.gone refl
   where
     by : (b : Bool) → new.world.gone ≡ b → new.world.gone ≡ true
@@ -60,15 +60,19 @@ settled_gone : (r : Option Reply) (p : ℕ) (w : World) (os : List Op) → (sett
 settled_gone None p w os = refl
 settled_gone (Some r) p w os = refl
 
-pub drop_goes : (s : Machine) → Reached s → (p : ℕ) (steps : List Step) (new : Machine) (c : Call) → is_drop c ≡ true
-    → IsLoneCall p c steps s new → new.world.gone ≡ true
-drop_goes s reached p steps new call.DropExecutor is lone =
+pub drop_begun : (s : Machine) → Reached s → (p : ℕ) (steps : List Step) (new : Machine)
+    → run_all (Begin p call.DropExecutor ∷ steps) s ≡ Ok new → new.world.gone ≡ true
+drop_begun s reached p steps new made =
     let c = call.DropExecutor in
-    let k = run-first (Begin p c) steps s new lone.made in
+    let k = run-first (Begin p c) steps s new made in
     let d : Done = begun p (log s.world (event.CallBegun p c)) (mine (top (stack s p))) c in
     let todo = stack s p ++ reverse d.next in
     still_gone steps (after s (Begin p c)) new (reached-step s (Begin p c) k.0 reached) k.1
     (settled_gone (end_of (top todo)) p d.world todo)
+
+pub drop_goes : (s : Machine) → Reached s → (p : ℕ) (steps : List Step) (new : Machine) (c : Call) → is_drop c ≡ true
+    → IsLoneCall p c steps s new → new.world.gone ≡ true
+drop_goes s reached p steps new call.DropExecutor is lone = drop_begun s reached p steps new lone.made
 drop_goes s reached p steps new c is lone = absurd cc
 
 module _ (s : Machine) (reached : Reached s) (q : Plain Output Waker) (quiet : IsQuiet s.world.trace) (follows : Follows s.world q)

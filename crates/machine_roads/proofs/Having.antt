@@ -318,6 +318,19 @@ module _ (s : Machine) (p : ℕ) (reached : Reached s) (there : p < length s.par
       (has-place s p f (below_top (stack s p)) there (topped (stack s p) (op.Queue (queue_op.Append f)) is) good
       (heard_here s reached).placed (mark_of s.world f))
 
+  -- so it is where the queue is open
+  pub appends_open : (f : ℕ) → (queue_of s.world (mark_of s.world f)).closed ≡ false → top (stack s p) ≡ Some (op.Queue (queue_op.Append f))
+      → Has s.world (op.Queue (queue_op.Append f))
+  appends_open f off is =
+      let o = op.Queue (queue_op.Append f) in (
+        below_of (length s.world.tasks) f (omega (
+          arith,
+          good.ops,
+          split (past_of (length s.world.tasks)) s.parties p (o ∷ []) (below_top (stack s p)) there (topped (stack s p) o is),
+        )),
+        ap (λ b. not b && nat_lt (length (queue_of s.world (mark_of s.world f)).items) s.world.limit) off ∙ placed f is,
+      )
+
   dropped : (f : ℕ) → top (stack s p) ≡ Some (op.Move move.DropRunnable f) → IsQueued (task s.world f)
   dropped f is =
       in_hand f

@@ -1,4 +1,4 @@
--- In the drop of a future in the executor's drop, calls of wakers and handles leave both alike, and the executor's drop goes on from its end.
+-- In the drop of a future in the executor's drop calls of wakers and handles leave both alike, and the executor's drop goes on behind it.
 use Rattle.std.proofs.Common.{◌≡◌, ℕ, ◌<◌, ◌≤◌, ◌==◌, ◌++◌, Bool, true, false, List, [], ◌∷◌, length, Option, Some, None}
 use Rattle.std.proofs.Common.{is_some, refl, sym, ap, subst, ◌∙◌, arith, get_or-set_same, get_or-set_other}
 use Rattle.executor_parts.specs.declared.mark.Mark.{Mark}
@@ -28,7 +28,8 @@ use Rattle.machine_roads.specs.Alike.{begins, refuses_first, refuses_second, upo
 use Rattle.machine_roads.specs.Losing.{IsLosing, StopsLosing, left_of, without_handle}
 use Rattle.machine_roads.specs.Lone.{EachLoneAlike, waits_for}
 use Rattle.machine_roads.specs.Course.{IsCall, cancel, copy, detach, drop_handle, poll_handle, release, use_waker, wake}
-use Rattle.machine_roads.specs.Closing.{CallsInDrop, ComesOn, DropGoesOn, IsInDrop, IsLosingInDrop, LoneDropRests, LosesInDrop, LossEndsInDrop}
+use Rattle.machine_roads.specs.Closing.{CallsInDrop, ComesOn, DropGoesOn, IsInDrop, IsLosingInDrop, LoneDropRests, LosesInDrop}
+use Rattle.machine_roads.specs.Closing.{LossEndsInDrop}
 use Rattle.machine_roads.specs.Closing.{called, loses}
 use Rattle.machine_roads.proofs.Beside.{Along, along, calls_beside, rest_goes, go_append}
 use Rattle.machine_roads.proofs.Calling.{cancels, copies_kept, detaches, handle_goes, uses_alike, waker_goes, wakes_kept}
@@ -39,7 +40,7 @@ use Rattle.machine_roads.proofs.Inside.{cancel_inside, copy_inside, detach_insid
 use Rattle.machine_roads.proofs.Inside.{release_inside, use_inside, wake_inside}
 use Rattle.machine_roads.proofs.Lists.{Before, Last, Past, Where, apart_of, clash, length_set, same_of, where_is}
 use Rattle.machine_roads.proofs.LoneCalls.{each}
-use Rattle.machine_roads.proofs.LoneCloses.{Closing, IsClosing, drop_rests_so, gone_of, goes_close}
+use Rattle.machine_roads.proofs.LoneCloses.{Closing, IsClosing, drop_rests_so, gone_of, goes_close, swept_inside}
 use Rattle.machine_roads.proofs.LoneRuns.{Inside, Rests, Whole}
 use Rattle.machine_roads.proofs.LoneTakes.{first_rest}
 use Rattle.machine_roads.proofs.Losing.{detaches_to_lose, goes_to_lose, loses_alike}
@@ -66,7 +67,7 @@ cancelled_output d f q =
     (loudly 0 (done (start 0 Owned 0).world []) refl d).outputs f q
 
 -- the code in which calls stand is as before
-stays_inside : (w : World) (c : Call) (x : plain.Call Output Waker) (d : Choice) (q : Plain Output Waker) → is_on_executor c ≡ false
+pub stays_inside : (w : World) (c : Call) (x : plain.Call Output Waker) (d : Choice) (q : Plain Output Waker) → is_on_executor c ≡ false
     → IsCall w c x → loses x q ≡ false → (does wakes d x q).inside ≡ q.inside
 stays_inside w c x d q off (use_waker k f is) stays = use_inside d q f
 stays_inside w c x d q off (wake k f is) stays = wake_inside d q f
@@ -85,7 +86,7 @@ module _ (p : ℕ) (below : List Op) (under : is_resting below ≡ true) (w : Wo
   abbrev v : World
   v = record w { table = fs }
 
-  call_so : (c : Call) (x : plain.Call Output Waker) → is_on_executor c ≡ false → IsCall w c x → loses x q ≡ false → (hints : List Hint)
+  pub call_so : (c : Call) (x : plain.Call Output Waker) → is_on_executor c ≡ false → IsCall w c x → loses x q ≡ false → (hints : List Hint)
       → HasAll p hints (upon below (begins p None c v)) → is_resting (called p hints below c v).next ≡ true
       → (r : Refusal) × ((called p hints below c v).next ≡ below)
       × Follows (called p hints below c v).world (does wakes (record d { refusal = r }) x q)
@@ -114,7 +115,7 @@ module _ (p : ℕ) (below : List Op) (under : is_resting below ≡ true) (w : Wo
       (d.refusal, e.0, e.1)
   call_so c x off is stays hints has rests = absurd cc
 
-  lose_so : (c : Call) (x : plain.Call Output Waker) → is_on_executor c ≡ false → IsCall w c x → loses x q ≡ true → (hints : List Hint)
+  pub lose_so : (c : Call) (x : plain.Call Output Waker) → is_on_executor c ≡ false → IsCall w c x → loses x q ≡ true → (hints : List Hint)
       → HasAll p hints (upon below (begins p None c v)) → is_resting (called p hints below c v).next ≡ true
       → (f : ℕ) × StopsLosing f below q (called p hints below c v) (does wakes d x q)
   lose_so c x off (detach f) some hints has rests =
@@ -173,7 +174,8 @@ module _ (fs all : List ℕ) (codes : List (Code Output Waker)) where
       abbrev e : Done
       e = called p hints below c w
 
-      there : Along Among fs w.leaving w.own p hints w (upon below (begins p None c (record w { table = fs }))) (upon below (begins p None c w))
+      there : Along Among fs w.leaving w.own p hints w (upon below (begins p None c (record w { table = fs })))
+          (upon below (begins p None c w))
       there = calls_beside Among fs w.leaving w.own p c w below hints off under (only_in w q is) has
 
       kept_so : e ≡ beside_done Among w.table w.leaving w.own e
@@ -276,10 +278,10 @@ loss_ends_in_drop p f below w fs all codes q d hints under is has rests =
     )
 
 -- it has come on so
-comes_on : (d : Choice) (all : List ℕ) (codes : List (Code Output Waker)) (fs : List ℕ) (q : Plain Output Waker) (e : Done)
-    → Closing d all codes fs q e → ComesOn fs all codes (close wakes d fs all q) e
-comes_on d all codes [] q e so = so
-comes_on d all codes (f ∷ rest) q e so = (
+pub comes_on : (d : Choice) (all : List ℕ) (codes : List (Code Output Waker)) (fs : List ℕ) (q : Plain Output Waker) (e : Done)
+    → q.inside ≡ codes → Closing d all codes fs q e → ComesOn fs all codes (close wakes d fs all q) e
+comes_on d all codes [] q e inside so = (so.0, swept_inside d all q ∙ inside, so.1, so.2)
+comes_on d all codes (f ∷ rest) q e inside so = (
   so.0,
   record {
     table = so.1.table;
@@ -319,7 +321,7 @@ drop_goes_on p w fs all codes q d hints is has rests =
     let ends_so : does wakes d Ends q ≡ close wakes d fs all q1 =
     ap (λ inside. (innermost wakes d inside (plain.ends wakes d) q)) is.inside in
     subst (λ z. ComesOn fs all codes z e) (sym ends_so)
-    (comes_on d all codes fs q1 e (goes_close p e rests d all codes fs w q1 from (record { hints = hints; has = has; is = refl })))
+    (comes_on d all codes fs q1 e refl (goes_close p e rests d all codes fs w q1 from (record { hints = hints; has = has; is = refl })))
 
 -- a lone drop of the executor comes to the drop of the first future so
 pub lone_drop_rests : EachLoneAlike LoneDropRests
@@ -328,7 +330,7 @@ lone_drop_rests = each LoneDropRests (λ s reached q quiet follows p c steps non
     let R : Done → Type 0 = λ e. ComesOn fs fs q.inside (does wakes c DropExecutor q) e in
     first_rest s new reached p call.DropExecutor steps R lone
     (rests_as p (λ e. Closing c fs q.inside fs q e) R new
-    (λ e so. subst (λ all. ComesOn fs fs q.inside (close wakes c all all q) e) follows.table (comes_on c fs q.inside fs q e so))
+    (λ e so. subst (λ all. ComesOn fs fs q.inside (close wakes c all all q) e) follows.table (comes_on c fs q.inside fs q e refl so))
     (drop_rests_so s reached q quiet follows p c steps none new lone)))
   where
     rests_as : (p : ℕ) (R S : Done → Type 0) (new : Machine) → ((e : Done) → R e → S e) → Rests p R new → Rests p S new

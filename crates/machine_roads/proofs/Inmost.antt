@@ -25,13 +25,13 @@ use Rattle.executor_model.proofs.OneFuture.Stories.{among_is}
 use Rattle.executor_model.proofs.Steps.Lift.{split}
 use Rattle.executor_model.proofs.Steps.Lists.{past_is}
 use Rattle.executor_model.proofs.Steps.Reached.{Reached, good-here}
-use Rattle.plain_scheduler.specs.State.{Closed, Code, Drop, DropOwn, End, Gave, Plain, Poll, PollOwn, Ready, Taker}
+use Rattle.plain_scheduler.specs.State.{Closed, Code, Drop, DropOwn, End, Gave, Poll, PollOwn, Ready, Taker}
 use Rattle.machine_roads.specs.View.{Output}
 use Rattle.machine_roads.specs.Road.{waking_in}
 use Rattle.machine_roads.specs.Alone.{is_resting}
 use Rattle.machine_roads.specs.Dropped.{EndsBy, given, polled, queued}
-use Rattle.machine_roads.specs.Stopped.{Finally, Stopped, answered, drops, drops_given, drops_polled, polls}
-use Rattle.machine_roads.specs.Within.{Nested, drops_own, nowhere, polls_own, takes}
+use Rattle.machine_roads.specs.Stopped.{Stopped, answered, drops, drops_given, drops_polled, polls}
+use Rattle.machine_roads.specs.Within.{GoesOnBy, Nested, drops_own, nowhere, polls_own, takes}
 use Rattle.machine_roads.proofs.Having.{heard_here, same_self}
 use Rattle.machine_roads.proofs.InHand.{InHand, in_hand}
 use Rattle.machine_roads.proofs.Standing.{IsGoing, IsTaken}
@@ -45,10 +45,10 @@ pub data IsDropOf : Move → End Output → Type 0 where
 pub data Inmost : List Op → List (Code Output Waker) → Type 0 where
   none : Inmost [] []
   poll : (taker : Taker Waker) (final : Op) (below : List Op) (inside : List (Code Output Waker)) (f : ℕ)
-      → ((q : Plain Output Waker) → Finally q taker final) → Nested below inside
+      → GoesOnBy taker final → Nested below inside
       → Inmost (op.User (user_op.Poll f) ∷ final ∷ below) (Poll f taker ∷ inside)
   drop : (taker : Taker Waker) (final : Op) (below : List Op) (inside : List (Code Output Waker)) (f : ℕ) (m : Move) (why : End Output)
-      → ((q : Plain Output Waker) → Finally q taker final) → IsDropOf m why → Nested below inside
+      → GoesOnBy taker final → IsDropOf m why → Nested below inside
       → Inmost (op.User (user_op.Drop f) ∷ op.Table (table_op.LeaveTable f) ∷ op.Move m f ∷ final ∷ below) (Drop f why taker ∷ inside)
   own_poll : (x : RunPoll) (below : List Op) (inside : List (Code Output Waker)) → Nested below inside
       → Inmost (op.User (user_op.PollOwn x) ∷ below) (PollOwn x.run x.waker ∷ inside)
@@ -57,7 +57,7 @@ pub data Inmost : List Op → List (Code Output Waker) → Type 0 where
       (DropOwn r Ready ∷ inside)
 
 inmost_by : (taker : Taker Waker) (final : Op) (below os : List Op) (inside codes : List (Code Output Waker))
-    → ((q : Plain Output Waker) → Finally q taker final) → Nested below inside → Inmost below inside
+    → GoesOnBy taker final → Nested below inside → Inmost below inside
     → Stopped taker final below inside os codes → Inmost os codes
 inmost_by taker final below os inside codes it nested more answered = more
 inmost_by taker final below os inside codes it nested more (polls f) = poll taker final below inside f it nested
@@ -109,7 +109,7 @@ module _ (s : Machine) (p : ℕ) (reached : Reached s) (there : p < length s.par
   good = good-here s reached
 
   -- what the parties have to do is what this one has and the others
-  whole : (os : List Op) → reverse (stack s p) ≡ os → (v : Op → ℕ)
+  pub whole : (os : List Op) → reverse (stack s p) ≡ os → (v : Op → ℕ)
       → weigh_all v s.parties ≡ weigh v os + weigh_all v (set s.parties p [])
   whole os is v =
       split v s.parties p os [] there (sym (reverse-reverse (stack s p)) ∙ ap (λ (ys : List Op). reverse ys) is)

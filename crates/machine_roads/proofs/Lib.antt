@@ -90,6 +90,8 @@ pub mod Open
 pub mod OneCall
 pub mod CourseBehind
 pub mod InDrop
+pub mod OpenCalls
+pub mod DropActs
 pub mod FewTaken
 pub mod FewAfter
 pub mod Course
@@ -100,3 +102,10 @@ pub mod ActBegins
 pub mod ActEnds
 pub mod Acts
 pub mod OwnPolls
+pub mod RunApart
+pub mod RunsBeside
+pub mod Counting
+pub mod RunHere
+pub mod ActLands
+pub mod ActCodes
+pub mod ActsToEnd

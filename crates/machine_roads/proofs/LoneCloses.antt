@@ -15,7 +15,7 @@ use Rattle.executor_model.specs.declared.step.Step.{Step}
 use Rattle.executor_model.specs.declared.step.Step.TheVariants.{Begin}
 use Rattle.executor_model.specs.Acts.{closing_ops, drop_next_by}
 use Rattle.executor_model.specs.Quiet.{IsQuiet}
-use Rattle.executor_model.specs.Steps.{Machine, react, stack, top}
+use Rattle.executor_model.specs.Steps.{Machine, react, stack, top, begin_refusal}
 use Rattle.executor_model.specs.World.{World, Done, done, log, own_of, without}
 use Rattle.executor_model.proofs.Steps.Reached.{Reached, reached-more, run-first}
 use Rattle.executor_laws.specs.LoneEnds.{IsLoneCall}
@@ -100,7 +100,7 @@ closed_inside c (f ∷ fs) q =
     ∙ (called_inside c (abstract.drop_runnable t).called (put f (abstract.drop_runnable t).task q)
     ∙ put_by (λ p. p.inside) f (abstract.drop_runnable t).task q (λ fs. refl))
 
-swept_inside : (c : Choice) (all : List ℕ) (q : Plain Output Waker) → (swept wakes c (each all (freed wakes c) q)).inside ≡ q.inside
+pub swept_inside : (c : Choice) (all : List ℕ) (q : Plain Output Waker) → (swept wakes c (each all (freed wakes c) q)).inside ≡ q.inside
 swept_inside c all q =
     let z : Plain Output Waker = each all (freed wakes c) q in
     by (filter (is_common Urgent) z.due ++ filter (is_common PlainMark) z.due) (record z { due = [] }) ∙ freed_inside c all q
@@ -236,12 +236,11 @@ module _ (p : ℕ) (new : Machine) (last : Reached new) (quiet : IsQuiet new.wor
       least n = omega arith
 
 -- where the call rests first
-pub drop_rests_so : (s : Machine) → Reached s → (q : Plain Output Waker) → IsQuiet s.world.trace → Follows s.world q → (p : ℕ) (c : Choice)
-    (steps : List Step) → q.inside ≡ [] → (new : Machine) → IsLoneCall p call.DropExecutor steps s new
-    → Rests p (λ e. Closing c s.world.table q.inside s.world.table q e) new
-drop_rests_so s reached q quiet follows p c steps none new lone =
+pub drop_leads_so : (s : Machine) → Reached s → (q : Plain Output Waker) → IsQuiet s.world.trace → Follows s.world q → (p : ℕ) (c : Choice)
+    → q.inside ≡ [] → begin_refusal s.world s.parties (top (stack s p)) call.DropExecutor ≡ None
+    → LeadsSoOf HasIn p (upon [] (begins p None call.DropExecutor s.world)) (λ e. Closing c s.world.table q.inside s.world.table q e)
+drop_leads_so s reached q quiet follows p c none may =
     let w = s.world in
-    let may = may_begin s p call.DropExecutor (run-first (Begin p call.DropExecutor) steps s new lone.made).0 in
     let free = may_drop w s.parties (top (stack s p)) may in
     let all = w.table in
     let begun = log w (event.CallBegun p call.DropExecutor) in
@@ -267,14 +266,21 @@ drop_rests_so s reached q quiet follows p c steps none new lone =
       unkept = nothing_kept s reached quiet free;
       among_them = waiting_entered s reached quiet free q follows;
     } in
-    let R : Done → Type 0 = λ e. Closing c all q.inside all q e in
-    let leads : LeadsSoOf HasIn p (upon [] (begins p None call.DropExecutor w)) R =
     λ hints has rests.
     let end = alone p hints (done w0 (op.Closing closing_op.TakeOut ∷ ending)) in
     let step =
     next_of HasIn p end rests (op.Closing closing_op.TakeOut) w0 ending refl (record { hints = hints; has = has; is = refl }) in
-    goes_close p end rests c all q.inside all w1 q starts step.way in
-    lone_calls_rest_of HasIn IsAny walks s reached p call.DropExecutor steps new R quiet tt leads lone
+    goes_close p end rests c all q.inside all w1 q starts step.way
+
+pub drop_rests_so : (s : Machine) → Reached s → (q : Plain Output Waker) → IsQuiet s.world.trace → Follows s.world q → (p : ℕ) (c : Choice)
+    (steps : List Step) → q.inside ≡ [] → (new : Machine) → IsLoneCall p call.DropExecutor steps s new
+    → Rests p (λ e. Closing c s.world.table q.inside s.world.table q e) new
+drop_rests_so s reached q quiet follows p c steps none new lone =
+    lone_calls_rest_of HasIn IsAny walks s reached p call.DropExecutor steps new (λ e. Closing c s.world.table q.inside s.world.table q e)
+    quiet tt
+    (drop_leads_so s reached q quiet follows p c none
+    (may_begin s p call.DropExecutor (run-first (Begin p call.DropExecutor) steps s new lone.made).0))
+    lone
 
 pub drop_ends_so : (s : Machine) → Reached s → (q : Plain Output Waker) → IsQuiet s.world.trace → Follows s.world q → LoneDropEnds s q
 drop_ends_so s reached q quiet follows p c steps none new lone =

@@ -224,8 +224,10 @@ module _ (s : Machine) (reached : Reached s) (q : Plain Output Waker) (quiet : I
       let f = kept_one k (there s reached quiet p steps new (call.DropWaker k) lone) in
       plainly (call.DropWaker k) (plain_calls.Release f.0) refl (release_inside granted q f.0) (release k f.0 f.1)
       (λ hints all rests. waker_goes p [] refl None s.world q follows granted k f.0 f.1 (many q) hints tt all rests) lone
-  of_task call.Keep off lone = absurd (clash (ap is_some (nobodys s reached quiet p steps new)) (there s reached quiet p steps new call.Keep lone))
-  of_task call.WakeSelf off lone = absurd (clash (ap is_some (nobodys s reached quiet p steps new)) (there s reached quiet p steps new call.WakeSelf lone))
+  of_task call.Keep off lone =
+      absurd (clash (ap is_some (nobodys s reached quiet p steps new)) (there s reached quiet p steps new call.Keep lone))
+  of_task call.WakeSelf off lone =
+      absurd (clash (ap is_some (nobodys s reached quiet p steps new)) (there s reached quiet p steps new call.WakeSelf lone))
   of_task (call.PollHandle f b) off lone =
       let a = waker_of None b in
       told (call.PollHandle f b) (plain_calls.PollHandle f a) refl (λ r. poll_inside (choice s q r) q f a) (poll_handle f b)

@@ -94,21 +94,27 @@ module _ (A : ℕ → Bool) (t l : List ℕ) (own : List (List ℕ)) where
           → Does w (carried (told_of last b m p (beside v) f) f (moves.after m (world.task v f)))
           (carried (told_of last b m p v f) f (moves.after m (world.task v f)))
       by true true = record {
-        same = ap (done (beside (put (told_of true true m p v f) f (moves.after m (world.task v f)).state))) (owes (among f t) (among f v.table));
+        same =
+            ap (done (beside (put (told_of true true m p v f) f (moves.after m (world.task v f)).state)))
+            (owes (among f t) (among f v.table));
         shut = shut;
         count = count;
         only = moved;
         fits = loose.fits (among f v.table) f;
       }
       by true false = record {
-        same = ap (done (beside (put (told_of true false m p v f) f (moves.after m (world.task v f)).state))) (owes (among f t) (among f v.table));
+        same =
+            ap (done (beside (put (told_of true false m p v f) f (moves.after m (world.task v f)).state)))
+            (owes (among f t) (among f v.table));
         shut = shut;
         count = count;
         only = moved;
         fits = loose.fits (among f v.table) f;
       }
       by false true = record {
-        same = ap (done (beside (put (told_of false true m p v f) f (moves.after m (world.task v f)).state))) (owes (among f t) (among f v.table));
+        same =
+            ap (done (beside (put (told_of false true m p v f) f (moves.after m (world.task v f)).state)))
+            (owes (among f t) (among f v.table));
         shut = shut;
         count = count;
         only = moved;

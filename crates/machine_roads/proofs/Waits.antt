@@ -26,7 +26,8 @@ use Rattle.executor_model.specs.declared.op.Waker.TheVariants.{Task, Outside}
 use Rattle.executor_model.specs.declared.op.WakerOp.TheVariants as waker_op
 use Rattle.executor_model.specs.declared.step.Hint.{Hint}
 use Rattle.executor_model.specs.Acts.{copy_awaiter, copy_awaiter_by, copy_by, copy_waker, end_notify, end_register, end_register_by}
-use Rattle.executor_model.specs.Acts.{is_copy_refused, is_last_waker, is_refused, is_told, let_go, let_go_by, let_go_emptied, look, look_again}
+use Rattle.executor_model.specs.Acts.{is_copy_refused, is_last_waker, is_refused, is_told, let_go, let_go_by, let_go_emptied, look}
+use Rattle.executor_model.specs.Acts.{look_again}
 use Rattle.executor_model.specs.Acts.{look_again_by, look_by, move_by, move_task, notify, notify_by, register, register_by, stands_alone}
 use Rattle.executor_model.specs.Acts.{told, told_of}
 use Rattle.executor_model.specs.Carried.{awaiter_ops, carried, owed_ops}
@@ -181,7 +182,7 @@ pub record Stays (d : Done) : Type 0 where
   pub world : NoTaskWaits d.world
   pub fits : are_of_tasks d.next ≡ true
 
-put_stays : (w : World) (f : ℕ) (s : State) → NoTaskWaits w → waits_in s ≡ false → NoTaskWaits (put w f s)
+pub put_stays : (w : World) (f : ℕ) (s : State) → NoTaskWaits w → waits_in s ≡ false → NoTaskWaits (put w f s)
 put_stays w f s none calm g at = by (f == g) refl (subst (λ n. g < n) (length_set w.tasks f s) at)
   where
     by : (b : Bool) → (f == g) ≡ b → g < length w.tasks → waits_in (world.task (put w f s) g) ≡ false
@@ -230,14 +231,16 @@ module _ (p : ℕ) (w : World) (none : NoTaskWaits w) where
       other true = refl
       other false = refl
 
-      by : (x g c : Bool) → Stays (look_by (moves.poll_by x g c (world.task w f)).owed.answer p w f a (moves.poll_by x g c (world.task w f)))
+      by : (x g c : Bool)
+          → Stays (look_by (moves.poll_by x g c (world.task w f)).owed.answer p w f a (moves.poll_by x g c (world.task w f)))
       by true true c = record { world = none; fits = refl }
       by true false c = record { world = put_stays w f (world.task w f) none (none f at); fits = refl }
       by false g false = record { world = none; fits = refl }
       by false g true =
           record {
             world =
-                put_stays w f (record (world.task w f) { closed = true }) none (never (abstract.is_idle (phase_of (record (world.task w f) { closed = true }))));
+                put_stays w f (record (world.task w f) { closed = true }) none
+                (never (abstract.is_idle (phase_of (record (world.task w f) { closed = true }))));
             fits = other (world.task w f).awaiter;
           }
 
@@ -248,14 +251,17 @@ module _ (p : ℕ) (w : World) (none : NoTaskWaits w) where
       other true = refl
       other false = refl
 
-      by : (x g c : Bool) → Stays (look_again_by (moves.look_again_by x g c (world.task w f)).owed.answer p w f (moves.look_again_by x g c (world.task w f)))
+      by : (x g c : Bool)
+          → Stays
+          (look_again_by (moves.look_again_by x g c (world.task w f)).owed.answer p w f (moves.look_again_by x g c (world.task w f)))
       by true true c = record { world = put_stays w f (world.task w f) none (none f at); fits = refl }
       by true false c = record { world = put_stays w f (world.task w f) none (none f at); fits = refl }
       by false g false = record { world = put_stays w f (world.task w f) none (none f at); fits = refl }
       by false g true =
           record {
             world =
-                put_stays w f (record (world.task w f) { closed = true }) none (never (abstract.is_idle (phase_of (record (world.task w f) { closed = true }))));
+                put_stays w f (record (world.task w f) { closed = true }) none
+                (never (abstract.is_idle (phase_of (record (world.task w f) { closed = true }))));
             fits = other (world.task w f).awaiter;
           }
 

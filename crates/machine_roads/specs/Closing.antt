@@ -92,7 +92,7 @@ LossEndsInDrop =
 
 -- once the future's drop ends, the executor's drop has ended, or stands in the drop of the next one
 abbrev pub ComesOn : List ℕ → List ℕ → List (Code Output Waker) → Plain Output Waker → Done → Type 0
-ComesOn [] all codes q e = (e.next ≡ []) × Follows e.world q × NoneWaits q
+ComesOn [] all codes q e = (e.next ≡ []) × (q.inside ≡ codes) × Follows e.world q × NoneWaits q
 ComesOn (f ∷ fs) all codes q e =
     (e.next ≡ op.User (user_op.Drop f) ∷ (closing_ops fs e.world.waking ++ op.End reply.Done hold.Nothing ∷ []))
     × IsInDrop e.world fs all codes q

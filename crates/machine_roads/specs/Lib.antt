@@ -16,3 +16,4 @@ pub mod Behind
 pub mod Course
 pub mod Closing
 pub mod Within
+pub mod DropActs

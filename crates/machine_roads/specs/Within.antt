@@ -1,7 +1,7 @@
 -- Calls one inside another. A party begins a call, also where it stands in user code, or user code of its ends; then it goes on until
 -- nothing is left to do or it stands in user code once more. Each of these is a call of the plain scheduler, or the end of the code that
 -- is innermost there.
-use Rattle.std.specs.Prelude.{◌≡◌, ℕ, ◌==◌, Bool, true, false, ◌&&◌, not, List, [], ◌∷◌, reverse, Option, Some, None, Ok}
+use Rattle.std.specs.Prelude.{◌≡◌, ℕ, ◌<◌, ◌==◌, Bool, true, false, ◌&&◌, not, List, [], ◌∷◌, length, reverse, Option, Some, None, Ok}
 use Rattle.executor_parts.specs.declared.mark.Mark.{Mark}
 use Rattle.executor_model.specs.declared.call.By.{By}
 use Rattle.executor_model.specs.declared.call.Call.{Call}
@@ -10,6 +10,7 @@ use Rattle.executor_model.specs.declared.call.Reply.TheVariants as reply
 use Rattle.executor_model.specs.declared.event.Answer.TheVariants.{Pending, Ready}
 use Rattle.executor_model.specs.declared.kind.Kind.{Kind}
 use Rattle.executor_model.specs.declared.op.HandleOp.TheVariants as handle_op
+use Rattle.executor_model.specs.declared.op.Hold.TheVariants as hold
 use Rattle.executor_model.specs.declared.op.ListOp.TheVariants as list_op
 use Rattle.executor_model.specs.declared.op.Op.{Op}
 use Rattle.executor_model.specs.declared.op.Op.TheVariants as op
@@ -20,12 +21,11 @@ use Rattle.executor_model.specs.declared.op.UserOp.TheVariants as user_op
 use Rattle.executor_model.specs.declared.op.Waker.{Waker}
 use Rattle.executor_model.specs.declared.step.Step.{Step}
 use Rattle.executor_model.specs.declared.step.Step.TheVariants.{Answer, Begin, Go}
-use Rattle.executor_model.specs.declared.step.UserEnd.{UserEnd}
 use Rattle.executor_model.specs.declared.step.UserEnd.TheVariants.{Done as IsDone, Polled}
 use Rattle.executor_model.specs.Executions.{run_all}
 use Rattle.executor_model.specs.Steps.{Machine, after, future_of, is_static_kind, kept, mine, party_of, stack, start, top, waker_of}
 use Rattle.executor_model.specs.World.{Done, World, done}
-use Rattle.plain_scheduler.specs.State.{Choice, Code, DropOwn, Plain, PollOwn, Ready as IsReady, Taker}
+use Rattle.plain_scheduler.specs.State.{Choice, Code, DropOwn, Plain, PollOwn, Ready as IsReady, Run, Taker, Tick, Try}
 use Rattle.plain_scheduler.specs.Calls as plain
 use Rattle.plain_scheduler.specs.Calls.{does, new}
 use Rattle.machine_roads.specs.View.{Output, wakes}
@@ -35,7 +35,8 @@ use Rattle.machine_roads.specs.Course.{IsChosen}
 use Rattle.machine_roads.specs.Dropped.{Drops}
 use Rattle.machine_roads.specs.Forgotten.{StopsForgetting}
 use Rattle.machine_roads.specs.Losing.{StopsLosing}
-use Rattle.machine_roads.specs.Stopped.{Finally, Stopped}
+use Rattle.machine_roads.specs.Searching.{goes_on_by}
+use Rattle.machine_roads.specs.Stopped.{Stopped}
 
 -- a call that begins or user code that ends, the steps behind that, and the machine that they leave
 pub record Act : Type 0 where
@@ -82,16 +83,10 @@ may_stand_in (call.DropRun r) = false
 may_stand_in call.DropExecutor = false
 may_stand_in _ = true
 
--- a run's own future gives no output
-abbrev pub is_own_pending : List Op → UserEnd → Bool
-is_own_pending (op.User (user_op.PollOwn x) ∷ os) (Polled Pending) = true
-is_own_pending _ u = false
-
--- no call begins where one owes something, and no run's own future gives no output
+-- no call begins where one owes something
 abbrev pub is_on_way : List Op → Step → Bool
 is_on_way os (Begin p c) = may_stand_in c && not (owes os)
-is_on_way os (Go p h) = true
-is_on_way os (Answer p u) = not (is_own_pending os u)
+is_on_way os _ = true
 
 -- one act after the other
 abbrev pub AreActs : Machine → List Act → Type 0
@@ -127,20 +122,32 @@ pub data IsMade (s : Machine) (p : ℕ) : Step → plain.Call Output Waker → T
   gives : IsMade s p (Answer p (Polled Ready)) (plain.EndsWith tt)
   ends : IsMade s p (Answer p IsDone) plain.Ends
 
--- the plain scheduler makes that by what is chosen so
+-- a call that begins is made by what is chosen so, and where code ends who lay down last is told
+abbrev pub IsChosenAt : Step → World → Plain Output Waker → Choice → Type 0
+IsChosenAt (Begin p c) w q d = IsChosen w q d
+IsChosenAt t w q d = length q.lying < d.tells
+
+-- the plain scheduler makes that
 pub record ActsBy (s : Machine) (p : ℕ) (t : Step) (q r : Plain Output Waker) : Type 0 where
   pub choice : Choice
   pub made : plain.Call Output Waker
-  pub chosen : IsChosen s.world q choice
+  pub chosen : IsChosenAt t s.world q choice
   pub is : IsMade s p t made
   pub so : does wakes choice made q ≡ r
+
+-- how a call that takes goes on behind what it took: a try and a tick's poll are answered, and a run searches on, or after its 200th
+-- calls its own waker
+pub data GoesOnBy : Taker Waker → Op → Type 0 where
+  by_try : GoesOnBy Try (op.End reply.Yes hold.Executor)
+  by_tick : (t : ℕ) (a : Waker) → GoesOnBy (Tick t a) (op.End reply.Ready (hold.Tick t))
+  by_run : (x : RunPoll) (last : Bool) → GoesOnBy (Run x.run x.waker) (goes_on_by x last)
 
 -- what a party has still to do in tries, polls of ticks and of runs, one inside another, each in the poll or the drop of the future that it
 -- took, or of the run's own, and the code in which the plain scheduler's calls stand
 pub data Nested : List Op → List (Code Output Waker) → Type 0 where
   nowhere : Nested [] []
   takes : (taker : Taker Waker) (final : Op) (below os : List Op) (inside codes : List (Code Output Waker))
-      → ((q : Plain Output Waker) → Finally q taker final) → Nested below inside → Stopped taker final below inside os codes
+      → GoesOnBy taker final → Nested below inside → Stopped taker final below inside os codes
       → Nested os codes
   polls_own : (x : RunPoll) (below : List Op) (inside : List (Code Output Waker)) → Nested below inside
       → Nested (op.User (user_op.PollOwn x) ∷ below) (PollOwn x.run x.waker ∷ inside)
@@ -153,9 +160,9 @@ pub data StandsAlike (e : Done) (q : Plain Output Waker) : Type 0 where
   alike : Nested e.next q.inside → Follows e.world q → StandsAlike e q
   losing : (f : ℕ) (below : List Op) (b : Plain Output Waker) → Nested below b.inside → StopsLosing f below b e q → StandsAlike e q
   dropping : (taker : Taker Waker) (final : Op) (below : List Op) (f : ℕ) (b : Plain Output Waker)
-      → ((q : Plain Output Waker) → Finally q taker final) → Nested below b.inside → Drops taker final below f b e q → StandsAlike e q
+      → GoesOnBy taker final → Nested below b.inside → Drops taker final below f b e q → StandsAlike e q
   forgetting : (taker : Taker Waker) (final : Op) (below : List Op) (f : ℕ) (b : Plain Output Waker)
-      → ((q : Plain Output Waker) → Finally q taker final) → Nested below b.inside → StopsForgetting taker final below f b e q
+      → GoesOnBy taker final → Nested below b.inside → StopsForgetting taker final below f b e q
       → StandsAlike e q
 
 -- at each moment at which a party rests

@@ -1,0 +1,456 @@
+-- The ends of codes in which a party stands in calls one inside another, by kinds of code: where its call rests next, both stand alike.
+use Rattle.std.proofs.Common.{◌≡◌, ℕ, suc, ◌<◌, ◌≤◌, ◌++◌, Bool, true, false, List, ◌∷◌, length, Option, Some, None}
+use Rattle.std.proofs.Common.{◌==◌, ◌||◌, nat_lt, if◌then◌else◌, refl, sym, ap, subst, ◌∙◌, slice_get, arith}
+use Rattle.std.specs.Prelude.{reverse}
+use Rattle.task_moves.specs.declared.moves.owed.Move.{Move}
+use Rattle.task_moves.specs.declared.moves.owed.Move.TheVariants as move
+use Rattle.executor_model.specs.declared.event.Answer.TheVariants as answer
+use Rattle.executor_model.specs.declared.call.Reply.TheVariants as reply
+use Rattle.executor_model.specs.declared.op.HandleOp.TheVariants as handle_op
+use Rattle.executor_model.specs.declared.op.ListOp.TheVariants as list_op
+use Rattle.executor_model.specs.declared.op.Op.{Op}
+use Rattle.executor_model.specs.declared.op.Op.TheVariants as op
+use Rattle.executor_model.specs.declared.op.RunPoll.{RunPoll}
+use Rattle.executor_model.specs.declared.op.Section.TheVariants as section
+use Rattle.executor_model.specs.declared.op.TableOp.TheVariants as table_op
+use Rattle.executor_model.specs.declared.op.TickOp.TheVariants as tick_op
+use Rattle.executor_model.specs.declared.op.UserOp.TheVariants as user_op
+use Rattle.executor_model.specs.declared.op.Waker.{Waker}
+use Rattle.executor_model.specs.declared.step.Step.TheVariants.{Answer}
+use Rattle.executor_model.specs.declared.step.StepError.TheVariants.{WrongAnswer}
+use Rattle.executor_model.specs.declared.step.UserEnd.{UserEnd}
+use Rattle.executor_model.specs.declared.step.UserEnd.TheVariants as end
+use Rattle.executor_model.specs.Acts.{is_last_waker}
+use Rattle.executor_model.specs.ActsOfRuns.{asleep}
+use Rattle.executor_model.specs.Rows.{running_of}
+use Rattle.executor_model.specs.Steps.{Machine, accepts, answer_refusal, react, refusal, stack}
+use Rattle.executor_model.specs.World.{Done, World, done, task}
+use Rattle.executor_model.specs.Weights.{weigh}
+use Rattle.executor_model.proofs.OwnQueues.Using.{emptying_of, polling_of}
+use Rattle.executor_model.proofs.Steps.Reached.{Reached}
+use Rattle.executor_model.proofs.Steps.Stepping.{refusal-there}
+use Rattle.executor_laws.proofs.Termination.LoneEnds.{OthersRest}
+use Rattle.plain_scheduler.specs.State.{Choice, Closed, Code, Drop, DropOwn, End, Future, Granted, Lose, Plain, Poll, PollOwn, Ready, Run, Taker}
+use Rattle.plain_scheduler.specs.Lists.{on, or}
+use Rattle.plain_scheduler.specs.Moves.{is_kept}
+use Rattle.plain_scheduler.specs.Takes as plain_takes
+use Rattle.plain_scheduler.specs.Moves as plain
+use Rattle.plain_scheduler.specs.Calls as plain_calls
+use Rattle.plain_scheduler.specs.Calls.{does, Ends, EndsWith, Pends}
+use Rattle.machine_roads.specs.View.{Output, wakes}
+use Rattle.machine_roads.specs.Road.{Follows, futures_in, waking_in}
+use Rattle.machine_roads.specs.Alone.{alone, is_resting}
+use Rattle.machine_roads.specs.Dropped.{Drops, IsEnding, rest_of, without_run}
+use Rattle.machine_roads.specs.Forgotten.{IsForgotten, IsLastPoll, unawaited, without_awaiter}
+use Rattle.machine_roads.specs.Losing.{IsLosing, left_of, without_handle}
+use Rattle.machine_roads.specs.Searching.{goes_on_by}
+use Rattle.machine_roads.specs.Stopped.{IsInPoll, given, pended}
+use Rattle.machine_roads.specs.Within.{ActsBy, IsMade, Nested, alike, ends, gives, pends}
+use Rattle.machine_roads.specs.Within.{GoesOnBy, by_run, by_tick, by_try, drops_own}
+use Rattle.machine_roads.proofs.ActBegins.{choice_in, enough, more_by_one}
+use Rattle.machine_roads.proofs.ActLands.{Facts, FactsOf, after_lands, between, drops_lands, forgets_lands, goes_lands, passes_lands}
+use Rattle.machine_roads.proofs.ActLands.{stays_lands}
+use Rattle.machine_roads.proofs.Calling.{idles}
+use Rattle.machine_roads.proofs.Counting.{Alike, Counted, StandsSo, Taken, lasts, leaves, like, none_last, none_left, over_in, some_op}
+use Rattle.machine_roads.proofs.Counting.{taken_in}
+use Rattle.machine_roads.proofs.Forgetting.{forgets_by, forgotten_by}
+use Rattle.machine_roads.proofs.Having.{same_self}
+use Rattle.machine_roads.proofs.Inmost.{IsDropOf, is_going, is_taken, rests_in}
+use Rattle.machine_roads.proofs.Inside.{ends_inside}
+use Rattle.machine_roads.proofs.Losing.{loses_alike}
+use Rattle.machine_roads.proofs.Lists.{clash, same_of}
+use Rattle.machine_roads.proofs.LoneRuns.{passed}
+use Rattle.machine_roads.proofs.OwnPolls.{own_goes}
+use Rattle.machine_roads.proofs.Passing.{telling}
+use Rattle.machine_roads.proofs.Pending.{gives_so, pends_by}
+use Rattle.machine_roads.proofs.Puts.{put_at, put_by}
+use Rattle.machine_roads.proofs.RunApart.{drop_ends, gives_ends, gone_spares, gone_taken, loss_ends, pends_ends, take_ends}
+use Rattle.machine_roads.proofs.RunEnding.{dropped_by, lost_by}
+use Rattle.machine_roads.proofs.RunHere.{Above, final_none, going_here, left_here, none_empty, off_left, used_once}
+use Rattle.machine_roads.proofs.RunsOn.{goes_from}
+use Rattle.machine_roads.proofs.Standing.{IsGoing, IsTaken, StaysSo}
+use Rattle.machine_roads.proofs.Tying.{LeadsSo, top_of}
+use Rattle.machine_roads.proofs.Unseen.{stands_in}
+
+module _ (s : Machine) (reached : Reached s) (p : ℕ) (there : p < length s.parties) (open_still : s.world.gone ≡ false)
+    (others : OthersRest p s) (q : Plain Output Waker) (counted : Counted (reverse (stack s p)) q.runs) where
+  abbrev pub c1 : Choice
+  c1 = choice_in s q Granted
+
+  many : length q.lying ≤ suc (length q.lying)
+  many = enough (length q.lying)
+
+  room : length q.lying < suc (length q.lying)
+  room = more_by_one (length q.lying)
+
+  abbrev pub Comes : UserEnd → Done → Type 0
+  Comes u e = (r : Plain Output Waker) × ActsBy s p (Answer p u) q r × StandsSo e r
+
+  abbrev pub Leads : UserEnd → Op → List Op → Type 0
+  Leads u o os = LeadsSo p (done (react p o u s.world).world ((react p o u s.world).next ++ os)) (Comes u)
+
+  -- it ends so
+  pub record EndsSo (u : UserEnd) : Type 0 where
+    pub first : Op
+    pub rest : List Op
+    pub is : reverse (stack s p) ≡ first ∷ rest
+    pub leads : Leads u first rest
+
+  pub accepted : (u : UserEnd) (o : Op) (os : List Op) → refusal s (Answer p u) ≡ None → reverse (stack s p) ≡ o ∷ os
+      → accepts o u ≡ true
+  accepted u o os may is =
+      passed (accepts o u) WrongAnswer None
+      (sym (ap (λ t. answer_refusal t u) (top_of (stack s p) o os is).0) ∙ (sym (refusal-there s (Answer p u) there) ∙ may))
+
+  came_by : (u : UserEnd) (x : plain_calls.Call Output Waker) → IsMade s p (Answer p u) x → (e : Done) (d : Choice)
+      → d.tells ≡ c1.tells → StandsSo e (does wakes d x q) → Comes u e
+  came_by u x is e d tells so = (
+    does wakes d x q,
+    record { choice = d; made = x; chosen = subst (λ n. length q.lying < n) (sym tells) room; is = is; so = refl },
+    so,
+  )
+
+  module _ (below : List Op) (inside : List (Code Output Waker)) (nested : Nested below inside) where
+    under : is_resting below ≡ true
+    under = rests_in below inside nested
+
+    abbrev pub r0 : Plain Output Waker
+    r0 = record q { inside = inside }
+
+    -- as the plain scheduler stands in this code
+    abbrev r1 : Code Output Waker → Plain Output Waker
+    r1 code = record q { inside = code ∷ inside }
+
+    same : (code : Code Output Waker) → q.inside ≡ code ∷ inside → r1 code ≡ q
+    same code at = ap (λ (codes : List (Code Output Waker)). record q { inside = codes }) (sym at)
+
+    follows0 : (code : Code Output Waker) → q.inside ≡ code ∷ inside → waking_in (code ∷ inside) ≡ waking_in inside → (w : World)
+        → Follows w q → Follows w r0
+    follows0 code at quiet w follows = stands_in inside w q follows (sym (ap (λ codes. waking_in codes) at ∙ quiet))
+
+    -- the call has ended, and no run has changed
+    back : (u : UserEnd) (x : plain_calls.Call Output Waker) → IsMade s p (Answer p u) x → (code : Code Output Waker)
+        → q.inside ≡ code ∷ inside → (e : Done) → e.next ≡ below → (does wakes c1 x (r1 code)).inside ≡ inside
+        → Counted below (does wakes c1 x (r1 code)).runs → Follows e.world (does wakes c1 x (r1 code)) → Comes u e
+    back u x is code at e next stays count follows =
+        let z = does wakes c1 x (r1 code) in
+        came_by u x is e c1 refl
+        (subst (λ y. StandsSo e (does wakes c1 x y)) (same code at)
+        (record {
+          alike = alike (subst (λ os. Nested os z.inside) (sym next) (subst (λ codes. Nested below codes) (sym stays) nested)) follows;
+          counted = subst (λ os. Counted os z.runs) (sym next) count;
+        }))
+
+    count_at : (os xs : List Op) → reverse (stack s p) ≡ os → Alike os xs → Counted xs q.runs
+    count_at os xs is alike_so = like os xs q.runs alike_so (subst (λ os. Counted os q.runs) is counted)
+
+    module _ (taker : Taker Waker) (final : Op) (it : GoesOnBy taker final) (os : List Op) (is : reverse (stack s p) ≡ os)
+        (above : Above os (final ∷ below)) where
+      count : Counted (final ∷ below) q.runs
+      count =
+          like os (final ∷ below) q.runs (record { last = λ r. sym (above.alike.last r); left = λ r. sym (above.alike.left r) })
+          (subst (λ os. Counted os q.runs) is counted)
+
+      -- no run is emptied
+      quiet : (k : ℕ) → some_op (leaves k) os ≡ false → weigh (emptying_of k) os ≡ 0
+      quiet k off =
+          let two = off_left (leaves k final) (some_op (leaves k) below) (sym (above.alike.left k) ∙ off) in
+          omega (arith, above.emptied k, (final_none k taker final it).0, none_empty k below inside nested two.1)
+
+      -- what is so of a run that takes, by what holds of the machine
+      facts_by : (v : World) (y : Plain Output Waker) → Follows v y → v.runs ≡ s.world.runs → v.own ≡ s.world.own → y.runs ≡ q.runs
+          → y.due ≡ q.due → FactsOf below r0 taker final it
+      facts_by v y follows runs own same_runs same_due = by taker final it above
+        where
+          by : (taker : Taker Waker) (final : Op) (it : GoesOnBy taker final) → Above os (final ∷ below) → FactsOf below r0 taker final it
+          by taker final by_try above = tt
+          by taker final (by_tick t a) above = tt
+          by taker final (by_run x last) above = record {
+            unused = omega (arith, used_once s reached p there os is x.run, above.used x.run, uses last);
+            going = ap (λ rs. over_in x.run rs) (sym same_runs)
+                ∙ going_here s reached p there os is y v follows runs own x.run (omega (arith, above.polled x.run, polls last));
+            left = λ k over.
+                ap (λ ds. futures_in (is_kept k) ds) (sym same_due)
+                ∙ left_here s reached p there os is y v follows runs own others quiet
+                (subst (Counted os) (sym same_runs) (subst (λ os. Counted os q.runs) is counted)) k
+                (ap (λ rs. over_in k rs) same_runs ∙ over);
+          }
+            where
+              uses : (last : Bool) → running_of x.run (goes_on_by x last) ≡ 1
+              uses true = same_self x.run
+              uses false = same_self x.run
+
+              polls : (last : Bool) → polling_of x.run (goes_on_by x last) ≡ 1
+              polls true = same_self x.run
+              polls false = same_self x.run
+
+      facts : (v : World) → Follows v q → v.runs ≡ s.world.runs → v.own ≡ s.world.own → FactsOf below r0 taker final it
+      facts v follows runs own = facts_by v q follows runs own refl refl
+
+      -- where the call comes to, by a choice that tells alike
+      came : (u : UserEnd) (x : plain_calls.Call Output Waker) → IsMade s p (Answer p u) x → (code : Code Output Waker)
+          → q.inside ≡ code ∷ inside → (e : Done) → (d : Choice) × (d.tells ≡ c1.tells) × StandsSo e (does wakes d x (r1 code))
+          → Comes u e
+      came u x is_made code at e lands =
+          came_by u x is_made e lands.0 lands.1 (subst (λ y. StandsSo e (does wakes lands.0 x y)) (same code at) lands.2)
+
+      -- a poll
+      pub from_poll : (f : ℕ) → os ≡ op.User (user_op.Poll f) ∷ final ∷ below → q.inside ≡ Poll f taker ∷ inside
+          → Follows s.world q → (u : UserEnd) → accepts (op.User (user_op.Poll f)) u ≡ true
+          → Leads u (op.User (user_op.Poll f)) (final ∷ below)
+      from_poll f first at follows (end.Polled answer.Pending) ok =
+          by (is_last_waker move.EndPending (task s.world f)) refl
+        where
+          taken : IsTaken s.world f
+          taken = is_taken s p reached there open_still f (final ∷ below) (is ∙ first)
+
+          here : Follows s.world r0
+          here = follows0 (Poll f taker) at refl s.world follows
+
+          its : FactsOf below r0 taker final it
+          its = facts s.world follows refl refl
+
+          will : Choice → Plain Output Waker
+          will d = does wakes d Pends (r1 (Poll f taker))
+
+          by : (b : Bool) → is_last_waker move.EndPending (task s.world f) ≡ b
+              → Leads (end.Polled answer.Pending) (op.User (user_op.Poll f)) (final ∷ below)
+          by false left = λ hints all rests.
+              let in_poll : IsInPoll s.world f =
+              record { known = taken.known; polled = taken.polled; entered = taken.entered; reached = left } in
+              let e = alone p hints (pended p f final below s.world) in
+              came (end.Polled answer.Pending) Pends pends (Poll f taker) at e
+              (goes_lands p below r0 nested under c1 room e rests (λ d. does wakes d Pends (r1 (Poll f taker))) taker final it count its
+              (λ d. pends_ends d taker r0 f)
+              (λ z. StaysSo taker final below r0 e z)
+              (λ stays runs.
+              stays_lands p below r0 nested under c1 room e rests (λ d. does wakes d Pends (r1 (Poll f taker))) taker final it count its
+              (λ d. pends_ends d taker r0 f) c1 refl stays runs.runs)
+              (pends_by p below s.world r0 under here taker final f in_poll c1 many hints all rests))
+          by true last = λ hints all rests.
+              let last_poll : IsLastPoll s.world f =
+              record { known = taken.known; polled = taken.polled; entered = taken.entered; last = last } in
+              let e = alone p hints (pended p f final below s.world) in
+              let g = forgets_by p below s.world r0 under here taker final f last_poll c1 hints all rests in
+              came (end.Polled answer.Pending) Pends pends (Poll f taker) at e
+              (forgets_lands p below r0 nested under c1 room e rests (λ d. does wakes d Pends (r1 (Poll f taker))) taker final it count its
+              (λ d. pends_ends d taker r0 f) f c1 refl g.stops g.stay.runs)
+      from_poll f first at follows (end.Polled answer.Ready) ok = λ hints all rests.
+          let taken : IsTaken s.world f = is_taken s p reached there open_still f (final ∷ below) (is ∙ first) in
+          let e = alone p hints (given p f final below s.world) in
+          came (end.Polled answer.Ready) (EndsWith tt) gives (Poll f taker) at e
+          (stays_lands p below r0 nested under c1 room e rests (λ d. does wakes d (EndsWith tt) (r1 (Poll f taker))) taker final it count
+          (facts s.world follows refl refl) (λ d. gives_ends d taker r0 f tt) c1 refl
+          ((gives_so p below s.world r0 under (follows0 (Poll f taker) at refl s.world follows) taker final f c1 hints all rests).0 taken)
+          refl)
+      from_poll f first at follows u ok = absurd cc
+
+      -- the drop of a future
+      pub from_drop : (f : ℕ) (m : Move) (why : End Output) → IsDropOf m why
+          → os ≡ op.User (user_op.Drop f) ∷ op.Table (table_op.LeaveTable f) ∷ op.Move m f ∷ final ∷ below
+          → q.inside ≡ Drop f why taker ∷ inside → Follows s.world q → (u : UserEnd) → accepts (op.User (user_op.Drop f)) u ≡ true
+          → Leads u (op.User (user_op.Drop f)) (op.Table (table_op.LeaveTable f) ∷ op.Move m f ∷ final ∷ below)
+      from_drop f m why how first at follows end.Done ok = λ hints all rests.
+          let going : IsGoing s.world f m why = is_going s p reached there open_still f m why (final ∷ below) how (is ∙ first) in
+          let e = alone p hints (done s.world (op.Table (table_op.LeaveTable f) ∷ op.Move m f ∷ final ∷ below)) in
+          let its = facts s.world follows refl refl in
+          came end.Done Ends ends (Drop f why taker) at e
+          (goes_lands p below r0 nested under c1 room e rests (λ d. does wakes d Ends (r1 (Drop f why taker))) taker final it count its
+          (λ d. drop_ends d taker r0 f why)
+          (λ z. Drops taker final below f r0 e z)
+          (λ drops runs.
+          drops_lands p below r0 nested under c1 room e rests (λ d. does wakes d Ends (r1 (Drop f why taker))) taker final it count its
+          (λ d. drop_ends d taker r0 f why) f c1 refl drops runs.runs)
+          (dropped_by p below s.world r0 under (follows0 (Drop f why taker) at refl s.world follows) taker final f m why going.known
+          going.entered going.ends c1 many hints all rests))
+      from_drop f m why how first at follows u ok = absurd cc
+
+      -- the drop of an output that nobody can take
+      pub from_loss : (f : ℕ) (awaiter : Option Waker) → q.inside ≡ Lose awaiter (Some taker) ∷ inside → IsEnding s.world f awaiter q
+          → (u : UserEnd) → accepts (op.User (user_op.DropOutput f)) u ≡ true
+          → Leads u (op.User (user_op.DropOutput f)) (rest_of (task s.world f).awaiter f final ++ below)
+      from_loss f awaiter at ending end.Done ok = λ hints all rests.
+          let ending0 : IsEnding s.world f awaiter r0 =
+          record {
+            known = ending.known;
+            over = ending.over;
+            still = ending.still;
+            counted = ending.counted;
+            stored = ending.stored;
+            awaited = ending.awaited;
+            follows = follows0 (Lose awaiter (Some taker)) at refl (without_run f s.world) ending.follows;
+          } in
+          let e = alone p hints (done s.world (rest_of (task s.world f).awaiter f final ++ below)) in
+          came end.Done Ends ends (Lose awaiter (Some taker)) at e
+          (passes_lands p below r0 nested under c1 room e rests (λ d. does wakes d Ends (r1 (Lose awaiter (Some taker)))) taker final it
+          count (facts (without_run f s.world) ending.follows refl refl) (λ d. loss_ends d taker r0 awaiter)
+          (lost_by taker final p f below s.world r0 awaiter c1 ending0 many hints all rests))
+      from_loss f awaiter at ending u ok = absurd cc
+
+      unawaited_in : (f : ℕ) → record (unawaited f q) { inside = inside } ≡ unawaited f r0
+      unawaited_in f = by (slice_get q.futures f)
+        where
+          by : (o : Option (Future Output Waker))
+              → record (on o (λ x z. put_at f (record (plain.task f q) { awaiter = None }) x z) q) { inside = inside }
+              ≡ on o (λ x z. put_at f (record (plain.task f q) { awaiter = None }) x z) (record q { inside = inside })
+          by None = refl
+          by (Some x) = refl
+
+      facts_forgotten : (f : ℕ) → IsForgotten s.world f q → FactsOf below r0 taker final it
+      facts_forgotten f it_is =
+          let new = record (plain.task f q) { awaiter = None } in
+          facts_by (without_awaiter f s.world) (unawaited f q) it_is.follows refl refl (put_by (λ p. p.runs) f new q (λ fs. refl))
+          (put_by (λ p. p.due) f new q (λ fs. refl))
+
+      -- the drop of a future that nobody could wake
+      pub from_forgotten : (f : ℕ) → q.inside ≡ Drop f Closed taker ∷ inside → IsForgotten s.world f q → (u : UserEnd)
+          → accepts (op.User (user_op.Drop f)) u ≡ true
+          → Leads u (op.User (user_op.Drop f)) (op.Table (table_op.LeaveTable f) ∷ op.Handle (handle_op.LetGo f) ∷ final ∷ below)
+      from_forgotten f at it_is end.Done ok = λ hints all rests.
+          let there_follows : Follows (without_awaiter f s.world) (unawaited f r0) =
+          subst (Follows (without_awaiter f s.world)) (unawaited_in f) (stands_in inside (without_awaiter f s.world) (unawaited f q)
+          it_is.follows
+          (sym (ap (λ codes. waking_in codes)
+          (put_by (λ p. p.inside) f (record (plain.task f q) { awaiter = None }) q (λ fs. refl))
+          ∙ ap (λ codes. waking_in codes) at))) in
+          let forgotten0 : IsForgotten s.world f r0 =
+          record {
+            known = it_is.known;
+            entered = it_is.entered;
+            spent = it_is.spent;
+            unheld = it_is.unheld;
+            finished = it_is.finished;
+            closed = it_is.closed;
+            awaited = it_is.awaited;
+            follows = there_follows;
+          } in
+          let e = alone p hints (done s.world (op.Table (table_op.LeaveTable f) ∷ op.Handle (handle_op.LetGo f) ∷ final ∷ below)) in
+          came end.Done Ends ends (Drop f Closed taker) at e
+          (passes_lands p below r0 nested under c1 room e rests (λ d. does wakes d Ends (r1 (Drop f Closed taker))) taker final it count
+          (facts_forgotten f it_is) (λ d. drop_ends d taker r0 f Closed)
+          (forgotten_by taker final p f below s.world r0 c1 forgotten0 many hints all rests))
+      from_forgotten f at it_is u ok = absurd cc
+
+    -- the drop of an output whose handle goes
+    pub from_losing : (f : ℕ) → reverse (stack s p) ≡ op.User (user_op.DropOutput f) ∷ (left_of f ++ below) → q.inside ≡ Lose None None ∷ inside
+        → IsLosing s.world f q → (u : UserEnd) → accepts (op.User (user_op.DropOutput f)) u ≡ true
+        → Leads u (op.User (user_op.DropOutput f)) (left_of f ++ below)
+    from_losing f is at lost end.Done ok = λ hints all rests.
+        let lost0 : IsLosing s.world f r0 =
+        record {
+          known = lost.known;
+          closed = lost.closed;
+          follows = follows0 (Lose None None) at refl (without_handle f s.world) lost.follows;
+        } in
+        let e = alone p hints (done s.world (left_of f ++ below)) in
+        let so = loses_alike p f below s.world r0 c1 under lost0 hints tt all rests in
+        back end.Done Ends ends (Lose None None) at e so.0 (ends_inside c1 (r1 (Lose None None)) inside refl)
+        (count_at (op.User (user_op.DropOutput f) ∷ (left_of f ++ below)) below is (record { last = λ r. refl; left = λ r. refl })) so.1
+    from_losing f is at lost u ok = absurd cc
+
+    -- the poll of a run's own future: with an output, or without
+    pub from_own_poll : (x : RunPoll) → reverse (stack s p) ≡ op.User (user_op.PollOwn x) ∷ below → q.inside ≡ PollOwn x.run x.waker ∷ inside
+        → Follows s.world q → (u : UserEnd) → accepts (op.User (user_op.PollOwn x)) u ≡ true
+        → Leads u (op.User (user_op.PollOwn x)) below
+    from_own_poll x is at follows (end.Polled answer.Ready) ok = λ hints all rests.
+        let os = op.User (user_op.DropOwn x.run) ∷ op.List (list_op.LockWrite (section.Unregister x.run reply.Ready)) ∷ below in
+        let e = alone p hints (done s.world os) in
+        let stays : done s.world os ≡ e = sym (idles p hints os s.world refl) in
+        let z : Plain Output Waker = r1 (DropOwn x.run Ready) in
+        came_by (end.Polled answer.Ready) (EndsWith tt) gives e c1 refl
+        (subst (λ y. StandsSo e (does wakes c1 (EndsWith tt) y)) (same (PollOwn x.run x.waker) at)
+        (subst (λ (d : Done). StandsSo d z) stays
+        (record {
+          alike = alike (drops_own x.run below inside nested)
+              (stands_in (DropOwn x.run Ready ∷ inside) s.world q follows (sym (ap (λ codes. waking_in codes) at)));
+          counted = record {
+            taken = count0.taken;
+            going = λ r is_left. goes r (r == x.run) refl is_left;
+          };
+        })))
+      where
+        xs : List Op
+        xs = op.User (user_op.PollOwn x) ∷ below
+
+        count0 : Counted below q.runs
+        count0 = count_at (op.User (user_op.PollOwn x) ∷ below) below is (record { last = λ r. refl; left = λ r. refl })
+
+        polled : over_in x.run q.runs ≡ false
+        polled =
+            going_here s reached p there (op.User (user_op.PollOwn x) ∷ below) is q s.world follows refl refl x.run
+            (omega (arith, same_self x.run))
+
+        goes : (r : ℕ) (b : Bool) → (r == x.run) ≡ b → ((r == x.run) || some_op (leaves r) below) ≡ true → over_in r q.runs ≡ false
+        goes r true here is_left = ap (λ k. over_in k q.runs) (same_of r x.run here) ∙ polled
+        goes r false apart is_left = count0.going r (ap (λ b. b || some_op (leaves r) below) (sym apart) ∙ is_left)
+    from_own_poll x is at follows (end.Polled answer.Pending) ok = λ hints all rests.
+        let search = op.Tick (tick_op.Search (asleep x)) in
+        let e = alone p hints (done s.world (search ∷ below)) in
+        let will : Choice → Plain Output Waker = λ d. does wakes d Pends (r1 (PollOwn x.run x.waker)) in
+        let here = follows0 (PollOwn x.run x.waker) at refl s.world follows in
+        let lands =
+        after_lands p below r0 nested under c1 room e rests will x false count facts0
+        (λ d. take_ends d x.run x.waker r0 few) (taken_in x.run q.runs)
+        (goes_from p x below r0 c1.tells (taken_in x.run q.runs) e will under rests c1 s.world r0 here room
+        (between p below r0 nested under c1 room e rests will x false count facts0) refl
+        (record { hints = hints; has = all; is = refl })
+        (λ d. sym (ap (λ b. if b then plain_takes.take wakes (telling c1.tells d) (Run x.run x.waker) r0
+        else plain_takes.gives_way wakes (telling c1.tells d) x.run x.waker r0) few))) in
+        came_by (end.Polled answer.Pending) Pends pends e lands.0 lands.1
+        (subst (λ y. StandsSo e (does wakes lands.0 Pends y)) (same (PollOwn x.run x.waker) at) lands.2)
+      where
+        xs : List Op
+        xs = op.User (user_op.PollOwn x) ∷ below
+
+        count : Counted (goes_on_by x false ∷ below) q.runs
+        count = count_at xs (goes_on_by x false ∷ below) is (record { last = λ r. refl; left = λ r. refl })
+
+        unused : weigh (running_of x.run) below ≡ 0
+        unused = omega (arith, used_once s reached p there xs is x.run, same_self x.run)
+
+        few : nat_lt (taken_in x.run q.runs) 200 ≡ true
+        few = subst (λ b. Taken b (taken_in x.run q.runs)) (none_last x.run below unused) (count.taken x.run)
+
+        facts0 : Facts below r0 x
+        facts0 = record {
+          unused = unused;
+          going = going_here s reached p there xs is q s.world follows refl refl x.run (omega (arith, same_self x.run));
+          left = left_here s reached p there xs is q s.world follows refl refl others
+              (λ k off. omega (arith, none_empty k below inside nested off)) (subst (λ os. Counted os q.runs) is counted);
+        }
+    from_own_poll x is at follows u ok = absurd cc
+
+    -- and its drop
+    pub from_own_drop : (r : ℕ)
+        → reverse (stack s p) ≡ op.User (user_op.DropOwn r) ∷ op.List (list_op.LockWrite (section.Unregister r reply.Ready)) ∷ below
+        → q.inside ≡ DropOwn r Ready ∷ inside → Follows s.world q → (u : UserEnd) → accepts (op.User (user_op.DropOwn r)) u ≡ true
+        → Leads u (op.User (user_op.DropOwn r)) (op.List (list_op.LockWrite (section.Unregister r reply.Ready)) ∷ below)
+    from_own_drop r is at follows end.Done ok = λ hints all rests.
+        let e = alone p hints (done s.world (op.List (list_op.LockWrite (section.Unregister r reply.Ready)) ∷ below)) in
+        let so =
+        own_goes p below under s.world r0 (follows0 (DropOwn r Ready) at refl s.world follows) c1 many r hints all rests in
+        back end.Done Ends ends (DropOwn r Ready) at e so.0 so.2 gone_count so.1
+      where
+        xs : List Op
+        xs = op.User (user_op.DropOwn r) ∷ op.List (list_op.LockWrite (section.Unregister r reply.Ready)) ∷ below
+
+        counted0 : Counted xs q.runs
+        counted0 = subst (λ os. Counted os q.runs) is counted
+
+        unused : weigh (running_of r) below ≡ 0
+        unused = omega (arith, used_once s reached p there xs is r, same_self r)
+
+        gone_count : Counted below (plain_calls.gone wakes c1 r r0).runs
+        gone_count = record {
+          taken = λ k. subst (Taken (some_op (lasts k) below)) (sym (gone_taken c1 k r r0)) (counted0.taken k);
+          going = λ k is_left. goes k (k == r) refl is_left;
+        }
+          where
+            goes : (k : ℕ) (b : Bool) → (k == r) ≡ b → some_op (leaves k) below ≡ true
+                → over_in k (plain_calls.gone wakes c1 r r0).runs ≡ false
+            goes k true here is_left =
+                absurd (clash (ap (λ k. some_op (leaves k) below) (same_of k r here) ∙ none_left r below unused) is_left)
+            goes k false apart is_left =
+                ap (λ o. or o (λ run. run.is_over) true) (gone_spares c1 k r r0 apart)
+                ∙ counted0.going k (ap (λ b. b || some_op (leaves k) below) apart ∙ is_left)
+    from_own_drop r is at follows u ok = absurd cc

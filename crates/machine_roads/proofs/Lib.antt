@@ -97,3 +97,4 @@ pub mod Counting
 pub mod RunHere
 pub mod ActLands
 pub mod ActCodes
+pub mod OwnGoes

@@ -85,7 +85,7 @@ act_open s new p (Answer q e) ts on its rests made open_now =
 
 -- and the other parties do nothing
 
-goes_rest : (ts : List Step) (s new : Machine) (p : ℕ) → rests_after p ts s ≡ true → run_all ts s ≡ Ok new → OthersRest p s
+pub goes_rest : (ts : List Step) (s new : Machine) (p : ℕ) → rests_after p ts s ≡ true → run_all ts s ≡ Ok new → OthersRest p s
     → OthersRest p new
 goes_rest [] s new p rests made others = subst (λ (m : Machine). OthersRest p m) (made_is s new made) others
 goes_rest (t ∷ ts) s new p rests made others =
@@ -108,7 +108,7 @@ rests_alike e q (dropping taker final below f b it nested (loses awaiter next in
 rests_alike e q (forgetting taker final below f b it nested stops) = ap (λ os. is_resting os) stops.left
 
 -- who rests does nothing of its own
-no_go_resting : (s : Machine) (p : ℕ) → p < length s.parties → (h : Hint) (os : List Op) → reverse (stack s p) ≡ os
+pub no_go_resting : (s : Machine) (p : ℕ) → p < length s.parties → (h : Hint) (os : List Op) → reverse (stack s p) ≡ os
     → is_resting os ≡ true → refusal s (Go p h) ≡ None → ⊥
 no_go_resting s p there h [] is resting may = no_go s p there h is may
 no_go_resting s p there h (o ∷ os) is resting may =
@@ -168,7 +168,7 @@ module _ (s : Machine) (reached : Reached s) (p : ℕ) (q : Plain Output Waker) 
       reached there e.is e.leads (subst (λ n. rests_after p ts (after s (Answer n u)) ≡ true) its rests) whole)
 
 -- a party that takes over stands where the one before did, which does nothing
-taken_over : (s : Machine) (p r : ℕ) → OthersRest p s → OthersRest r s → (b : Bool) → (p == r) ≡ b → standing s p ≡ standing s r
+pub taken_over : (s : Machine) (p r : ℕ) → OthersRest p s → OthersRest r s → (b : Bool) → (p == r) ≡ b → standing s p ≡ standing s r
 taken_over s p r ps rs true same = ap (λ n. standing s n) (same_of p r same)
 taken_over s p r ps rs false other =
     let apart = apart_of p r other in

@@ -1,13 +1,11 @@
 -- In each machine of which the executor's drop hasn't begun, what the next thing to do speaks of is there.
-use Rattle.std.proofs.Common.{◌≡◌, ℕ, suc, ◌+◌, ◌<◌, ◌≤◌, ◌==◌, ◌&&◌, ◌||◌, not, cond, nat_lt, Bool, true, false, List, [], ◌∷◌, length}
+use Rattle.std.proofs.Common.{◌≡◌, ℕ, suc, ◌+◌, ◌<◌, ◌≤◌, ◌==◌, ◌&&◌, ◌||◌, not, cond, nat_lt, Bool, true, false, [], ◌∷◌, length}
 use Rattle.std.proofs.Common.{Some, if◌then◌else◌, refl, sym, ap, subst, ◌∙◌, arith}
 use Rattle.std.proofs.Common.{inl, ⊎_elim}
 use Rattle.std.proofs.lemmas.Bool.Decides.{nat_tests}
-use Rattle.task_moves.specs.declared.moves.owed.Move.{Move}
 use Rattle.task_moves.specs.declared.moves.owed.Move.TheVariants as move
 use Rattle.task_moves.specs.LocalTask.{token}
 use Rattle.task_moves.specs.Moves.{is_going}
-use Rattle.executor_model.specs.declared.op.ClosingOp.{ClosingOp}
 use Rattle.executor_model.specs.declared.op.ClosingOp.TheVariants as closing_op
 use Rattle.executor_model.specs.declared.op.HandleOp.TheVariants as handle_op
 use Rattle.executor_model.specs.declared.op.ListOp.TheVariants as list_op
@@ -51,29 +49,19 @@ use Rattle.executor_laws.proofs.Wakeups.StandsMachine.{standing}
 use Rattle.executor_laws.proofs.Wakeups.StandsSteps.{Standing}
 use Rattle.executor_laws.proofs.Walks.Enrolled.{Enrolled, kept-listed}
 use Rattle.executor_laws.proofs.Walks.Finding.{enrolled-here, listed-here, room-here}
-use Rattle.machine_roads.specs.Alone.{CanCopy, Has, ListHas, RunCanLie, SleepsAlone, StealHas}
+use Rattle.machine_roads.specs.Alone.{CanCopy, Has, HasIn, ListHas, RunCanLie, SleepsAlone, StealHas}
 use Rattle.machine_roads.specs.Moving.{IsQueued}
 use Rattle.machine_roads.specs.Road.{is_ended}
 use Rattle.machine_roads.proofs.Lists.{clash, equal}
 use Rattle.machine_roads.proofs.Living.{living_here}
 
--- what is there at each moment, also once the executor's drop has begun: a place in the queue, whether that is closed or not
-abbrev pub MoveHasIn : Move → World → ℕ → Type 0
-MoveHasIn move.Release w f = token (task w f) < (task w f).references
-MoveHasIn move.DropRunnable w f = IsQueued (task w f)
-MoveHasIn m w f = Unit {0}
-
-abbrev pub ClosingHasIn : World → ClosingOp → Type 0
-ClosingHasIn w closing_op.DropNext = (f : ℕ) (rest : List ℕ) → w.leaving ≡ f ∷ rest → IsKnown w f
-ClosingHasIn w closing_op.WakeNext = (f : ℕ) (rest : List ℕ) → w.waking ≡ f ∷ rest → IsKnown w f
-ClosingHasIn w _ = Unit {0}
-
-abbrev pub HasIn : World → Op → Type 0
-HasIn w (op.Move m f) = IsKnown w f × MoveHasIn m w f
-HasIn w (op.Queue (queue_op.Append f)) = nat_lt (length (queue_of w (mark_of w f)).items) w.limit ≡ true
-HasIn w (op.Waker (waker_op.CallAwaiter f a k)) = IsKnownWaker w a
-HasIn w (op.Closing o) = ClosingHasIn w o
-HasIn w _ = Unit {0}
+-- of these more is asked while the executor's drop hasn't begun
+abbrev pub asks_open : Op → Bool
+asks_open (op.Move move.TakeUp f) = true
+asks_open (op.Queue (queue_op.Append f)) = true
+asks_open (op.Closing closing_op.LeakOut) = true
+asks_open (op.Closing closing_op.LeakNext) = true
+asks_open _ = false
 
 pub heard_here : (s : Machine) → Reached s → Heard s
 heard_here s r = subst Heard (sym r.is) (heard r.limit r.kind r.parties r.steps)
@@ -284,39 +272,43 @@ module _ (s : Machine) (p : ℕ) (reached : Reached s) (there : p < length s.par
       agrees : SleepersAgree s
       agrees = subst SleepersAgree (sym reached.is) (agree reached.limit reached.kind reached.parties reached.steps)
 
-  pub has_here : (o : Op) → s.world.gone ≡ false → top (stack s p) ≡ Some o → Has s.world o
-  has_here (op.Move move.Release f) open_still is =
+  -- also once the executor's drop has begun, but of what is asked only before that
+  pub has_unless : (o : Op) → (asks_open o ≡ true → s.world.gone ≡ false) → top (stack s p) ≡ Some o → Has s.world o
+  has_unless (op.Move move.Release f) open_still is =
       ((needs s p (op.Move move.Release f) there is good).0.0, released f is)
-  has_here (op.Move move.TakeUp f) open_still is =
-      ((needs s p (op.Move move.TakeUp f) there is good).0.0, taken_up f open_still is)
-  has_here (op.Move move.Detach f) open_still is =
+  has_unless (op.Move move.TakeUp f) open_still is =
+      ((needs s p (op.Move move.TakeUp f) there is good).0.0, taken_up f (open_still refl) is)
+  has_unless (op.Move move.Detach f) open_still is =
       ((needs s p (op.Move move.Detach f) there is good).0.0, omega (arith, token_few f, (good.sound f).counted))
-  has_here (op.Move m f) open_still is = ((needs s p (op.Move m f) there is good).0.0, tt)
-  has_here (op.Queue (queue_op.Append f)) open_still is = queued f open_still is
-  has_here (op.Waker (waker_op.CopyWaker f held)) open_still is =
+  has_unless (op.Move m f) open_still is = ((needs s p (op.Move m f) there is good).0.0, tt)
+  has_unless (op.Queue (queue_op.Append f)) open_still is = queued f (open_still refl) is
+  has_unless (op.Waker (waker_op.CopyWaker f held)) open_still is =
       (needs s p (op.Waker (waker_op.CopyWaker f held)) there is good, omega (arith, token_few f, (good.sound f).counted))
-  has_here (op.Waker (waker_op.CallAwaiter f a k)) open_still is =
+  has_unless (op.Waker (waker_op.CallAwaiter f a k)) open_still is =
       known_by s.world a (needs s p (op.Waker (waker_op.CallAwaiter f a k)) there is good)
-  has_here (op.Sleeper (sleeper_op.CallSleeper x)) open_still is =
+  has_unless (op.Sleeper (sleeper_op.CallSleeper x)) open_still is =
       known_by s.world x.waker (needs s p (op.Sleeper (sleeper_op.CallSleeper x)) there is good)
-  has_here (op.Handle (handle_op.Look f a)) open_still is =
+  has_unless (op.Handle (handle_op.Look f a)) open_still is =
       (needs s p (op.Handle (handle_op.Look f a)) there is good, at_rest f)
-  has_here (op.Handle (handle_op.CopyAwaiter f a)) open_still is =
+  has_unless (op.Handle (handle_op.CopyAwaiter f a)) open_still is =
       can_copy a (needs s p (op.Handle (handle_op.CopyAwaiter f a)) there is good)
-  has_here (op.Tick (tick_op.CopyWaker x)) open_still is =
+  has_unless (op.Tick (tick_op.CopyWaker x)) open_still is =
       can_copy x.waker (needs s p (op.Tick (tick_op.CopyWaker x)) there is good)
-  has_here (op.Tick (tick_op.FallAsleep x)) open_still is = (alone x.who, run_lies x x.who refl is)
-  has_here (op.Tick (tick_op.WakeUp x)) open_still is = alone x
-  has_here (op.Tick (tick_op.Leave x)) open_still is = alone x
-  has_here (op.Closing closing_op.LeakOut) open_still is = open_still
-  has_here (op.Closing closing_op.LeakNext) open_still is =
-      (open_still, λ f rest here. (needs s p (op.Closing closing_op.LeakNext) there is good f rest here).0)
-  has_here (op.Handle o) open_still is = needs s p (op.Handle o) there is good
-  has_here (op.List (list_op.LockRead x)) open_still is = walks x is
-  has_here (op.Run (run_op.WakeOwn x)) open_still is =
+  has_unless (op.Tick (tick_op.FallAsleep x)) open_still is = (alone x.who, run_lies x x.who refl is)
+  has_unless (op.Tick (tick_op.WakeUp x)) open_still is = alone x
+  has_unless (op.Tick (tick_op.Leave x)) open_still is = alone x
+  has_unless (op.Closing closing_op.LeakOut) open_still is = open_still refl
+  has_unless (op.Closing closing_op.LeakNext) open_still is =
+      (open_still refl, λ f rest here. (needs s p (op.Closing closing_op.LeakNext) there is good f rest here).0)
+  has_unless (op.Handle o) open_still is = needs s p (op.Handle o) there is good
+  has_unless (op.List (list_op.LockRead x)) open_still is = walks x is
+  has_unless (op.Run (run_op.WakeOwn x)) open_still is =
       known_by s.world x.waker (needs s p (op.Run (run_op.WakeOwn x)) there is good)
-  has_here (op.Steal (steal_op.Take x more)) open_still is = steals x more is
-  has_here o open_still is = tt
+  has_unless (op.Steal (steal_op.Take x more)) open_still is = steals x more is
+  has_unless o open_still is = tt
+
+  pub has_here : (o : Op) → s.world.gone ≡ false → top (stack s p) ≡ Some o → Has s.world o
+  has_here o open_still is = has_unless o (λ asks. open_still) is
 
   -- a Runnable that comes to its queue finds a place there, and one that is dropped is that of a queued task
   placed : (f : ℕ) → top (stack s p) ≡ Some (op.Queue (queue_op.Append f))
@@ -325,6 +317,19 @@ module _ (s : Machine) (p : ℕ) (reached : Reached s) (there : p < length s.par
       below_test (length (queue_of s.world (mark_of s.world f)).items) s.world.limit
       (has-place s p f (below_top (stack s p)) there (topped (stack s p) (op.Queue (queue_op.Append f)) is) good
       (heard_here s reached).placed (mark_of s.world f))
+
+  -- so it is where the queue is open
+  pub appends_open : (f : ℕ) → (queue_of s.world (mark_of s.world f)).closed ≡ false → top (stack s p) ≡ Some (op.Queue (queue_op.Append f))
+      → Has s.world (op.Queue (queue_op.Append f))
+  appends_open f off is =
+      let o = op.Queue (queue_op.Append f) in (
+        below_of (length s.world.tasks) f (omega (
+          arith,
+          good.ops,
+          split (past_of (length s.world.tasks)) s.parties p (o ∷ []) (below_top (stack s p)) there (topped (stack s p) o is),
+        )),
+        ap (λ b. not b && nat_lt (length (queue_of s.world (mark_of s.world f)).items) s.world.limit) off ∙ placed f is,
+      )
 
   dropped : (f : ℕ) → top (stack s p) ≡ Some (op.Move move.DropRunnable f) → IsQueued (task s.world f)
   dropped f is =

@@ -50,6 +50,11 @@ pub mod Living
 pub mod Having
 pub mod Fitting
 pub mod LoneRuns
+pub mod LoneTold
+pub mod Waits
+pub mod Loose
+pub mod Tableless
+pub mod Beside
 pub mod LoneCalls
 pub mod LoneLosing
 pub mod LoneTicks
@@ -65,6 +70,7 @@ pub mod Sweeping
 pub mod Unborrowed
 pub mod LoneCloses
 pub mod LoneBehind
+pub mod CallsBehind
 pub mod RunsMade
 pub mod Runs
 pub mod RunsGone
@@ -75,12 +81,18 @@ pub mod RunTaking
 pub mod RunSearching
 pub mod TakenBeside
 pub mod RunLies
+pub mod RunGoesOn
 pub mod RunsOn
 pub mod LoneRunsOn
 pub mod LoneGoesOn
 pub mod LoneRunPolls
 pub mod Inside
 pub mod Open
+pub mod OneCall
+pub mod CourseBehind
+pub mod InDrop
+pub mod OpenCalls
+pub mod DropActs
 pub mod FewTaken
 pub mod FewAfter
 pub mod Course
@@ -98,3 +110,4 @@ pub mod RunHere
 pub mod ActLands
 pub mod ActCodes
 pub mod OwnGoes
+pub mod ActsToEnd

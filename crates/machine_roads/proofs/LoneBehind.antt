@@ -1,5 +1,5 @@
--- Lone calls by kept wakers where no task waits for a wake, as once the executor's drop has ended: nothing comes into a queue.
-use Rattle.std.proofs.Common.{◌≡◌, ℕ, ◌<◌, ◌++◌, true, false, List, [], ◌∷◌, length, None, is_some}
+-- Lone calls where no task waits for a wake, as once the executor's drop has ended: nothing comes into a queue.
+use Rattle.std.proofs.Common.{◌≡◌, ℕ, ◌<◌, ◌++◌, true, false, List, [], ◌∷◌, length, Some, None, is_some}
 use Rattle.std.proofs.Common.{refl, sym, ap, subst, ◌∙◌}
 use Rattle.task_moves.specs.declared.moves.owed.Move.TheVariants as move
 use Rattle.task_moves.specs.AbstractTask as abstract
@@ -17,30 +17,31 @@ use Rattle.executor_model.specs.declared.op.Waker.{Waker}
 use Rattle.executor_model.specs.declared.step.Step.{Step}
 use Rattle.executor_model.specs.Acts.{move_task}
 use Rattle.executor_model.specs.Quiet.{IsQuiet}
-use Rattle.executor_model.specs.Steps.{Machine, used_up, with_future}
+use Rattle.executor_model.specs.Steps.{Machine, kept, used_up, with_future}
 use Rattle.executor_model.specs.World.{World, Done, among, awaiter_of, done, log}
 use Rattle.executor_model.specs.World as world
 use Rattle.executor_model.proofs.Steps.Reached.{Reached}
 use Rattle.executor_laws.specs.LoneEnds.{IsLoneCall}
-use Rattle.plain_scheduler.specs.State.{Plain, Done as DoneAnswer}
+use Rattle.plain_scheduler.specs.State.{Choice, Plain, Done as DoneAnswer}
 use Rattle.plain_scheduler.specs.Moves.{answers, put, task, tell}
 use Rattle.plain_scheduler.specs.Calls.{does, Release, Use, Wake}
 use Rattle.machine_roads.specs.View.{Output, view, waker_in, wakes}
 use Rattle.machine_roads.specs.Moving.{IsMove}
 use Rattle.machine_roads.specs.Road.{Follows}
-use Rattle.machine_roads.specs.Alone.{alone, is_resting}
+use Rattle.machine_roads.specs.Alone.{alone, is_resting, HasIn}
 use Rattle.machine_roads.specs.Alike.{begins, upon}
-use Rattle.machine_roads.specs.Lone.{EachLoneAlike, LoneUsesBehind, LoneWakerGoesBehind, LoneWakesBehind, NoneWaits}
+use Rattle.machine_roads.specs.Lone.{EachLoneAlike, NoneWaits}
+use Rattle.machine_roads.specs.Behind.{LoneUsesBehind, LoneWakerGoesBehind, LoneWakesBehind}
 use Rattle.machine_roads.proofs.Calm.{wake_calm}
 use Rattle.machine_roads.proofs.Changing.{logs}
-use Rattle.machine_roads.proofs.Having.{HasIn}
 use Rattle.machine_roads.proofs.LoneCalls.{each}
 use Rattle.machine_roads.proofs.LoneCloses.{IsAny, walks}
 use Rattle.machine_roads.proofs.LoneRuns.{ends_so, lone_calls_rest_of}
 use Rattle.machine_roads.proofs.Marks.{queue_if, woken_owes, woken_stored}
 use Rattle.machine_roads.proofs.Moved.{MovedSo, moved_so}
 use Rattle.machine_roads.proofs.Moving.{wakes_alike}
-use Rattle.machine_roads.proofs.Nobody.{calm_infos, release_calmly, used_calmly, used_so, wake_calmly}
+use Rattle.machine_roads.proofs.Nobody.{calm_infos, put_none, release_calmly, released_waits, used_calmly, used_so, wake_calmly}
+use Rattle.machine_roads.proofs.Nobody.{woken_waits}
 use Rattle.machine_roads.proofs.Rousing.{ends_in, releases_in}
 use Rattle.machine_roads.proofs.Stepping.{WayOf, next_of}
 use Rattle.machine_roads.proofs.Sweeping.{uses_in}
@@ -86,8 +87,9 @@ module _ (s : Machine) (reached : Reached s) (q : Plain Output Waker) (quiet : I
   begun_so : (p : ℕ) (c : Call) → Follows (log s.world (event.CallBegun p c)) q
   begun_so p c = logs s.world q follows (event.CallBegun p c) refl
 
-  pub uses_behind_so : LoneUsesBehind s q
-  uses_behind_so p k f c steps none is new lone =
+  use_follows : (p k f : ℕ) (c : Choice) (steps : List Step) → NoneWaits q → kept s.world k ≡ Some f → (new : Machine)
+      → IsLoneCall p (call.Wake k) steps s new → Follows new.world (does wakes c (Use f) q)
+  use_follows p k f c steps none is new lone =
       let w1 = log s.world (event.CallBegun p (call.Wake k)) in
       let w2 = used_up w1 k in
       let os = op.End reply.Done hold.Nothing ∷ [] in
@@ -104,8 +106,9 @@ module _ (s : Machine) (reached : Reached s) (q : Plain Output Waker) (quiet : I
       (ends_in p end rests u.world (used_so f q) hold.Nothing u.follows u.way)))
       lone
 
-  pub wakes_behind_so : LoneWakesBehind s q
-  wakes_behind_so p k f c steps none is new lone =
+  wake_follows : (p k f : ℕ) (c : Choice) (steps : List Step) → NoneWaits q → kept s.world k ≡ Some f → (new : Machine)
+      → IsLoneCall p (call.WakeByRef k) steps s new → Follows new.world (does wakes c (Wake f) q)
+  wake_follows p k f c steps none is new lone =
       let w1 = log s.world (event.CallBegun p (call.WakeByRef k)) in
       let os = op.End reply.Done (hold.Waker k) ∷ [] in
       let P : World → Type 0 = λ v. Follows v (does wakes c (Wake f) q) in
@@ -120,8 +123,9 @@ module _ (s : Machine) (reached : Reached s) (q : Plain Output Waker) (quiet : I
       (ends_in p end rests u.world (put f (abstract.wake (task f q)) q) (hold.Waker k) u.follows u.way)))
       lone
 
-  pub goes_behind_so : LoneWakerGoesBehind s q
-  goes_behind_so p k f c steps none is new lone =
+  going_follows : (p k f : ℕ) (c : Choice) (steps : List Step) → NoneWaits q → kept s.world k ≡ Some f → (new : Machine)
+      → IsLoneCall p (call.DropWaker k) steps s new → Follows new.world (does wakes c (Release f) q)
+  going_follows p k f c steps none is new lone =
       let w1 = log s.world (event.CallBegun p (call.DropWaker k)) in
       let w2 = used_up w1 k in
       let os = op.End reply.Done hold.Nothing ∷ [] in
@@ -136,6 +140,29 @@ module _ (s : Machine) (reached : Reached s) (q : Plain Output Waker) (quiet : I
       subst (λ z. (end.next ≡ []) × Follows end.world (answers DoneAnswer z)) (sym (release_calmly (tell wakes c) f q (none f)))
       (ends_in p end rests u.world (put f (abstract.release (task f q)) q) hold.Nothing u.follows u.way)))
       lone
+
+  pub uses_behind_so : LoneUsesBehind s q
+  uses_behind_so p k f c steps none is new lone =
+      let t : AbstractTask Output Waker = task f q in (
+        use_follows p k f c steps none is new lone,
+        subst (λ z. NoneWaits z) (sym (used_calmly (tell wakes c) f q none))
+            (put_none f (abstract.release (abstract.wake t)) q (released_waits (abstract.wake t) (woken_waits t)) none),
+      )
+
+  pub wakes_behind_so : LoneWakesBehind s q
+  wakes_behind_so p k f c steps none is new lone =
+      let t : AbstractTask Output Waker = task f q in (
+        wake_follows p k f c steps none is new lone,
+        subst (λ z. NoneWaits z) (sym (wake_calmly (tell wakes c) f q (none f))) (put_none f (abstract.wake t) q (woken_waits t) none),
+      )
+
+  pub goes_behind_so : LoneWakerGoesBehind s q
+  goes_behind_so p k f c steps none is new lone =
+      let t : AbstractTask Output Waker = task f q in (
+        going_follows p k f c steps none is new lone,
+        subst (λ z. NoneWaits z) (sym (release_calmly (tell wakes c) f q (none f)))
+            (put_none f (abstract.release t) q (released_waits t (none f)) none),
+      )
 
 pub lone_uses_behind : EachLoneAlike LoneUsesBehind
 lone_uses_behind = each LoneUsesBehind uses_behind_so

@@ -33,7 +33,8 @@ use Rattle.machine_roads.specs.Lone.{LoneDetaches, LoneHandleGoes, LoneHandlePol
 use Rattle.machine_roads.specs.Lone.{LoneTickIsMade, LoneWakes}
 use Rattle.machine_roads.proofs.Calling.{cancels, copies_kept, detaches, empty_alike, handle_goes, spawns, uses_alike}
 use Rattle.machine_roads.proofs.Calling.{waker_goes, wakes_kept}
-use Rattle.machine_roads.proofs.LoneRuns.{lone_calls, lone_calls_so, lone_calls_told, lone_calls_told_twice}
+use Rattle.machine_roads.proofs.LoneRuns.{lone_calls, lone_calls_so}
+use Rattle.machine_roads.proofs.LoneTold.{lone_calls_told, lone_calls_told_twice}
 use Rattle.machine_roads.proofs.PollCalls.{polls}
 use Rattle.machine_roads.proofs.Polling.{waits_poll}
 use Rattle.machine_roads.proofs.Ticking.{makes_tick, tick_goes}
@@ -65,7 +66,7 @@ waits_below f w q follows waits = by (nat_lt f (length w.tasks)) refl
         absurd cc
 
 -- who has to wait copies its waker next
-looks_on : (p f : ℕ) (a : Waker) (w later : World) (q : Plain Output Waker) → Follows w q
+pub looks_on : (p f : ℕ) (a : Waker) (w later : World) (q : Plain Output Waker) → Follows w q
     → abstract.polled (task f q) ≡ Waits → world.task later f ≡ world.task w f
     → (look p later f a).next ++ [] ≡ op.Handle (handle_op.CopyAwaiter f a) ∷ []
 looks_on p f a w later q follows waits same =

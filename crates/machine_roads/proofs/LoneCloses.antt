@@ -11,26 +11,28 @@ use Rattle.executor_model.specs.declared.op.ClosingOp.TheVariants as closing_op
 use Rattle.executor_model.specs.declared.op.Op.TheVariants as op
 use Rattle.executor_model.specs.declared.op.UserOp.TheVariants as user_op
 use Rattle.executor_model.specs.declared.op.Waker.{Waker}
+use Rattle.executor_model.specs.declared.step.Step.{Step}
 use Rattle.executor_model.specs.declared.step.Step.TheVariants.{Begin}
 use Rattle.executor_model.specs.Acts.{closing_ops, drop_next_by}
 use Rattle.executor_model.specs.Quiet.{IsQuiet}
-use Rattle.executor_model.specs.Steps.{Machine, react, stack, top}
+use Rattle.executor_model.specs.Steps.{Machine, react, stack, top, begin_refusal}
 use Rattle.executor_model.specs.World.{World, Done, done, log, own_of, without}
 use Rattle.executor_model.proofs.Steps.Reached.{Reached, reached-more, run-first}
+use Rattle.executor_laws.specs.LoneEnds.{IsLoneCall}
 use Rattle.plain_scheduler.specs.State.{Choice, Close, Code, Drops, Due, Future, Plain}
 use Rattle.plain_scheduler.specs.Lists.{each, on}
 use Rattle.plain_scheduler.specs.Moves.{is_common, put, see, task}
 use Rattle.plain_scheduler.specs.Calls.{close, closed, freed, swept, Ends}
 use Rattle.machine_roads.specs.View.{Output, wakes}
 use Rattle.machine_roads.specs.Road.{Follows, waking_in}
-use Rattle.machine_roads.specs.Alone.{alone, is_resting}
+use Rattle.machine_roads.specs.Alone.{alone, is_resting, HasIn}
 use Rattle.machine_roads.specs.Alike.{begins, upon}
 use Rattle.machine_roads.specs.Lone.{EachLoneAlike, Ended, LoneDropEnds, NoneWaits, ends as ends_with, over, waits_for}
 use Rattle.machine_roads.proofs.Aside.{called_inside}
 use Rattle.machine_roads.proofs.Calling.{idles}
 use Rattle.machine_roads.proofs.Changing.{logs, sees}
 use Rattle.machine_roads.proofs.Dropped.{gone_at, gone_task, marked, marks}
-use Rattle.machine_roads.proofs.Having.{HasIn, has_in}
+use Rattle.machine_roads.proofs.Having.{has_in}
 use Rattle.machine_roads.proofs.Leaking.{freed_inside}
 use Rattle.machine_roads.proofs.Lists.{cons_is, equal}
 use Rattle.machine_roads.proofs.LoneCalls.{each as each_alike}
@@ -60,7 +62,7 @@ take_front xs ys = ap (λ n. take n (xs ++ ys)) (so_many (length (xs ++ ys)) (le
     front (x ∷ xs) = ap (λ zs. x ∷ zs) (front xs)
 
 -- a future is dropped
-abbrev gone_of : ℕ → Plain Output Waker → Plain Output Waker
+abbrev pub gone_of : ℕ → Plain Output Waker → Plain Output Waker
 gone_of f q = see (Drops f) (marked f q)
 
 module _ (f : ℕ) (q : Plain Output Waker) where
@@ -98,7 +100,7 @@ closed_inside c (f ∷ fs) q =
     ∙ (called_inside c (abstract.drop_runnable t).called (put f (abstract.drop_runnable t).task q)
     ∙ put_by (λ p. p.inside) f (abstract.drop_runnable t).task q (λ fs. refl))
 
-swept_inside : (c : Choice) (all : List ℕ) (q : Plain Output Waker) → (swept wakes c (each all (freed wakes c) q)).inside ≡ q.inside
+pub swept_inside : (c : Choice) (all : List ℕ) (q : Plain Output Waker) → (swept wakes c (each all (freed wakes c) q)).inside ≡ q.inside
 swept_inside c all q =
     let z : Plain Output Waker = each all (freed wakes c) q in
     by (filter (is_common Urgent) z.due ++ filter (is_common PlainMark) z.due) (record z { due = [] }) ∙ freed_inside c all q
@@ -109,20 +111,20 @@ swept_inside c all q =
         ∙ closed_inside c (map (λ (d : Due). d.future) ds) z
 
 -- of those that the drop has taken out these are still to be dropped
-record IsClosing (w : World) (fs all : List ℕ) (codes : List (Code Output Waker)) (q : Plain Output Waker) : Type 0 where
-  leaving : w.leaving ≡ fs
-  table : w.table ≡ []
-  parts : all ≡ w.waking ++ fs
-  inside : q.inside ≡ codes
-  follows : Follows (record w { table = fs }) (record q { inside = Close fs all ∷ codes })
-  nowhere : waking_in codes ≡ []
-  nobody : q.lying ≡ []
-  opened : AreOpen w
-  unkept : (r : ℕ) → own_of w r ≡ []
-  among_them : WaitAmong all q
+pub record IsClosing (w : World) (fs all : List ℕ) (codes : List (Code Output Waker)) (q : Plain Output Waker) : Type 0 where
+  pub leaving : w.leaving ≡ fs
+  pub table : w.table ≡ []
+  pub parts : all ≡ w.waking ++ fs
+  pub inside : q.inside ≡ codes
+  pub follows : Follows (record w { table = fs }) (record q { inside = Close fs all ∷ codes })
+  pub nowhere : waking_in codes ≡ []
+  pub nobody : q.lying ≡ []
+  pub opened : AreOpen w
+  pub unkept : (r : ℕ) → own_of w r ≡ []
+  pub among_them : WaitAmong all q
 
 -- all is done, or the call stands in the drop of the next one
-abbrev Closing : Choice → List ℕ → List (Code Output Waker) → List ℕ → Plain Output Waker → Done → Type 0
+abbrev pub Closing : Choice → List ℕ → List (Code Output Waker) → List ℕ → Plain Output Waker → Done → Type 0
 Closing c all codes [] q end =
     (end.next ≡ []) × Follows end.world (close wakes c [] all q) × NoneWaits (close wakes c [] all q)
 Closing c all codes (f ∷ rest) q end =
@@ -130,7 +132,7 @@ Closing c all codes (f ∷ rest) q end =
     × IsClosing end.world rest all codes (gone_of f q)
 
 module _ (p : ℕ) (end : Done) (rests : is_resting end.next ≡ true) (c : Choice) (all : List ℕ) (codes : List (Code Output Waker)) where
-  goes_close : (fs : List ℕ) (w : World) (q : Plain Output Waker) → IsClosing w fs all codes q
+  pub goes_close : (fs : List ℕ) (w : World) (q : Plain Output Waker) → IsClosing w fs all codes q
       → WayOf HasIn p end w (closing_ops fs w.waking ++ ending) → Closing c all codes fs q end
   goes_close [] w q is way =
       let whole : w.waking ≡ all = sym (is.parts ∙ append-nil w.waking) in
@@ -233,10 +235,12 @@ module _ (p : ℕ) (new : Machine) (last : Reached new) (quiet : IsQuiet new.wor
       least : (n : ℕ) → 0 ≤ n
       least n = omega arith
 
-pub drop_ends_so : (s : Machine) → Reached s → (q : Plain Output Waker) → IsQuiet s.world.trace → Follows s.world q → LoneDropEnds s q
-drop_ends_so s reached q quiet follows p c steps none new lone =
+-- where the call rests first
+pub drop_leads_so : (s : Machine) → Reached s → (q : Plain Output Waker) → IsQuiet s.world.trace → Follows s.world q → (p : ℕ) (c : Choice)
+    → q.inside ≡ [] → begin_refusal s.world s.parties (top (stack s p)) call.DropExecutor ≡ None
+    → LeadsSoOf HasIn p (upon [] (begins p None call.DropExecutor s.world)) (λ e. Closing c s.world.table q.inside s.world.table q e)
+drop_leads_so s reached q quiet follows p c none may =
     let w = s.world in
-    let may = may_begin s p call.DropExecutor (run-first (Begin p call.DropExecutor) steps s new lone.made).0 in
     let free = may_drop w s.parties (top (stack s p)) may in
     let all = w.table in
     let begun = log w (event.CallBegun p call.DropExecutor) in
@@ -262,16 +266,28 @@ drop_ends_so s reached q quiet follows p c steps none new lone =
       unkept = nothing_kept s reached quiet free;
       among_them = waiting_entered s reached quiet free q follows;
     } in
-    let R : Done → Type 0 = λ e. Closing c all q.inside all q e in
-    let leads : LeadsSoOf HasIn p (upon [] (begins p None call.DropExecutor w)) R =
     λ hints has rests.
     let end = alone p hints (done w0 (op.Closing closing_op.TakeOut ∷ ending)) in
     let step =
     next_of HasIn p end rests (op.Closing closing_op.TakeOut) w0 ending refl (record { hints = hints; has = has; is = refl }) in
-    goes_close p end rests c all q.inside all w1 q starts step.way in
+    goes_close p end rests c all q.inside all w1 q starts step.way
+
+pub drop_rests_so : (s : Machine) → Reached s → (q : Plain Output Waker) → IsQuiet s.world.trace → Follows s.world q → (p : ℕ) (c : Choice)
+    (steps : List Step) → q.inside ≡ [] → (new : Machine) → IsLoneCall p call.DropExecutor steps s new
+    → Rests p (λ e. Closing c s.world.table q.inside s.world.table q e) new
+drop_rests_so s reached q quiet follows p c steps none new lone =
+    lone_calls_rest_of HasIn IsAny walks s reached p call.DropExecutor steps new (λ e. Closing c s.world.table q.inside s.world.table q e)
+    quiet tt
+    (drop_leads_so s reached q quiet follows p c none
+    (may_begin s p call.DropExecutor (run-first (Begin p call.DropExecutor) steps s new lone.made).0))
+    lone
+
+pub drop_ends_so : (s : Machine) → Reached s → (q : Plain Output Waker) → IsQuiet s.world.trace → Follows s.world q → LoneDropEnds s q
+drop_ends_so s reached q quiet follows p c steps none new lone =
+    let all = s.world.table in
     let r =
     from_close p new (reached-more (Begin p call.DropExecutor ∷ steps) s new reached lone.made) lone.ended c all q.inside all q refl
-    (lone_calls_rest_of HasIn IsAny walks s reached p call.DropExecutor steps new R quiet tt leads lone) in
+    (drop_rests_so s reached q quiet follows p c steps none new lone) in
     (r.0, subst (λ fs. Ended (close wakes c fs fs q) r.0) follows.table r.1, r.2, r.3, r.4)
 
 pub lone_drop_ends : EachLoneAlike LoneDropEnds

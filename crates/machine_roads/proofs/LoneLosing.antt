@@ -27,6 +27,22 @@ use Rattle.machine_roads.proofs.Losing.{detaches_to_lose, goes_to_lose, loses_al
 use Rattle.machine_roads.proofs.Unseen.{stands_in}
 use Rattle.machine_roads.proofs.Tying.{AtEnd, Goes, Leads, answers}
 
+-- once the output is dropped it comes to the end
+pub loss_leads : (p f : ℕ) (q r : Plain Output Waker) (d : Choice) (e : Done) → StopsLosing f [] q e r
+    → Leads p (done e.world (left_of f ++ [])) (λ w. Follows w (does wakes d Ends r))
+loss_leads p f q r d e so =
+    let before : Plain Output Waker = record r { inside = q.inside } in
+    let losing : IsLosing e.world f before =
+    record {
+      known = so.losing.known;
+      closed = so.losing.closed;
+      follows = stands_in q.inside (without_handle f e.world) r so.losing.follows (sym (ap (λ codes. waking_in codes) so.inside));
+    } in
+    let same : record before { inside = Lose None None ∷ q.inside } ≡ r =
+    ap (λ (codes : List (Code Output Waker)). record r { inside = codes }) (sym so.inside) in
+    subst (λ z. Leads p (done e.world (left_of f ++ [])) (λ w. Follows w (does wakes d Ends z))) same
+    (λ hints all rests. loses_alike p f [] e.world before d refl losing hints tt all rests)
+
 -- from the output's drop on, to the end
 from_loss : (s new : Machine) → Reached s → (p f : ℕ) (c : Call) (steps : List Step) (q r : Plain Output Waker) (d : Choice)
     → new.world.gone ≡ false → IsLoneCall p c steps s new → Reached new → Rests p (λ e. StopsLosing f [] q e r) new
@@ -38,22 +54,10 @@ from_loss s new reached p f c steps q r d later lone last (Inside x) =
     let m = x.machine in
     let both = cons_is x.first (op.User (user_op.DropOutput f)) x.rest (left_of f ++ []) x.so.left in
     let first = both.0 in
-    let rest = both.1 in
     let k = run-first (Answer p x.end) x.steps m new x.made in
-    let before : Plain Output Waker = record r { inside = q.inside } in
-    let losing : IsLosing m.world f before =
-    record {
-      known = x.so.losing.known;
-      closed = x.so.losing.closed;
-      follows =
-          stands_in q.inside (without_handle f m.world) r x.so.losing.follows (sym (ap (λ codes. waking_in codes) x.so.inside));
-    } in
-    let same : record before { inside = Lose None None ∷ q.inside } ≡ r =
-    ap (λ (codes : List (Code Output Waker)). record r { inside = codes }) (sym x.so.inside) in
     let leads : Leads p (done m.world x.rest) (λ w. Follows w (does wakes d Ends r)) =
-    subst (λ os. Leads p (done m.world os) (λ w. Follows w (does wakes d Ends r))) (sym rest)
-    (subst (λ z. Leads p (done m.world (left_of f ++ [])) (λ w. Follows w (does wakes d Ends z))) same
-    (λ hints all rests. loses_alike p f [] m.world before d refl losing hints tt all rests)) in
+    subst (λ os. Leads p (done m.world os) (λ w. Follows w (does wakes d Ends r))) (sym both.1)
+    (loss_leads p f q r d (done m.world (x.first ∷ x.rest)) x.so) in
     let goes : Goes p m (after m (Answer p x.end)) (done m.world x.rest) =
     subst (λ (e : Done). Goes p m (after m (Answer p x.end)) (done e.world (e.next ++ x.rest)))
     (ap (λ o. react p o x.end m.world) first) (answers p m x.there x.first x.rest x.is x.end) in
@@ -63,7 +67,7 @@ from_loss s new reached p f c steps q r d later lone last (Inside x) =
     all_steps p (λ w. Follows w (does wakes d Ends r)) x.steps o.machine new o.todo o.reached o.there later o.is o.leads x.follow
     o.made (rests new (deep-here new last) lone.ended p)
 
-loses_so : (s : Machine) → Reached s → (p f : ℕ) (c : Call) (steps : List Step) (q r : Plain Output Waker) (d : Choice)
+pub loses_so : (s : Machine) → Reached s → (p f : ℕ) (c : Call) (steps : List Step) (q r : Plain Output Waker) (d : Choice)
     → IsQuiet s.world.trace → ComesToLose p f [] (begins p None c s.world) q r → LeadsTo s p c steps (does wakes d Ends r)
 loses_so s reached p f c steps q r d quiet comes new later lone =
     from_loss s new reached p f c steps q r d later lone (reached-more (Begin p c ∷ steps) s new reached lone.made)

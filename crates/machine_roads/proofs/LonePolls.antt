@@ -50,8 +50,9 @@ use Rattle.machine_roads.proofs.Changing.{logs}
 use Rattle.machine_roads.proofs.Fitting.{Ends as EndsBy, Fitting, Over, ended_of}
 use Rattle.machine_roads.proofs.Lists.{clash, cons_is, same_of}
 use Rattle.machine_roads.proofs.LoneCalls.{each}
-use Rattle.machine_roads.proofs.LoneRuns.{InCode, Inside, IsBefore, Rests, Whole, before, begun_so, both_true, ends_so, goes_on_of}
+use Rattle.machine_roads.proofs.LoneRuns.{InCode, Inside, IsBefore, Rests, Whole, before, both_true, ends_so, goes_on_of}
 use Rattle.machine_roads.proofs.LoneRuns.{lone_calls_so, made_is, passed}
+use Rattle.machine_roads.proofs.LoneTold.{begun_so}
 use Rattle.machine_roads.proofs.LoneTicks.{may_begin, there_all}
 use Rattle.machine_roads.proofs.Numbers.{put_view}
 use Rattle.machine_roads.proofs.Runs.{changed, ended_run, over_alike, over_is, same_place}

@@ -1,5 +1,5 @@
 -- A lone call of a machine leaves it where its party, alone, leaves its world.
-use Rattle.std.proofs.Common.{◌≡◌, ℕ, ◌<◌, ◌==◌, ◌++◌, ◌&&◌, ◌||◌, not, nat_lt, Bool, true, false, List, [], ◌∷◌, length}
+use Rattle.std.proofs.Common.{◌≡◌, ℕ, ◌<◌, ◌++◌, ◌&&◌, ◌||◌, not, nat_lt, Bool, true, false, List, [], ◌∷◌, length}
 use Rattle.std.proofs.Common.{Option, Some, None, Result, Ok, Err, refl, sym, ap, subst, ◌∙◌, arith, append-nil, get_or-set_same}
 use Rattle.std.specs.Prelude.{reverse}
 use Rattle.std.{proofs.Math.ListN.length-set}
@@ -20,7 +20,7 @@ use Rattle.executor_model.specs.Doing.{act}
 use Rattle.executor_model.specs.Executions.{run_all}
 use Rattle.executor_model.specs.Quiet.{IsQuiet}
 use Rattle.executor_model.specs.Steps.{Machine, Part, accepts, after, answer_refusal, begun, go_refusal, is_locked_out, mine, onto}
-use Rattle.executor_model.specs.Steps.{end_of, part_refusal, react, refusal, run, settled, settled_by, stack, stepped, top}
+use Rattle.executor_model.specs.Steps.{part_refusal, react, refusal, run, stack, stepped, top}
 use Rattle.executor_model.specs.Steps.{unless, waits}
 use Rattle.executor_model.specs.Trace.{Trace, has, is_drop_begun}
 use Rattle.executor_model.specs.World.{World, Done, done, log}
@@ -31,7 +31,7 @@ use Rattle.executor_model.proofs.Steps.Stepping.{refusal-there, step-made}
 use Rattle.executor_model.proofs.Steps.TraceSteps.{run-continues}
 use Rattle.executor_model.proofs.SpawnWants.Tops.{flipped}
 use Rattle.executor_laws.specs.LoneEnds.{IsLoneCall, are_onward_of, is_onward_of}
-use Rattle.machine_roads.specs.Alone.{alone, is_resting, one_by, Has, HasAll}
+use Rattle.machine_roads.specs.Alone.{is_resting, Has}
 use Rattle.machine_roads.specs.Alike.{begins, upon}
 use Rattle.machine_roads.specs.Road.{Follows}
 use Rattle.machine_roads.specs.Lone.{LoneCallIsAlone}
@@ -358,135 +358,3 @@ lone_calls_so s reached p c steps new P quiet later leaves lone =
 pub lone_calls : (s : Machine) → Reached s → LoneCallIsAlone s
 lone_calls s reached p c steps new q quiet later leaves lone =
     lone_calls_so s reached p c steps new (λ w. Follows w q) quiet later (λ hints all rests. leaves hints tt all rests) lone
-
--- where a call begins with one thing to do, which is told this hint
-abbrev pub FirstLeads : ℕ → Hint → Done → (World → Type 0) → Type 0
-FirstLeads p h d P =
-    (hints : List Hint) → HasAll p (h ∷ hints) d → is_resting (alone p (h ∷ hints) d).next ≡ true
-    → ((alone p (h ∷ hints) d).next ≡ []) × P (alone p (h ∷ hints) d).world
-
-first_on : (p : ℕ) (P : World → Type 0) (h : Hint) (o : Op) (w : World) (os : List Op) → waits o ≡ false → Has w o
-    → FirstLeads p h (done w (o ∷ os)) P → Leads p (done (act p h o w).world ((act p h o w).next ++ os)) P
-first_on p P h o w os free has leads hints all rests =
-    subst
-    (λ b. HasAll p hints (one_by b p h o w os) → is_resting (alone p hints (one_by b p h o w os)).next ≡ true
-    → ((alone p hints (one_by b p h o w os)).next ≡ []) × P (alone p hints (one_by b p h o w os)).world)
-    free
-    (λ all rests. leads hints (has, all) rests)
-    all rests
-
--- from a moment at which there is one thing to do
-told_from : (now new : Machine) → Reached now → (p : ℕ) → p < length now.parties → (h : Hint) (o : Op) (steps : List Step)
-    (P : World → Type 0) → new.world.gone ≡ false → reverse (stack now p) ≡ o ∷ [] → waits o ≡ false
-    → FirstLeads p h (done now.world (o ∷ [])) P → are_onward_of p (Go p h ∷ steps) ≡ true → run_all (Go p h ∷ steps) now ≡ Ok new
-    → stack new p ≡ [] → P new.world
-told_from now new reached p there h o steps P later todo free leads on made empty =
-    let k = run-first (Go p h) steps now new made in
-    let its_top = (top_of (stack now p) o [] todo).0 in
-    let has = has_here now p reached there o (gone_before (Go p h ∷ steps) now new reached made later) its_top in
-    let m =
-    onward p (AtEnd P) now new reached there later (Go p h) steps
-    (done (act p h o now.world).world ((act p h o now.world).next ++ [])) (goes p now there o [] todo h)
-    (first_on p P h o now.world [] free has leads) k.0 k.1 in
-    all_steps p P steps m.machine new m.todo m.reached m.there later m.is m.leads (both_true (p == p) (are_onward_of p steps) on).1
-    m.made empty
-
--- a call has begun, where there is one thing to do
-pub record Begun (s : Machine) (p : ℕ) (c : Call) (o : Op) : Type 0 where
-  pub reached : Reached (after s (Begin p c))
-  pub there : p < length (after s (Begin p c)).parties
-  pub world : (after s (Begin p c)).world ≡ (begins p None c s.world).world
-  pub todo : reverse (stack (after s (Begin p c)) p) ≡ o ∷ []
-
-pub begun_so : (s : Machine) → Reached s → (p : ℕ) (c : Call) (o : Op) → IsQuiet s.world.trace → refusal s (Begin p c) ≡ None
-    → (begins p None c s.world).next ≡ o ∷ [] → end_of (Some o) ≡ None → Begun s p c o
-begun_so s reached p c o quiet may first unended =
-    let there : p < length s.parties =
-    within p (length s.parties)
-    (passed (nat_lt p (length s.parties)) NoSuch (part_refusal s.world s.parties (stack s p) (Begin p c)) may) in
-    let none : stack s p ≡ [] = rests s (deep-here s reached) quiet p in
-    let d : Done = begins p None c s.world in
-    let part : onto p (begun p (log s.world (event.CallBegun p c)) (mine (top (stack s p))) c) (stack s p) ≡ onto p d (stack s p) =
-    ap (λ xs. onto p (begun p (log s.world (event.CallBegun p c)) (mine (top xs)) c) (stack s p)) none in
-    let turned : reverse (stack s p ++ reverse d.next) ≡ o ∷ [] =
-    flipped (stack s p) d.next ∙ (ap (λ xs. d.next ++ reverse xs) none ∙ (append-nil d.next ∙ first)) in
-    let t = top_of (stack s p ++ reverse d.next) o [] turned in
-    let whole : settled p d.world (stack s p ++ reverse d.next) ≡ part_of d.world (stack s p ++ reverse d.next) =
-    ap (λ x. settled_by (end_of x) p d.world (stack s p ++ reverse d.next)) t.0
-    ∙ ap (λ r. settled_by r p d.world (stack s p ++ reverse d.next)) unended in
-    record {
-      reached = reached-step s (Begin p c) may reached;
-      there = subst (λ n. p < n) (sym (length-set s.parties p _)) there;
-      world = ap (λ (l : Part). l.world) part ∙ ap (λ (l : Part). l.world) whole;
-      todo =
-          ap (λ (ys : List Op). reverse ys)
-          (get_or-set_same s.parties p
-          (onto p (begun p (log s.world (event.CallBegun p c)) (mine (top (stack s p))) c) (stack s p)).todo [] there
-          ∙ (ap (λ (l : Part). l.todo) part ∙ ap (λ (l : Part). l.todo) whole))
-          ∙ turned;
-    }
-  where
-    part_of : World → List Op → Part
-    part_of w os = record { world = w; todo = os }
-
-pub lone_calls_told : (s : Machine) → Reached s → (p : ℕ) (c : Call) (h : Hint) (o : Op) (steps : List Step) (new : Machine)
-    (P : World → Type 0) → IsQuiet s.world.trace → new.world.gone ≡ false
-    → (begins p None c s.world).next ≡ o ∷ [] → end_of (Some o) ≡ None → waits o ≡ false
-    → FirstLeads p h (upon [] (begins p None c s.world)) P → IsLoneCall p c (Go p h ∷ steps) s new → P new.world
-lone_calls_told s reached p c h o steps new P quiet later first unended free leads lone =
-    let k = run-first (Begin p c) (Go p h ∷ steps) s new lone.made in
-    let b = begun_so s reached p c o quiet k.0 first unended in
-    let d : Done = begins p None c s.world in
-    told_from (after s (Begin p c)) new b.reached p b.there h o steps P later b.todo free
-    (subst (λ w. FirstLeads p h (done w (o ∷ [])) P) (sym b.world)
-    (subst (λ os. FirstLeads p h (done d.world os) P) (append-nil d.next ∙ first) leads))
-    lone.alone k.1
-    (rests new (deep-here new (reached-more (Begin p c ∷ Go p h ∷ steps) s new reached lone.made)) lone.ended p)
-
--- and where that leads to one thing more, which is told another hint
-abbrev pub SecondLeads : ℕ → Hint → Hint → Done → (World → Type 0) → Type 0
-SecondLeads p g h d P =
-    (hints : List Hint) → HasAll p (g ∷ h ∷ hints) d → is_resting (alone p (g ∷ h ∷ hints) d).next ≡ true
-    → ((alone p (g ∷ h ∷ hints) d).next ≡ []) × P (alone p (g ∷ h ∷ hints) d).world
-
-second_on : (p : ℕ) (P : World → Type 0) (g h : Hint) (o : Op) (w : World) (os : List Op) → waits o ≡ false → Has w o
-    → SecondLeads p g h (done w (o ∷ os)) P → FirstLeads p h (done (act p g o w).world ((act p g o w).next ++ os)) P
-second_on p P g h o w os free has leads hints all rests =
-    subst
-    (λ b. HasAll p (h ∷ hints) (one_by b p g o w os) → is_resting (alone p (h ∷ hints) (one_by b p g o w os)).next ≡ true
-    → ((alone p (h ∷ hints) (one_by b p g o w os)).next ≡ []) × P (alone p (h ∷ hints) (one_by b p g o w os)).world)
-    free
-    (λ all rests. leads hints (has, all) rests)
-    all rests
-
-pub lone_calls_told_twice : (s : Machine) → Reached s → (p : ℕ) (c : Call) (g h : Hint) (o x : Op) (steps : List Step)
-    (new : Machine) (P : World → Type 0) → IsQuiet s.world.trace → new.world.gone ≡ false
-    → (begins p None c s.world).next ≡ o ∷ [] → end_of (Some o) ≡ None → waits o ≡ false
-    → (act p g o (begins p None c s.world).world).next ++ [] ≡ x ∷ []
-    → ((w : World) → ended p w (x ∷ []) ≡ done w (x ∷ [])) → waits x ≡ false
-    → SecondLeads p g h (upon [] (begins p None c s.world)) P → IsLoneCall p c (Go p g ∷ Go p h ∷ steps) s new → P new.world
-lone_calls_told_twice s reached p c g h o x steps new P quiet later first unended free then_x unended_x free_x leads lone =
-    let k = run-first (Begin p c) (Go p g ∷ Go p h ∷ steps) s new lone.made in
-    let b = begun_so s reached p c o quiet k.0 first unended in
-    let d : Done = begins p None c s.world in
-    let now = after s (Begin p c) in
-    let k2 = run-first (Go p g) (Go p h ∷ steps) now new k.1 in
-    let its_top = (top_of (stack now p) o [] b.todo).0 in
-    let has = has_here now p b.reached b.there o (gone_before (Go p g ∷ Go p h ∷ steps) now new b.reached k.1 later) its_top in
-    let m = goes p now b.there o [] b.todo g in
-    let e : Done = done (act p g o now.world).world ((act p g o now.world).next ++ []) in
-    let to_x : e.next ≡ x ∷ [] = ap (λ w. (act p g o w).next ++ []) b.world ∙ then_x in
-    let same : ended p e.world e.next ≡ e =
-    ap (ended p e.world) to_x ∙ (unended_x e.world ∙ ap (λ os. done e.world os) (sym to_x)) in
-    let leads_now : SecondLeads p g h (done now.world (o ∷ [])) P =
-    subst (λ w. SecondLeads p g h (done w (o ∷ [])) P) (sym b.world)
-    (subst (λ os. SecondLeads p g h (done d.world os) P) (append-nil d.next ∙ first) leads) in
-    let next = after now (Go p g) in
-    let world : next.world ≡ e.world = m.world ∙ ap (λ (y : Done). y.world) same in
-    let todo : reverse (stack next p) ≡ x ∷ [] = m.todo ∙ (ap (λ (y : Done). y.next) same ∙ to_x) in
-    told_from next new (reached-step now (Go p g) k2.0 b.reached) p
-    (subst (λ n. p < n) (sym (length-set now.parties p _)) b.there) h x steps P later todo free_x
-    (subst (λ w. FirstLeads p h (done w (x ∷ [])) P) (sym world)
-    (subst (λ os. FirstLeads p h (done e.world os) P) to_x (second_on p P g h o now.world [] free has leads_now)))
-    (both_true (p == p) (are_onward_of p (Go p h ∷ steps)) lone.alone).1 k2.1
-    (rests new (deep-here new (reached-more (Begin p c ∷ Go p g ∷ Go p h ∷ steps) s new reached lone.made)) lone.ended p)

@@ -31,11 +31,10 @@ use Rattle.plain_scheduler.specs.Moves.{answers, appended, becomes, put, release
 use Rattle.machine_roads.specs.View.{Output, view, waker_in, wakes}
 use Rattle.machine_roads.specs.Moving.{IsMove}
 use Rattle.machine_roads.specs.Road.{Follows, is_told}
-use Rattle.machine_roads.specs.Alone.{is_resting}
+use Rattle.machine_roads.specs.Alone.{is_resting, HasIn}
 use Rattle.machine_roads.proofs.Calling.{idles}
 use Rattle.machine_roads.proofs.Calm.{release_calm, wake_calm}
 use Rattle.machine_roads.proofs.Changing.{appends, sees}
-use Rattle.machine_roads.proofs.Having.{HasIn}
 use Rattle.machine_roads.proofs.Leaking.{becomes_blind, take_all}
 use Rattle.machine_roads.proofs.Lists.{clash}
 use Rattle.machine_roads.proofs.Marks.{queue_if, released_owes, released_stored, used_owes, woken_stored}

@@ -116,7 +116,7 @@ module _ (p : ℕ) (x : RunPoll) (below : List Op) (q : Plain Output Waker) (n t
       where
         by : (some : Bool) → any is_due b.due ≡ some → After
         by false none =
-            let e = lies p x below n t end new under rests c w b follows fit now.taken now.early none way is in
+            let e = lies p x below end under rests n t new c w b follows fit now.taken now.early none way is in
             ends e.0 e.1 e.2 (e.3 ∙ inside)
         by true some =
             let first : Choice = record (telling n c) { first = first_of w.urgent_turns; refusal = Granted } in

@@ -54,7 +54,7 @@ goes_long : (c : Choice) (o : Option Waker) (q : Plain Output Waker)
 goes_long c None q = refl
 goes_long c (Some a) q = let_go_long c a q
 
-runs_aside : IsAside (λ (q : Plain Output Waker). q.runs)
+pub runs_aside : IsAside (λ (q : Plain Output Waker). q.runs)
 runs_aside = record { futures = λ q fs. refl; due = λ q f. refl; lying = λ q ls. refl; seen = λ q e. refl }
 
 -- what is due without a keeper no run keeps

@@ -38,12 +38,11 @@ use Rattle.plain_scheduler.specs.Calls.{close, swept}
 use Rattle.machine_roads.specs.View.{Output, view, waker_in, wakes}
 use Rattle.machine_roads.specs.Moving.{IsQueued}
 use Rattle.machine_roads.specs.Road.{Follows, IsStored, futures_in, waking_in}
-use Rattle.machine_roads.specs.Alone.{is_resting}
+use Rattle.machine_roads.specs.Alone.{is_resting, HasIn}
 use Rattle.machine_roads.specs.Lone.{NoneWaits, waits_for}
 use Rattle.machine_roads.proofs.Cancelling.{emptied, took_of}
 use Rattle.machine_roads.proofs.Changing.{logs, puts, sees, settles}
 use Rattle.machine_roads.proofs.Ending.{gave_up, gave_up_owes}
-use Rattle.machine_roads.proofs.Having.{HasIn}
 use Rattle.machine_roads.proofs.Leaking.{freed_inside}
 use Rattle.machine_roads.proofs.Lists.{clash, get_below, length_set, set_twice}
 use Rattle.machine_roads.proofs.Moved.{moved_so}

@@ -1,6 +1,6 @@
 -- What one party does alone, while user code begins no call: what it has to do, the first thing first, until nothing is left or
 -- user code has to answer, and the calls of outside wakers end at once.
-use Rattle.std.specs.Prelude.{◌≡◌, ℕ, suc, ◌+◌, ◌<◌, ◌≤◌, Bool, true, false, ◌&&◌, not, List, [], ◌∷◌, ◌++◌, length}
+use Rattle.std.specs.Prelude.{◌≡◌, ℕ, suc, ◌+◌, ◌<◌, ◌≤◌, nat_lt, Bool, true, false, ◌&&◌, not, List, [], ◌∷◌, ◌++◌, length}
 use Rattle.task_moves.specs.declared.moves.owed.Move.{Move}
 use Rattle.task_moves.specs.declared.moves.owed.Move.TheVariants as move
 use Rattle.task_moves.specs.declared.moves.state.State.{State}
@@ -163,6 +163,24 @@ Has w (op.Run o) = RunHas w o
 Has w (op.Steal o) = StealHas w o
 Has w (op.Closing o) = ClosingHas w o
 Has w _ = Unit {0}
+
+-- what is there at each moment, also once the executor's drop has begun: a place in the queue, whether that is closed or not
+abbrev pub MoveHasIn : Move → World → ℕ → Type 0
+MoveHasIn move.Release w f = token (task w f) < (task w f).references
+MoveHasIn move.DropRunnable w f = IsQueued (task w f)
+MoveHasIn m w f = Unit {0}
+
+abbrev pub ClosingHasIn : World → ClosingOp → Type 0
+ClosingHasIn w closing_op.DropNext = (f : ℕ) (rest : List ℕ) → w.leaving ≡ f ∷ rest → IsKnown w f
+ClosingHasIn w closing_op.WakeNext = (f : ℕ) (rest : List ℕ) → w.waking ≡ f ∷ rest → IsKnown w f
+ClosingHasIn w _ = Unit {0}
+
+abbrev pub HasIn : World → Op → Type 0
+HasIn w (op.Move m f) = IsKnown w f × MoveHasIn m w f
+HasIn w (op.Queue (queue_op.Append f)) = nat_lt (length (queue_of w (mark_of w f)).items) w.limit ≡ true
+HasIn w (op.Waker (waker_op.CallAwaiter f a k)) = IsKnownWaker w a
+HasIn w (op.Closing o) = ClosingHasIn w o
+HasIn w _ = Unit {0}
 
 -- or what else is asked of it, of the first one
 abbrev pub HasFirst : (World → Op → Type 0) → World → List Op → Type 0

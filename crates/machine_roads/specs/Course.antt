@@ -1,5 +1,5 @@
 -- Lists of lone calls of a machine are lists of calls of the plain scheduler, with one definition of what is chosen.
-use Rattle.std.specs.Prelude.{◌≡◌, ℕ, ◌<◌, Bool, true, false, ◌&&◌, ◌||◌, not, List, [], ◌∷◌, length, Some, None}
+use Rattle.std.specs.Prelude.{◌≡◌, ℕ, ◌<◌, List, [], ◌∷◌, length, Some, None}
 use Rattle.executor_parts.specs.declared.mark.Mark.{Mark}
 use Rattle.executor_parts.specs.Marks.{first_of}
 use Rattle.executor_model.specs.declared.call.By.{By}
@@ -8,7 +8,7 @@ use Rattle.executor_model.specs.declared.call.Call.TheVariants as call
 use Rattle.executor_model.specs.declared.kind.Kind.{Kind}
 use Rattle.executor_model.specs.declared.op.Waker.{Waker}
 use Rattle.executor_model.specs.declared.step.Step.{Step}
-use Rattle.executor_model.specs.Steps.{Machine, is_drop, is_static_kind, kept, start, waker_of}
+use Rattle.executor_model.specs.Steps.{Machine, is_static_kind, kept, start, waker_of}
 use Rattle.executor_model.specs.World.{World}
 use Rattle.executor_laws.specs.LoneEnds.{IsLoneCall}
 use Rattle.plain_scheduler.specs.State.{Choice, Plain}
@@ -22,13 +22,6 @@ use Rattle.machine_roads.specs.Lone.{Ended}
 pub record IsChosen (w : World) (q : Plain Output Waker) (c : Choice) : Type 0 where
   pub first : c.first ≡ first_of w.urgent_turns
   pub tells : length q.lying < c.tells
-
--- calls by kept wakers, which may stand behind the executor's drop
-abbrev pub is_behind : Call → Bool
-is_behind (call.Wake k) = true
-is_behind (call.WakeByRef k) = true
-is_behind (call.DropWaker k) = true
-is_behind _ = false
 
 -- which call of the plain scheduler it is: a kept waker is that of its future
 pub data IsCall (w : World) : Call → plain.Call Output Waker → Type 0 where
@@ -73,15 +66,6 @@ abbrev pub AreLone : Machine → List Lone → Type 0
 AreLone s [] = Unit {0}
 AreLone s (l ∷ ls) = IsLoneCall l.party l.call l.steps s l.left × AreLone l.left ls
 
-abbrev pub are_behind : List Lone → Bool
-are_behind [] = true
-are_behind (l ∷ ls) = is_behind l.call && are_behind ls
-
--- all calls up to that drop
-abbrev pub are_on_road : List Lone → Bool
-are_on_road [] = true
-are_on_road (l ∷ ls) = (not (is_drop l.call) && are_on_road ls) || (is_drop l.call && are_behind ls)
-
 -- both stand alike at each moment at which a call has ended
 abbrev pub GoAlike : Machine → Plain Output Waker → List Lone → Type 0
 GoAlike s q [] = Follows s.world q
@@ -90,5 +74,5 @@ GoAlike s q (l ∷ ls) = Follows s.world q × ((r : Plain Output Waker) × GoesB
 -- so it is from the beginning
 abbrev pub ListsGoAlike : Type 0
 ListsGoAlike =
-    (limit : ℕ) (kind : Kind) (parties : ℕ) (ls : List Lone) → AreLone (start limit kind parties) ls → are_on_road ls ≡ true
+    (limit : ℕ) (kind : Kind) (parties : ℕ) (ls : List Lone) → AreLone (start limit kind parties) ls
     → GoAlike (start limit kind parties) (new limit (is_static_kind kind)) ls

@@ -10,6 +10,10 @@ pub mod Losing
 pub mod Dropped
 pub mod Ticking
 pub mod Searching
+pub mod GoingOn
 pub mod Lone
+pub mod Behind
 pub mod Course
+pub mod Closing
 pub mod Within
+pub mod DropActs

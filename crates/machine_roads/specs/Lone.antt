@@ -256,21 +256,5 @@ module _ (s : Machine) (q : Plain Output Waker) where
       → (r : Plain Output Waker) × Ended (does wakes c DropExecutor q) r × (r.inside ≡ q.inside) × Follows new.world r
       × NoneWaits r
 
-  -- wakes by kept wakers, and these wakers' drops, whether the executor was dropped before or not
-  abbrev pub LoneUsesBehind : Type 0
-  LoneUsesBehind =
-      (p k f : ℕ) (c : Choice) (steps : List Step) → NoneWaits q → kept s.world k ≡ Some f → (new : Machine)
-      → IsLoneCall p (call.Wake k) steps s new → Follows new.world (does wakes c (Use f) q)
-
-  abbrev pub LoneWakesBehind : Type 0
-  LoneWakesBehind =
-      (p k f : ℕ) (c : Choice) (steps : List Step) → NoneWaits q → kept s.world k ≡ Some f → (new : Machine)
-      → IsLoneCall p (call.WakeByRef k) steps s new → Follows new.world (does wakes c (Wake f) q)
-
-  abbrev pub LoneWakerGoesBehind : Type 0
-  LoneWakerGoesBehind =
-      (p k f : ℕ) (c : Choice) (steps : List Step) → NoneWaits q → kept s.world k ≡ Some f → (new : Machine)
-      → IsLoneCall p (call.DropWaker k) steps s new → Follows new.world (does wakes c (Release f) q)
-
   abbrev pub LoneEmpty : Type 0
   LoneEmpty = (p : ℕ) (c : Choice) (steps : List Step) → LeadsTo s p call.IsEmpty steps (does wakes c IsEmpty q)

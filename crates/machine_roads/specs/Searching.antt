@@ -1,5 +1,5 @@
 -- A poll of a run whose own future gave no output: when the take that follows leaves both alike.
-use Rattle.std.specs.Prelude.{◌≡◌, ℕ, ◌≤◌, nat_lt, not, Bool, true, if◌then◌else◌, List, [], ◌∷◌, length, slice_get, Option}
+use Rattle.std.specs.Prelude.{◌≡◌, ℕ, ◌≤◌, ◌<◌, nat_lt, not, Bool, true, false, if◌then◌else◌, List, [], ◌∷◌, length, slice_get, Option}
 use Rattle.executor_parts.specs.Marks.{first_of}
 use Rattle.executor_model.specs.declared.event.Answer.TheVariants as answer
 use Rattle.executor_model.specs.declared.op.Op.{Op}
@@ -14,12 +14,12 @@ use Rattle.executor_model.specs.declared.step.UserEnd.TheVariants as end
 use Rattle.executor_model.specs.ActsOfRuns.{asleep}
 use Rattle.executor_model.specs.Steps.{react}
 use Rattle.executor_model.specs.World.{Done, World}
-use Rattle.plain_scheduler.specs.State.{Choice, Plain, PollOwn, Run}
+use Rattle.plain_scheduler.specs.State.{Choice, Plain, PollOwn, Refusal, Run}
 use Rattle.plain_scheduler.specs.Lists.{any, or}
 use Rattle.plain_scheduler.specs.Moves.{is_due, is_kept}
 use Rattle.plain_scheduler.specs.Calls.{does, Pends}
 use Rattle.machine_roads.specs.View.{Output, wakes}
-use Rattle.machine_roads.specs.Road.{futures_in}
+use Rattle.machine_roads.specs.Road.{Follows, futures_in}
 use Rattle.machine_roads.specs.Alone.{alone, is_resting, HasAll}
 use Rattle.machine_roads.specs.Alike.{upon}
 use Rattle.machine_roads.specs.Stopped.{Stops, taken_by}
@@ -51,3 +51,11 @@ RunTakesAlike p here below w q =
     × Stops (Run x.run x.waker) (goes_on_by x last) below q (alone p hints (unready p x below w))
     (does wakes c Pends (record q { inside = PollOwn x.run x.waker ∷ q.inside }))
     × IsLast x.run last (does wakes c Pends (record q { inside = PollOwn x.run x.waker ∷ q.inside }))
+
+-- where nothing is due it lies down, lies again with another waker, or is refused memory
+abbrev pub RunLiesAlike : ℕ → Option Waker → List Op → World → Plain Output Waker → Type 0
+RunLiesAlike p here below w q =
+    (x : RunPoll) (c : Choice) → any is_due q.due ≡ false → length q.lying < c.tells → (hints : List Hint)
+    → HasAll p hints (unready p x below w) → is_resting (alone p hints (unready p x below w)).next ≡ true
+    → (r : Refusal) × ((alone p hints (unready p x below w)).next ≡ below) × Follows (alone p hints (unready p x below w)).world
+    (does wakes (record c { refusal = r }) Pends (record q { inside = PollOwn x.run x.waker ∷ q.inside }))

@@ -1,5 +1,10 @@
 //! Lone calls of the machine, made where no call is in progress, are calls of the plain scheduler.
 ghost use Rattle.executor_model.specs.Executions.{EveryMachine};
+ghost use Rattle.machine_roads.specs.Behind.{LoneCallIsBehind, LoneCancelsBehind, LoneCopiesBehind, LoneDetachLosesBehind};
+ghost use Rattle.machine_roads.specs.Behind.{LoneDetachesBehind, LoneGoesWithOutputBehind, LoneHandleGoesBehind};
+ghost use Rattle.machine_roads.specs.Behind.{LoneHandlePollsBehind, LoneHandleWaitsBehind, LoneUsesBehind};
+ghost use Rattle.machine_roads.specs.Behind.{LoneWakerGoesBehind, LoneWakesBehind};
+ghost use Rattle.machine_roads.specs.Closing.{LoneDropRests};
 ghost use Rattle.machine_roads.specs.Course.{ListsGoAlike};
 ghost use Rattle.machine_roads.specs.Lone.{EachLoneAlike, LoneCallIsAlone, LoneCancels, LoneCopies};
 ghost use Rattle.machine_roads.specs.Lone.{LoneEmpty, LoneLeaks, LoneRunEnds, LoneRunGoes, LoneRunGoesOn, LoneRunIsMade};
@@ -8,8 +13,7 @@ ghost use Rattle.machine_roads.specs.Lone.{LoneDetachLoses, LoneDropEnds, LoneGo
 ghost use Rattle.machine_roads.specs.Lone.{LoneDetaches, LoneHandleGoes, LoneHandlePolls};
 ghost use Rattle.machine_roads.specs.Lone.{LoneHandleWaits, LoneTickGoes, LoneTickIsMade};
 ghost use Rattle.machine_roads.specs.Lone.{LoneTickIsPolled, LoneTickLies, LoneTicksEnd, LoneTries};
-ghost use Rattle.machine_roads.specs.Lone.{LoneTriesEnd, LoneUsesBehind, LoneWakerGoesBehind, LoneWakes};
-ghost use Rattle.machine_roads.specs.Lone.{LoneWakesBehind};
+ghost use Rattle.machine_roads.specs.Lone.{LoneTriesEnd, LoneWakes};
 
 /// What a call leaves of the world, however it is told, a lone call leaves of each machine at rest,
 /// as long as the executor's drop hasn't begun: so it is here and below.
@@ -135,12 +139,46 @@ pub fn lone_drops_are_drops()
     ensures { EachLoneAlike LoneDropEnds }
 {}
 
-/// Behind that no task waits for a wake; and where none does, wakes by kept wakers, and the drops of
-/// these, leave both alike, whether the executor was dropped or not.
+/// It comes first to the drop of the first future, if one is left, where `roads` goes on: with calls of
+/// wakers and handles made inside of that, and so with each drop of a future to the end.
+pub fn lone_drops_rest_alike()
+    ensures { EachLoneAlike LoneDropRests }
+{}
+
+/// Behind that no task waits for a wake; and where none does, wakes by kept wakers, these wakers'
+/// copies and their drops leave both alike, whether the executor was dropped or not: here and below
+/// still no task waits then.
 pub fn lone_wakers_go_on_behind()
     ensures uses { EachLoneAlike LoneUsesBehind }
     ensures wakes { EachLoneAlike LoneWakesBehind }
+    ensures copies { EachLoneAlike LoneCopiesBehind }
     ensures drops { EachLoneAlike LoneWakerGoesBehind }
+{}
+
+/// So do cancels there, and detaches and drops of handles of futures whose output isn't there.
+pub fn lone_handles_go_on_behind()
+    ensures cancels { EachLoneAlike LoneCancelsBehind }
+    ensures detaches { EachLoneAlike LoneDetachesBehind }
+    ensures drops { EachLoneAlike LoneHandleGoesBehind }
+{}
+
+/// And of those whose output is there, with the end of the output's drop.
+pub fn lone_handles_go_with_outputs_behind()
+    ensures detaches { EachLoneAlike LoneDetachLosesBehind }
+    ensures drops { EachLoneAlike LoneGoesWithOutputBehind }
+{}
+
+/// So do polls of handles there: an output that is kept is given, a cancelled future's handle says so,
+/// and who has to wait leaves its waker, also where its copy is refused.
+pub fn lone_polls_of_handles_go_on_behind()
+    ensures finds { EachLoneAlike LoneHandlePollsBehind }
+    ensures waits { EachLoneAlike LoneHandleWaitsBehind }
+{}
+
+/// What a call of a waker or a handle leaves there of the world, however it is told, a lone call leaves
+/// of each machine.
+pub fn lone_calls_are_alone_behind()
+    ensures { EachLoneAlike LoneCallIsBehind }
 {}
 
 /// And so it is asked alone whether the executor is empty.
@@ -150,8 +188,7 @@ pub fn lone_questions_are_answered()
 
 /// Lists of such calls of a new machine, one after the other, are lists of calls of the new plain
 /// scheduler, which looks first at the mark that the turn names and tells who lay down last: all calls,
-/// and then, if it comes to that, the executor's drop, with wakes by kept wakers and these wakers' drops
-/// behind it.
+/// and behind the executor's drop, if it comes to that, whatever calls can be made there.
 pub fn lists_of_lone_calls_go_alike()
     ensures { ListsGoAlike }
 {}

@@ -1,5 +1,7 @@
 //! Calls that a party makes one inside another, in the polls and drops that its calls come to, are
 //! calls of the plain scheduler.
+ghost use Rattle.machine_roads.specs.DropActs.{DropActsAlike, ListsActToTheEnd};
+ghost use Rattle.machine_roads.specs.Lone.{EachLoneAlike};
 ghost use Rattle.machine_roads.specs.Within.{ListsActAlike};
 
 /// From a new machine on, where one party at a time begins calls, also in user code, and user code
@@ -9,4 +11,18 @@ ghost use Rattle.machine_roads.specs.Within.{ListsActAlike};
 /// such a drop, and the executor isn't dropped.
 pub fn lists_of_nested_calls_go_alike()
     ensures { ListsActAlike }
+{}
+
+/// From the executor's drop on, too, where a machine at rest stands where the plain scheduler does, in
+/// no code: the calls that are made inside of the drops of futures in it, the ends of these drops and
+/// the calls behind it are calls of the plain scheduler, and the ends of its innermost code. No call
+/// begins in the drop of an output.
+pub fn calls_nested_in_the_executors_drop_go_alike()
+    ensures { EachLoneAlike DropActsAlike }
+{}
+
+/// So it is from a new machine on to the end: such calls, and then, where no call is in progress any
+/// more, the executor's drop with the calls inside of it and behind it.
+pub fn lists_of_nested_calls_go_alike_to_the_end()
+    ensures { ListsActToTheEnd }
 {}

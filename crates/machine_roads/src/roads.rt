@@ -10,11 +10,14 @@ ghost use Rattle.machine_roads.specs.Alike.{EmptyAlike, HandleGoesAlike, HandleP
 ghost use Rattle.machine_roads.specs.Alike.{RunIsMadeAlike};
 ghost use Rattle.machine_roads.specs.Alike.{SpawnsAlike, UsesAlike, WakesAlike, WakesItselfAlike};
 ghost use Rattle.machine_roads.specs.Alike.{WakerGoesAlike};
+ghost use Rattle.machine_roads.specs.Closing.{CallsInDrop, DropGoesOn, LosesInDrop, LossEndsInDrop};
 ghost use Rattle.machine_roads.specs.Dropped.{DropsAlikeInTake, LosesAlikeInTake};
 ghost use Rattle.machine_roads.specs.Forgotten.{ForgetsAlikeInTake, ForgottenGoesAlike};
+ghost use Rattle.machine_roads.specs.GoingOn.{RunDropsAlike, RunForgetsAlike, RunLosesAlike};
+ghost use Rattle.machine_roads.specs.GoingOn.{RunPendsAlike};
 ghost use Rattle.machine_roads.specs.Losing.{DetachesToLose, GoesToLose, LosesAlike};
 ghost use Rattle.machine_roads.specs.Road.{Follows};
-ghost use Rattle.machine_roads.specs.Searching.{RunTakesAlike};
+ghost use Rattle.machine_roads.specs.Searching.{RunLiesAlike, RunTakesAlike};
 ghost use Rattle.machine_roads.specs.Ticking.{TickGoesAlike, TickIsMadeAlike, TickIsPolledAlike};
 ghost use Rattle.machine_roads.specs.Stopped.{GivesAlikeInTake, PendsAlikeInTake, TriesAlike};
 
@@ -151,6 +154,22 @@ pub fn a_run_takes_alike()
     ensures { EachAlike RunTakesAlike }
 {}
 
+/// And where nothing is due it is answered, and both stand alike: it lies down, lies again with another
+/// waker, or is refused memory, before or once it lies.
+pub fn a_run_lies_alike()
+    ensures { EachAlike RunLiesAlike }
+{}
+
+/// Behind a future that it took, if that wasn't the 200th, it goes on so: once the poll of that future
+/// has ended without an output, or its drop, or the drop of an output that nobody can take, it comes to
+/// the next one or is answered, or stands in one of these drops.
+pub fn a_run_goes_on_alike()
+    ensures pends { EachAlike RunPendsAlike }
+    ensures drops { EachAlike RunDropsAlike }
+    ensures loses { RunLosesAlike }
+    ensures forgets { RunForgetsAlike }
+{}
+
 /// A leak leaves both alike, of an executor that isn't static.
 pub fn a_leak_is_a_leak()
     ensures { EachAlike LeaksAlike }
@@ -159,4 +178,19 @@ pub fn a_leak_is_a_leak()
 /// And both say alike whether they are empty.
 pub fn both_say_whether_empty()
     ensures { EachAlike EmptyAlike }
+{}
+
+/// In the drop of a future in the executor's drop, too, calls of wakers and handles are calls of the
+/// plain scheduler, which stands in that drop: a call ends, or comes to the drop of an output that goes
+/// with its handle, and ends from the end of that on.
+pub fn calls_in_the_executors_drop_are_calls()
+    ensures calls { CallsInDrop }
+    ensures comes { LosesInDrop }
+    ensures ends { LossEndsInDrop }
+{}
+
+/// From the end of the future's drop on, the executor's drop comes to that of the next one, or to its
+/// end, behind which no task waits for a wake.
+pub fn the_executors_drop_goes_on_alike()
+    ensures { DropGoesOn }
 {}

@@ -1,0 +1,81 @@
+-- Acts from the executor's drop on: calls inside of the drops of futures in it, the ends of these, and calls behind it.
+use Rattle.std.specs.Prelude.{◌≡◌, ℕ, Bool, true, not, List, [], ◌∷◌, ◌++◌, reverse, None}
+use Rattle.executor_model.specs.declared.call.Call.TheVariants as call
+use Rattle.executor_model.specs.declared.call.Reply.TheVariants as reply
+use Rattle.executor_model.specs.declared.op.Hold.TheVariants as hold
+use Rattle.executor_model.specs.declared.op.Op.{Op}
+use Rattle.executor_model.specs.declared.op.Op.TheVariants as op
+use Rattle.executor_model.specs.declared.op.UserOp.TheVariants as user_op
+use Rattle.executor_model.specs.declared.op.Waker.{Waker}
+use Rattle.executor_model.specs.declared.step.Step.{Step}
+use Rattle.executor_model.specs.declared.step.Step.TheVariants.{Answer, Begin, Go}
+use Rattle.executor_model.specs.Acts.{closing_ops}
+use Rattle.executor_model.specs.declared.kind.Kind.{Kind}
+use Rattle.executor_model.specs.Quiet.{IsQuiet}
+use Rattle.executor_model.specs.Steps.{Machine, is_static_kind, stack, start}
+use Rattle.executor_model.specs.World.{Done, World}
+use Rattle.plain_scheduler.specs.State.{Choice, Lose, Plain}
+use Rattle.plain_scheduler.specs.Calls as plain
+use Rattle.plain_scheduler.specs.Calls.{does, new}
+use Rattle.machine_roads.specs.View.{Output, wakes}
+use Rattle.machine_roads.specs.Road.{Follows}
+use Rattle.machine_roads.specs.Losing.{StopsLosing, left_of}
+use Rattle.machine_roads.specs.Lone.{NoneWaits}
+use Rattle.machine_roads.specs.Closing.{IsInDrop, IsLosingInDrop}
+use Rattle.machine_roads.specs.Within.{Act, ActAlike, ActsBy, AreActs, IsAct, owes, standing}
+
+-- what is left to do of the executor's drop behind that of a future
+abbrev pub left_to_close : List ℕ → World → List Op
+left_to_close fs w = closing_ops fs w.waking ++ op.End reply.Done hold.Nothing ∷ []
+
+-- a party stands in the drop of a future in the executor's drop, or in that of an output that goes with its handle there; or behind the
+-- executor's drop in none, or in such a drop of an output
+pub data StandsDropping (e : Done) (q : Plain Output Waker) : Type 0 where
+  drops : (f : ℕ) (fs all : List ℕ) → e.next ≡ op.User (user_op.Drop f) ∷ left_to_close fs e.world → IsInDrop e.world fs all [] q
+      → StandsDropping e q
+  loses_inside : (g f : ℕ) (fs all : List ℕ) (b : Plain Output Waker)
+      → e.next ≡ op.User (user_op.DropOutput g) ∷ (left_of g ++ op.User (user_op.Drop f) ∷ left_to_close fs e.world)
+      → q ≡ record b { inside = Lose None None ∷ b.inside } → IsLosingInDrop e.world g fs all [] b → StandsDropping e q
+  behind : e.next ≡ [] → q.inside ≡ [] → Follows e.world q → NoneWaits q → StandsDropping e q
+  loses_behind : (g : ℕ) (b : Plain Output Waker) → b.inside ≡ [] → NoneWaits q → StopsLosing g [] b e q → StandsDropping e q
+
+-- no call begins in the drop of an output
+abbrev pub may_act : List Op → Step → Bool
+may_act os (Begin p c) = not (owes os)
+may_act os (Go p h) = true
+may_act os (Answer p u) = true
+
+abbrev pub AreDropActs : Machine → List Act → Type 0
+AreDropActs s [] = Unit {0}
+AreDropActs s (a ∷ acts) = IsAct s a × (may_act (reverse (stack s a.party)) a.first ≡ true) × AreDropActs a.left acts
+
+abbrev pub DropActAlike : Machine → Plain Output Waker → List Act → Type 0
+DropActAlike s q [] = Unit {0}
+DropActAlike s q (a ∷ acts) =
+    (r : Plain Output Waker) × ActsBy s a.party a.first q r × StandsDropping (standing a.left a.party) r × DropActAlike a.left r acts
+
+-- so it is from a lone machine's executor's drop on, where the plain scheduler stands in no code
+abbrev pub DropActsAlike : Machine → Plain Output Waker → Type 0
+DropActsAlike s q =
+    (a : Act) (acts : List Act) (d : Choice) → q.inside ≡ [] → IsAct s a → a.first ≡ Begin a.party call.DropExecutor
+    → AreDropActs a.left acts
+    → StandsDropping (standing a.left a.party) (does wakes d plain.DropExecutor q)
+    × DropActAlike a.left (does wakes d plain.DropExecutor q) acts
+
+-- the machine that acts leave, and the plain scheduler
+abbrev pub left_by : Machine → List Act → Machine
+left_by s [] = s
+left_by s (a ∷ acts) = left_by a.left acts
+
+abbrev pub plain_behind : (acts : List Act) (s : Machine) (q : Plain Output Waker) → ActAlike s q acts → Plain Output Waker
+plain_behind [] s q alike = q
+plain_behind (a ∷ acts) s q alike = plain_behind acts a.left alike.0 alike.3
+
+-- from a new machine on both act alike, and, where no call is in progress any more, from the executor's drop on
+abbrev pub ListsActToTheEnd : Type 0
+ListsActToTheEnd =
+    (limit : ℕ) (kind : Kind) (parties : ℕ) (acts : List Act) → AreActs (start limit kind parties) acts
+    → IsQuiet (left_by (start limit kind parties) acts).world.trace
+    → (alike : ActAlike (start limit kind parties) (new limit (is_static_kind kind)) acts)
+    × DropActsAlike (left_by (start limit kind parties) acts)
+    (plain_behind acts (start limit kind parties) (new limit (is_static_kind kind)) alike)

@@ -82,7 +82,7 @@ owes (op.User (user_op.DropOutput f) ∷ os) = true
 owes (op.User (user_op.Drop f) ∷ op.Table (table_op.LeaveTable g) ∷ op.Handle (handle_op.LetGo h) ∷ os) = true
 owes _ = false
 
--- but the executor's drop
+-- all calls but the executor's drop
 abbrev pub may_stand_in : Call → Bool
 may_stand_in call.DropExecutor = false
 may_stand_in _ = true

@@ -1,0 +1,13 @@
+pub mod Words
+pub mod Tasks
+pub mod Moving
+pub mod Taking
+pub mod Calling
+pub mod Plainly
+pub mod PlainCalls
+pub mod Both
+pub mod Inner
+pub mod InDrop
+pub mod Meant
+pub mod Acted
+pub mod ActedToEnd

@@ -6,3 +6,8 @@ pub mod Calling
 pub mod Plainly
 pub mod PlainCalls
 pub mod Both
+pub mod Inner
+pub mod InDrop
+pub mod Meant
+pub mod Acted
+pub mod ActedToEnd

@@ -1,5 +1,6 @@
 -- And so it is with a future that is taken, with what becomes of it, and with what then goes on.
-use Rattle.std.proofs.Common.{◌≡◌, ℕ, suc, ◌+◌, ◌==◌, ◌≤◌, nat_lt, cond, Bool, true, false, List, [], ◌∷◌, ◌++◌, length, map, find}
+use Rattle.std.proofs.Common.{◌⊎◌, inl, inr, ◌≡◌, ℕ, suc, ◌+◌, ◌==◌, ◌≤◌, nat_lt, cond, Bool, true, false, List, [], ◌∷◌, ◌++◌, length}
+use Rattle.std.proofs.Common.{map, find}
 use Rattle.std.proofs.Common.{Option, Some, None, slice_get, refl, sym, ap, subst, ◌∙◌}
 use Rattle.std.specs.Option.{option_map}
 use Rattle.executor_parts.specs.declared.mark.Mark.{Mark}
@@ -9,20 +10,23 @@ use Rattle.task_moves.specs.AbstractTask as abstract
 use Rattle.task_moves.specs.AbstractTask.{AbstractTask, Left}
 use Rattle.plain_scheduler.specs.State.{Answer, Answers, ARun, ATick, AtOnce, Calls, Choice, Closed, Done, Drop, Drops, Due, End, Event}
 use Rattle.plain_scheduler.specs.State.{Gave}
-use Rattle.plain_scheduler.specs.State.{Granted, Later, Lose, Loses, Lying, No, NoMemory, Pending, Plain, Poll, Polls, Ready, Refusal, Run}
+use Rattle.plain_scheduler.specs.State.{Granted, Later, Lose, Loses, Lying, No, NoMemory, Pending, Plain, Poll, Polls, Ready, Refusal}
+use Rattle.plain_scheduler.specs.State.{Run}
 use Rattle.plain_scheduler.specs.State.{Taker, Tick, Try, Who, Yes}
 use Rattle.plain_scheduler.specs.Lists.{any, each, on, or, repeat, without}
 use Rattle.plain_scheduler.specs.Moves.{answers, called, chosen, copied, enters, is_common, is_due, is_kept, keeps, let_go, lies, looks}
 use Rattle.plain_scheduler.specs.Moves.{put}
 use Rattle.plain_scheduler.specs.Moves.{runs, see, task, tell, up, wake}
 use Rattle.plain_scheduler.specs.Takes as takes
-use Rattle.two_roads.specs.Renaming.{AreBothDue, GoesOnAlike, GoesOnIf, RunsAlike, TakesAlike}
+use Rattle.two_roads.specs.Renaming.{is_refusal, AreBothDue, GoesOnAlike, GoesOnIf, RunsAlike, TakesAlike}
 use Rattle.two_roads.specs.Renaming.{answer_as, end_as, event_as, lying_as, taker_as}
-use Rattle.two_roads.proofs.Words.{find_map, map_append, without_map}
+use Rattle.two_roads.proofs.Words.{find_map, map_append, without_map, none_before, not_last}
 use Rattle.two_roads.proofs.Tasks.{begins_so, finishes_so, left_as, ready_so}
-use Rattle.two_roads.proofs.Moving.{Alike, Few, Goes, Setting, andthen, called_alike, changed_alike, copied_alike, each_alike, enters_alike}
+use Rattle.two_roads.proofs.Moving.{Alike, Few, Goes, Setting, andthen, called_alike, changed_alike, copied_alike, each_alike}
+use Rattle.two_roads.proofs.Moving.{enters_alike}
 use Rattle.two_roads.proofs.Moving.{goes_alike, if_alike, its_task, keeps_alike, now, on_alike, on_here, put_alike, put_so}
-use Rattle.two_roads.proofs.Moving.{release_alike, repeat_alike, runs_alike, see_alike, stays, task_alike, tell_alike, up_alike, wake_alike}
+use Rattle.two_roads.proofs.Moving.{release_alike, repeat_alike, runs_alike, see_alike, stays, task_alike, tell_alike, up_alike}
+use Rattle.two_roads.proofs.Moving.{wake_alike}
 
 -- at which mark is looked first is nothing where futures of one alone are due
 in_either_order : (due : List Due) → ¬ AreBothDue due
@@ -70,21 +74,39 @@ module _ {T U A B : Type 0} (k : Setting T U A B) where
   tells_as p = tell k.wakes_as k.other p
 
   -- at the end of a call one more may lie
+  -- the same is refused, or nothing was
+  abbrev pub Allowed : Plain U B → Type 0
+  Allowed y = (k.choice.refusal ≡ k.other.refusal) ⊎ (any is_refusal y.events ≡ false)
+
   abbrev pub Same : Plain T A → Plain U B → Type 0
-  Same x y = now k x ≡ y
+  Same x y = Allowed y → now k x ≡ y
+
+  pub always : (x : Plain T A) (y : Plain U B) → now k x ≡ y → Same x y
+  always x y is allowed = is
+
+  pub stays_same : (p : Plain T A) → Same p (now k p)
+  stays_same p allowed = refl
+
+  earlier : (e : Event U B) (y : Plain U B) → Allowed (see e y) → Allowed y
+  earlier e y (inl same) = inl same
+  earlier e y (inr none) = inr (none_before is_refusal y.events e none)
+
+  pub not_refused : (y : Plain U B) → Allowed (answers NoMemory y) → ¬ (k.choice.refusal ≡ k.other.refusal) → ⊥
+  not_refused y (inl same) other = other same
+  not_refused y (inr none) other = not_last is_refusal y.events (Answers NoMemory) refl none
 
   pub into : {x : Plain T A} {y : Plain U B} (f : Plain T A → Plain T A) (g : Plain U B → Plain U B) → Alike k x y
       → ((p : Plain T A) → Few k p → Same (f p) (g (now k p))) → Same (f x) (g y)
-  into {x = x} f g one next = next x one.few ∙ ap g one.same
+  into {x = x} f g one next allowed = next x one.few (subst Allowed (ap g (sym one.same)) allowed) ∙ ap g one.same
 
   pub if_same : (b : Bool) (x x2 : Plain T A) (y y2 : Plain U B) → Same x y → Same x2 y2 → Same (cond b x x2) (cond b y y2)
   if_same true x x2 y y2 one two = one
   if_same false x x2 y y2 one two = two
 
   pub see_same : (e : Event T A) (x : Plain T A) (y : Plain U B) → Same x y → Same (see e x) (see (event_as k.output k.waker e) y)
-  see_same e x y is =
+  see_same e x y is allowed =
       ap (λ es. record (now k x) { events = es }) (map_append (event_as k.output k.waker) x.events (e ∷ []))
-      ∙ ap (λ (q : Plain U B). see (event_as k.output k.waker e) q) is
+      ∙ ap (λ (q : Plain U B). see (event_as k.output k.waker e) q) (is (earlier (event_as k.output k.waker e) y allowed))
 
   pub answers_same : (a : Answer T) (x : Plain T A) (y : Plain U B) → Same x y → Same (answers a x) (answers (answer_as k.output a) y)
   answers_same a x y is = see_same (Answers a) x y is
@@ -153,7 +175,7 @@ module _ {T U A B : Type 0} (k : Setting T U A B) where
   -- it lies
   lain_same : (who : Who) (w : A) (p : Plain T A)
       → Same (takes.lain k.wakes c who w p) (takes.lain k.wakes_as d who (k.waker w) (now k p))
-  lain_same who w p =
+  lain_same who w p allowed =
       ap (λ ls. record (now k p) { lying = ls })
       (map_append lain_as (without (lies who) p.lying) (record { who = who; waker = Some w } ∷ [])
       ∙ ap (λ ls. ls ++ record { who = who; waker = Some (k.waker w) } ∷ [])
@@ -161,7 +183,7 @@ module _ {T U A B : Type 0} (k : Setting T U A B) where
 
   lain_again_same : (who : Who) (w old : A) (p : Plain T A) → Few k p
       → Same (takes.lain_again k.wakes c who w old p) (takes.lain_again k.wakes_as d who (k.waker w) (k.waker old) (now k p))
-  lain_again_same who w old p few =
+  lain_again_same who w old p few allowed =
       let p1 : Plain T A = record p { lying = map (λ l. cond (lies who l) (record l { waker = Some w }) l) p.lying } in
       (goes_alike k old p1 (subst (λ n. n ≤ k.many) (sym (long p.lying)) few)).same
       ∙ ap (λ ls. let_go k.wakes_as tells_as (k.waker old) (record (now k p) { lying = ls })) (again p.lying)
@@ -186,8 +208,7 @@ module _ {T U A B : Type 0} (k : Setting T U A B) where
   lies_down_same : (who : Who) (w : A) (p : Plain T A) → Few k p
       → Same (takes.lies_down k.wakes c who w p) (takes.lies_down k.wakes_as d who (k.waker w) (now k p))
   lies_down_same who w p few =
-      ap (now k) refl
-      ∙ subst
+      subst
       (λ o. Same (takes.lies_down k.wakes c who w p)
       (or o (λ l. or l.waker (λ old. takes.lain_again k.wakes_as d who (k.waker w) old q_as) (takes.lain k.wakes_as d who (k.waker w) q_as))
       (takes.lain k.wakes_as d who (k.waker w) q_as)))
@@ -229,20 +250,42 @@ module _ {T U A B : Type 0} (k : Setting T U A B) where
   rests_same Granted who w p few =
       answers_same Pending (takes.lies_down k.wakes c who w p) (takes.lies_down k.wakes_as d who (k.waker w) (now k p))
       (lies_down_same who w p few)
-  rests_same AtOnce who w p few = answers_same NoMemory p (now k p) refl
+  rests_same AtOnce who w p few = answers_same NoMemory p (now k p) (stays_same p)
   rests_same Later who w p few =
       answers_same NoMemory (takes.lies_down k.wakes c who w p) (takes.lies_down k.wakes_as d who (k.waker w) (now k p))
       (lies_down_same who w p few)
 
   rests_so : (who : Who) (w : A) (p : Plain T A) → Few k p
       → Same (takes.rests k.wakes c c.refusal who w p) (takes.rests k.wakes_as d d.refusal who (k.waker w) (now k p))
-  rests_so who w p few =
-      subst (λ r. Same (takes.rests k.wakes c c.refusal who w p) (takes.rests k.wakes_as d r who (k.waker w) (now k p))) k.refusal
-      (rests_same c.refusal who w p few)
+  rests_so who w p few = by k.refusal
+    where
+      granted : (r : Refusal) → d.refusal ≡ r → c.refusal ≡ Granted
+          → Same (takes.rests k.wakes c c.refusal who w p) (takes.rests k.wakes_as d r who (k.waker w) (now k p))
+      granted Granted is so =
+          subst
+          (λ r. Same (takes.rests k.wakes c r who w p) (takes.rests k.wakes_as d Granted who (k.waker w) (now k p))) (sym so)
+          (rests_same Granted who w p few)
+      granted AtOnce is so = λ allowed. absurd (not_refused (now k p) allowed (λ same. at_once (sym so ∙ (same ∙ is))))
+        where
+          at_once : Granted ≡ AtOnce → ⊥
+          at_once e = cc
+      granted Later is so =
+          λ allowed.
+          absurd (not_refused (takes.lies_down k.wakes_as d who (k.waker w) (now k p)) allowed (λ same. later (sym so ∙ (same ∙ is))))
+        where
+          later : Granted ≡ Later → ⊥
+          later e = cc
+
+      by : (c.refusal ≡ d.refusal) ⊎ (c.refusal ≡ Granted)
+          → Same (takes.rests k.wakes c c.refusal who w p) (takes.rests k.wakes_as d d.refusal who (k.waker w) (now k p))
+      by (inl same) =
+          subst (λ r. Same (takes.rests k.wakes c c.refusal who w p) (takes.rests k.wakes_as d r who (k.waker w) (now k p))) same
+          (rests_same c.refusal who w p few)
+      by (inr so) = granted d.refusal refl so
 
   nothing_same : (by : Taker A) (p : Plain T A) → Few k p
       → Same (takes.nothing k.wakes c by p) (takes.nothing k.wakes_as d (taker by) (now k p))
-  nothing_same Try p few = answers_same No p (now k p) refl
+  nothing_same Try p few = answers_same No p (now k p) (stays_same p)
   nothing_same (Tick t w) p few = rests_so (ATick t) w p few
   nothing_same (Run r w) p few = rests_so (ARun r) w p few
 
@@ -277,7 +320,7 @@ module _ {T U A B : Type 0} (k : Setting T U A B) where
           (or o (λ due. takes.takes k.wakes_as d (taker by) due (record (now k p) { due = without test p.due }))
           (takes.nothing k.wakes_as d (taker by) (now k p)))
       found None = nothing_same by p few
-      found (Some due) = (takes_alike by due (goes_on by alike) (record p { due = without test p.due }) few).same
+      found (Some due) = λ allowed. (takes_alike by due (goes_on by alike) (record p { due = without test p.due }) few).same
 
   -- what goes on after a future
   gives_way_same : (r : ℕ) (w : A) (p : Plain T A) → Few k p
@@ -305,13 +348,13 @@ module _ {T U A B : Type 0} (k : Setting T U A B) where
       by : (p : Plain T A) → Few k p → (o : Option ℕ)
           → Same (or o (λ f. wake k.wakes tells f p) (see (Calls w) p))
           (or o (λ f. wake k.wakes_as tells_as f (now k p)) (see (Calls (k.waker w)) (now k p)))
-      by p few None = (see_alike k (Calls w) p few).same
-      by p few (Some f) = (wake_alike k tells tells_as (tell_alike k) f p few).same
+      by p few None = λ allowed. (see_alike k (Calls w) p few).same
+      by p few (Some f) = λ allowed. (wake_alike k tells tells_as (tell_alike k) f p few).same
 
   pub next_same : (by : Taker A) → GoesOnAlike c d by → (p : Plain T A) → Few k p
       → Same (takes.next k.wakes c by p) (takes.next k.wakes_as d (taker by) (now k p))
-  next_same Try on p few = answers_same Yes p (now k p) refl
-  next_same (Tick t w) on p few = answers_same Ready p (now k p) refl
+  next_same Try on p few = answers_same Yes p (now k p) (stays_same p)
+  next_same (Tick t w) on p few = answers_same Ready p (now k p) (stays_same p)
   next_same (Run r w) on p few =
       if_same (nat_lt (or (slice_get p.runs r) (λ run. run.taken) 0) 200) (takes.take k.wakes c (Run r w) p)
       (takes.gives_way k.wakes c r w p) (takes.take k.wakes_as d (Run r (k.waker w)) (now k p))
@@ -334,7 +377,7 @@ module _ {T U A B : Type 0} (k : Setting T U A B) where
 
       next_if : (by : Option (Taker A)) → GoesOnIf c d by → (p : Plain T A) → Few k p
           → Same (goes_on by p) (goes_as (option_map (taker_as k.waker) by) (now k p))
-      next_if None on_so p few = answers_same Done p (now k p) refl
+      next_if None on_so p few = answers_same Done p (now k p) (stays_same p)
       next_if (Some by) on_so p few = next_same by on_so p few
 
   -- what goes out of a task
@@ -364,6 +407,7 @@ module _ {T U A B : Type 0} (k : Setting T U A B) where
           (λ w. goes_alike k w p few))
           (lost_same l.called by on_so)
       dropped (Some v) =
+          λ allowed.
           (andthen k (enters (Lose l.called by)) (enters (Lose (option_map k.waker l.called) (option_map (taker_as k.waker) by)))
           (see_alike k (Loses v) p few) (enters_alike k (Lose l.called by))).same
 

@@ -1,3 +1,4 @@
 pub mod Renaming
 pub mod Plainly
 pub mod Together
+pub mod Acting

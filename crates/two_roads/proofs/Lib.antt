@@ -11,3 +11,6 @@ pub mod InDrop
 pub mod Meant
 pub mod Acted
 pub mod ActedToEnd
+pub mod Seeking
+pub mod ActTurns
+pub mod SoloTurns

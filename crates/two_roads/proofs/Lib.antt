@@ -14,3 +14,4 @@ pub mod ActedToEnd
 pub mod Seeking
 pub mod ActTurns
 pub mod SoloTurns
+pub mod InStep

@@ -27,6 +27,7 @@ ghost use Rattle.two_roads.specs.Acting.{AreActed, AreOfSteps, EndActed, EndOfSt
 ghost use Rattle.two_roads.specs.Plainly.{are_plain};
 ghost use Rattle.two_roads.specs.Renaming.{AreSame};
 ghost use Rattle.two_roads.specs.Together.{TellsOf, as_heard, left_by, made_by, nothing, numbered};
+ghost use Rattle.two_roads.specs.Turns.{poll_no_tick};
 
 /// A list of lone calls of a new machine is one of the plain scheduler's, and so is a list of calls of a new executor of one owner.
 /// Where these are the same calls, with the same ends of polls and drops and the same refusals, both then stand where one plain
@@ -106,6 +107,18 @@ pub fn unrefused_calls_show_alike<F, T, X>()
         → IsNew limit solo_kind first → counts solo_kind ≡ not (is_static_kind kind)
         → Leads its calls (new_owner before) first (new limit (is_static_kind kind)) shown after last
         → AreActed number (start limit kind parties) acts (new limit (is_static_kind kind)) calls
+        → Stands its last (course wakes calls (new limit (is_static_kind kind)))
+        × (heard_in (left_of (start limit kind parties) acts).world.trace ≡ as_heard number shown) }
+{}
+
+/// Where no tick is polled, nothing is asked of turns either: both take as many in each call.
+pub fn tickless_calls_show_alike<F, T, X>()
+    ensures { (its : ℕ → Lent) (number : X → ℕ) (limit : ℕ) (kind : MachineKind) (solo_kind : Kind) (parties : ℕ) (acts : List Act)
+        (calls : List (Choice × Call T (SoloWaker X))) (first last : Solo F T X) (shown : List (Event T (SoloWaker X)))
+        (before : Who → ℕ) (after : Owner) → AreActs (start limit kind parties) acts
+        → IsNew limit solo_kind first → counts solo_kind ≡ not (is_static_kind kind)
+        → Leads its calls (new_owner before) first (new limit (is_static_kind kind)) shown after last
+        → poll_no_tick calls ≡ true → AreOfSteps number (start limit kind parties) acts (new limit (is_static_kind kind)) calls
         → Stands its last (course wakes calls (new limit (is_static_kind kind)))
         × (heard_in (left_of (start limit kind parties) acts).world.trace ≡ as_heard number shown) }
 {}

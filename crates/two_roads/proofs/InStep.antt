@@ -170,6 +170,24 @@ module _ {F T X : Type 0} (its : ℕ → Lent) (number : X → ℕ) where
             are.2 go.3 (does wakes c call p) one xs now last u z more on later both.1 of.1,
       )
 
+  -- from new ones on
+  pub tickless_acted : (limit : ℕ) (kind : MachineKind) (solo_kind : Kind) (parties : ℕ) (acts : List Act)
+      (cs : List (Choice × Call T (SoloWaker X))) (first last : Solo F T X) (shown : List (Event T (SoloWaker X)))
+      (before : Who → ℕ) (after : Owner) → AreActs (start limit kind parties) acts → IsNew limit solo_kind first
+      → Leads its cs (new_owner before) first (new limit (is_static_kind kind)) shown after last → poll_no_tick cs ≡ true
+      → AreOfSteps number (start limit kind parties) acts (new limit (is_static_kind kind)) cs
+      → AreActed number (start limit kind parties) acts (new limit (is_static_kind kind)) cs
+  tickless_acted limit kind solo_kind parties acts cs first last shown before after they is_new led none of =
+      let s = start limit kind parties in
+      let reached : Reached s = record { limit = limit; kind = kind; parties = parties; steps = []; is = refl } in
+      let empty : (n : ℕ) → stack s n ≡ [] = rests s (deep-here s reached) (λ party. refl) in
+      let q : Plain Output Waker = new limit (is_static_kind kind) in
+      let stands : StandsAlike (standing s 0) q =
+      subst (λ xs. StandsAlike (done s.world (reverse xs)) q) (sym (empty 0)) (alike nowhere (begin_alike limit kind parties)) in
+      in_step acts s reached 0 (λ n apart. empty n) q stands they (acts_alike limit kind parties acts they)
+      (new limit (is_static_kind kind)) refl cs (new_owner before) after first last shown led
+      (ap (λ (l : LinesValue). 7 + l.turn % 8) is_new.lines) none of
+
   pub tickless_together : (limit : ℕ) (kind : MachineKind) (solo_kind : Kind) (parties : ℕ) (acts : List Act)
       (cs : List (Choice × Call T (SoloWaker X))) (first last : Solo F T X) (shown : List (Event T (SoloWaker X)))
       (before : Who → ℕ) (after : Owner) → AreActs (start limit kind parties) acts → IsNew limit solo_kind first
@@ -179,13 +197,5 @@ module _ {F T X : Type 0} (its : ℕ → Lent) (number : X → ℕ) where
       → Stands its last (course wakes cs (new limit (is_static_kind kind)))
       × (heard_in (left_of (start limit kind parties) acts).world.trace ≡ as_heard number shown)
   tickless_together limit kind solo_kind parties acts cs first last shown before after they is_new counted led none of =
-      let s = start limit kind parties in
-      let reached : Reached s = record { limit = limit; kind = kind; parties = parties; steps = []; is = refl } in
-      let empty : (n : ℕ) → stack s n ≡ [] = rests s (deep-here s reached) (λ party. refl) in
-      let q : Plain Output Waker = new limit (is_static_kind kind) in
-      let stands : StandsAlike (standing s 0) q =
-      subst (λ xs. StandsAlike (done s.world (reverse xs)) q) (sym (empty 0)) (alike nowhere (begin_alike limit kind parties)) in
       unrefused_together its number limit kind solo_kind parties acts cs first last shown before after they is_new counted led
-      (in_step acts s reached 0 (λ n apart. empty n) q stands they (acts_alike limit kind parties acts they)
-      (new limit (is_static_kind kind)) refl cs (new_owner before) after first last shown led
-      (ap (λ (l : LinesValue). 7 + l.turn % 8) is_new.lines) none of)
+      (tickless_acted limit kind solo_kind parties acts cs first last shown before after they is_new led none of)

@@ -15,3 +15,4 @@ pub mod Seeking
 pub mod ActTurns
 pub mod SoloTurns
 pub mod InStep
+pub mod InStepToEnd

@@ -153,6 +153,23 @@ pub fn unrefused_calls_end_alike<F, T, X>()
         × (heard_in (left_of a.left later).world.trace ≡ as_heard number (shown ++ others)) }
 {}
 
+/// And so it is to the end where no tick is polled: from the executor's drop on no call looks for a future to take.
+pub fn tickless_calls_end_alike<F, T, X>()
+    ensures { (its : ℕ → Lent) (number : X → ℕ) (limit : ℕ) (kind : MachineKind) (solo_kind : Kind) (parties : ℕ) (acts : List Act)
+        (a : Act) (later : List Act) (calls ends : List (Choice × Call T (SoloWaker X))) (first middle last : Solo F T X)
+        (shown others : List (Event T (SoloWaker X))) (before : Who → ℕ) (after : Owner) → AreActs (start limit kind parties) acts
+        → IsQuiet (left_by_acts (start limit kind parties) acts).world.trace → IsAct (left_by_acts (start limit kind parties) acts) a
+        → a.first ≡ Begin a.party DropsExecutor → AreDropActs a.left later → IsNew limit solo_kind first
+        → counts solo_kind ≡ not (is_static_kind kind)
+        → Leads its calls (new_owner before) first (new limit (is_static_kind kind)) shown after middle
+        → LastCalls its middle (course wakes calls (new limit (is_static_kind kind))) ends others last
+        → (course wakes calls (new limit (is_static_kind kind))).inside ≡ [] → poll_no_tick calls ≡ true
+        → AreOfSteps number (start limit kind parties) acts (new limit (is_static_kind kind)) calls
+        → EndOfSteps number a later (course wakes calls (new limit (is_static_kind kind))) ends
+        → IsClosed its last (course wakes (calls ++ ends) (new limit (is_static_kind kind)))
+        × (heard_in (left_of a.left later).world.trace ≡ as_heard number (shown ++ others)) }
+{}
+
 /// And so it is to the end where each future is spawned plain.
 pub fn plain_calls_end_alike<F, T, X>()
     ensures { (its : ℕ → Lent) (number : X → ℕ) (limit : ℕ) (kind : MachineKind) (solo_kind : Kind) (parties : ℕ) (acts : List Act)

@@ -17,22 +17,21 @@ use Rattle.executor_model.specs.declared.op.UserOp.TheVariants as user_op
 use Rattle.executor_model.specs.declared.op.Waker.{Waker}
 use Rattle.executor_model.specs.declared.step.Hint.{Hint}
 use Rattle.executor_model.specs.declared.step.Step.{Step}
-use Rattle.executor_model.specs.declared.step.Step.TheVariants.{Answer, Begin, Go}
+use Rattle.executor_model.specs.declared.step.Step.TheVariants.{Answer, Begin}
 use Rattle.executor_model.specs.declared.step.StepError.TheVariants.{NoSuch, WrongAnswer}
 use Rattle.executor_model.specs.declared.step.UserEnd.{UserEnd}
 use Rattle.executor_model.specs.declared.step.UserEnd.TheVariants.{Done as Over, Polled}
 use Rattle.executor_model.specs.Carried.{awaiter_ops}
 use Rattle.executor_model.specs.Executions.{run_all}
-use Rattle.executor_model.specs.Steps.{Machine, accepts, after, answer_refusal, begun, mine, part_refusal, party_of, react, refusal, stack, start, top}
-use Rattle.executor_model.specs.Weights.{weigh}
-use Rattle.executor_model.specs.World.{Done, World, done, log, task}
+use Rattle.executor_model.specs.Steps.{Machine, accepts, after, answer_refusal, begun, mine, part_refusal, party_of, react, stack, start, top}
+use Rattle.executor_model.specs.World.{Done, World, log, task}
 use Rattle.executor_model.proofs.OwnQueues.Using.{mild-aside}
 use Rattle.executor_model.proofs.Steps.Asides.{aside-awaiter}
 use Rattle.executor_model.proofs.Steps.Lists.{weigh-append}
 use Rattle.executor_model.proofs.Steps.Reached.{Reached, reached-more, run-first}
 use Rattle.executor_model.proofs.Steps.Stepping.{refusal-there}
 use Rattle.task_moves.specs.Moves.{notify_if}
-use Rattle.plain_scheduler.specs.State.{Code, Drop, DropOwn, Lose, Plain, Poll, PollOwn, Run, Taker, Tick, Try}
+use Rattle.plain_scheduler.specs.State.{Code, Drop, Lose, Plain, Poll, PollOwn, Taker}
 use Rattle.plain_scheduler.specs.Calls as plain
 use Rattle.machine_roads.specs.Alike.{begins as begins_alike, upon}
 use Rattle.machine_roads.specs.Alone.{alone, is_resting}
@@ -144,7 +143,7 @@ nested_rests os codes nowhere = tt
 nested_rests os codes (takes taker final below xs inside more it nested stopped) =
     behind_stop taker final below it (due_in below inside nested) os inside codes (nested_rests below inside nested) stopped
 nested_rests os codes (polls_own x below inside nested) = behind_own x below inside
-nested_rests os codes (drops_own r below inside nested) = 
+nested_rests os codes (drops_own r below inside nested) =
     behind_owns_drop r (op.List (list_op.LockWrite (section.Unregister r reply.Ready))) refl below (due_in below inside nested) codes
 
 leaving_none : (r : ℕ) (o : Op) → IsLeaving r o → seeks o ≡ 0

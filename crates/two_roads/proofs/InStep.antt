@@ -1,10 +1,9 @@
 -- Both take as many turns, and so look first at the same mark.
-use Rattle.std.proofs.Common.{◌≡◌, ℕ, zero, suc, ◌+◌, ◌^◌, ◌%◌, ◌==◌, ◌&&◌, not, Bool, true, false, List, [], ◌∷◌, map, length}
-use Rattle.std.proofs.Common.{Option, Some, None, Ok, refl, sym, ap, ◌∙◌, subst, arith, get_or-set_other}
+use Rattle.std.proofs.Common.{◌≡◌, ℕ, zero, suc, ◌+◌, ◌^◌, ◌%◌, ◌==◌, not, Bool, true, false, List, [], ◌∷◌, map}
+use Rattle.std.proofs.Common.{Some, None, refl, sym, ap, ◌∙◌, subst, arith, get_or-set_other}
 use Rattle.std.specs.Prelude.{reverse}
 use Rattle.std.proofs.lemmas.Bool.Decides.{nat_tests}
 use Rattle.executor_parts.specs.Marks.{first_of, turn_after}
-use Rattle.executor_parts.specs.declared.mark.Mark.{Mark}
 use Rattle.executor_parts.specs.declared.mark.Mark.TheVariants.{Plain as PlainMark, Urgent}
 use Rattle.executor_model.specs.declared.kind.Kind.{Kind as MachineKind}
 use Rattle.executor_model.specs.declared.op.Waker.{Waker}
@@ -41,7 +40,7 @@ use Rattle.two_roads.specs.Renaming.{call_as, code_as, renamed, taker_as}
 use Rattle.two_roads.specs.Together.{as_heard, nothing, numbered}
 use Rattle.two_roads.specs.Turns.{poll_no_tick, polls_tick, turned, turned_in, turns_of}
 use Rattle.two_roads.proofs.ActTurns.{act_turns}
-use Rattle.two_roads.proofs.Acted.{AllTell, all_tell, one_same, unrefused_together}
+use Rattle.two_roads.proofs.Acted.{one_same, unrefused_together}
 use Rattle.two_roads.proofs.Inner.{seen_in}
 use Rattle.two_roads.proofs.SoloTurns.{calls_take_turns}
 

@@ -1,5 +1,5 @@
 -- From the executor's drop on no call looks for a future to take.
-use Rattle.std.proofs.Common.{◌≡◌, ◌++◌, ℕ, not, Bool, true, false, List, [], ◌∷◌, refl}
+use Rattle.std.proofs.Common.{◌≡◌, ◌++◌, ℕ, not, true, false, List, [], ◌∷◌, refl}
 use Rattle.executor_model.specs.declared.call.Call.TheVariants as call
 use Rattle.executor_model.specs.declared.kind.Kind.{Kind as MachineKind}
 use Rattle.executor_model.specs.declared.step.Step.TheVariants.{Begin}
@@ -78,9 +78,11 @@ module _ {F T X : Type 0} (its : ℕ → Lent) (number : X → ℕ) where
   last_acted : (a : Act) (later : List Act) (y : Solo F T X) (p : Plain T (SoloWaker X)) (cs : List (Choice × Call T (SoloWaker X)))
       (others : List (Event T (SoloWaker X))) (z : Solo F T X) → LastCalls its y p cs others z → EndOfSteps number a later p cs
       → EndActed number a later p cs
-  last_acted a later y p cs others z (first_drop c f left rest u shown is dropped on) of =
-      (of.0, closes_acted (f ∷ left) (f ∷ []) left later a.left rest (closing.drained (closing.closed y)) u
-      (does wakes c calls.DropExecutor p) shown on of.1)
+  last_acted a later y p cs others z (first_drop c f left rest u shown is dropped on) of = (
+    of.0,
+    closes_acted (f ∷ left) (f ∷ []) left later a.left rest (closing.drained (closing.closed y)) u
+        (does wakes c calls.DropExecutor p) shown on of.1,
+  )
   last_acted a later y p cs others z (no_drop c rest m u shows shown is dropped drains on) of =
       (of.0, after_acted later a.left rest m u (does wakes c calls.DropExecutor p) shown on of.1)
 

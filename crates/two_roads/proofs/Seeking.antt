@@ -1,5 +1,5 @@
 -- What takes no turn, and leads to nothing that does.
-use Rattle.std.proofs.Common.{◌≡◌, ◌≤◌, ◌<◌, ◌+◌, ◌++◌, ℕ, List, [], ◌∷◌, Bool, true, false, cond, refl, sym, ap, ◌∙◌, subst, arith}
+use Rattle.std.proofs.Common.{◌≡◌, ◌≤◌, ◌+◌, ◌++◌, ℕ, List, [], ◌∷◌, Bool, true, false, cond, refl, sym, ap, ◌∙◌, arith}
 use Rattle.std.specs.Prelude.{Option, Some, None}
 use Rattle.executor_parts.specs.Marks.{first_of, turn_after}
 use Rattle.executor_model.specs.declared.call.Call.{Call}
@@ -12,17 +12,16 @@ use Rattle.executor_model.specs.declared.op.QueueOp.{QueueOp}
 use Rattle.executor_model.specs.declared.op.RunOp.{RunOp}
 use Rattle.executor_model.specs.declared.op.RunPoll.{RunPoll}
 use Rattle.executor_model.specs.declared.op.Section.{Section}
-use Rattle.executor_model.specs.declared.op.StealOp.{StealOp}
 use Rattle.executor_model.specs.declared.op.TickOp.{TickOp}
 use Rattle.executor_model.specs.declared.op.UserOp.{UserOp}
 use Rattle.executor_model.specs.declared.op.Waker.{Waker}
 use Rattle.executor_model.specs.declared.op.WakerOp.{WakerOp}
 use Rattle.executor_model.specs.declared.step.Hint.{Hint}
 use Rattle.executor_model.specs.declared.step.UserEnd.{UserEnd}
-use Rattle.executor_model.proofs.OwnQueues.Using.{Mild, is_for_runs, mild-next}
+use Rattle.executor_model.proofs.OwnQueues.Using.{Mild, mild-next}
 use Rattle.executor_model.proofs.Quiet.Calls.{calling_of}
 use Rattle.executor_model.proofs.Steps.ByParts.{by-act}
-use Rattle.executor_model.proofs.Steps.Parts.{PartsOf, PartsOfCall, Stay, by-begun, by-react, turns}
+use Rattle.executor_model.proofs.Steps.Parts.{PartsOf, Stay, by-begun, by-react, turns}
 use Rattle.executor_model.specs.Acts.{copy_by, is_refused}
 use Rattle.executor_model.specs.Acts as acts
 use Rattle.executor_model.specs.ActsOfRuns.{make_room_by, make_run_by, reschedule_by}

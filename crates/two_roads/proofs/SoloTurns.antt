@@ -1,7 +1,6 @@
 -- The executor of one owner takes one turn in a try, and none in another call where no tick is polled and no run goes on.
-use Rattle.std.proofs.Common.{◌≡◌, ◌≤◌, ◌+◌, ◌*◌, ◌^◌, ◌%◌, ℕ, zero, suc, List, [], ◌∷◌, ◌++◌, Bool, true, false, Option, Some, None}
-use Rattle.std.proofs.Common.{refl, sym, ap, ◌∙◌, length, slice_get}
-use Rattle.executor_parts.specs.declared.mark.Mark.{Mark}
+use Rattle.std.proofs.Common.{◌≡◌, ◌+◌, ◌^◌, ◌%◌, ℕ, zero, suc, List, ◌∷◌, Bool, false, Option, Some, None}
+use Rattle.std.proofs.Common.{refl, ap, ◌∙◌, length, slice_get}
 use Rattle.solo.specs.declared.names.Task.{Task}
 use Rattle.solo.specs.declared.names.SoloWaker.{SoloWaker}
 use Rattle.solo.specs.declared.names.SoloWaker.TheVariants.{Task as OfTask, Outside}
@@ -9,11 +8,7 @@ use Rattle.solo.specs.declared.cells.After.{After}
 use Rattle.solo.specs.declared.cells.After.TheVariants.{Queue, Rest, Drop as DropFuture, Unknown}
 use Rattle.solo.specs.declared.owed.Lent.{Lent}
 use Rattle.solo.specs.declared.owed.Owed.{Owed}
-use Rattle.solo.specs.declared.owed.SpawnError.{SpawnError}
 use Rattle.solo.specs.declared.runs.Leaving.{Leaving}
-use Rattle.solo.specs.declared.runs.Runner.{Runner}
-use Rattle.solo.specs.declared.runs.RunLeft.{RunLeft}
-use Rattle.solo.specs.declared.ticks.Ticker.{Ticker}
 use Rattle.solo.specs.declared.solo.Solo.{Solo}
 use Rattle.solo.specs.OwnQueues as own
 use Rattle.solo.specs.Cells.{asked}
@@ -21,27 +16,24 @@ use Rattle.solo.specs.Cells as cells
 use Rattle.solo.specs.Closing as closing
 use Rattle.solo.specs.Runs as runs
 use Rattle.solo.specs.Solo as solo
-use Rattle.solo.specs.Ticks as ticks
 use Rattle.solo.specs.Turns as turns
-use Rattle.plain_scheduler.specs.State.{ARun, ATick, Choice, Code, Drop, Event, Lose, Plain, Poll, PollOwn, Run, Taker}
+use Rattle.plain_scheduler.specs.State.{ARun, ATick, Choice, Code, Event, Plain, Run}
 use Rattle.plain_scheduler.specs.Lists.{on, repeat}
-use Rattle.plain_scheduler.specs.Calls.{Call, Ends, Pends, is_granted}
+use Rattle.plain_scheduler.specs.Calls.{Call, is_granted}
 use Rattle.solo_laws.specs.Alike.{calls, cancelled, copies, handle_polled, lets_go, registered, replaced_by}
 use Rattle.solo_laws.specs.Courses as courses
 use Rattle.solo_laws.specs.Courses.{Acts, Makes}
 use Rattle.solo_laws.specs.Dropping.{after_drop}
-use Rattle.solo_laws.specs.Leaking.{leaked}
 use Rattle.solo_laws.specs.Numbered.{ticker_of}
-use Rattle.solo_laws.specs.Owner.{Owner}
 use Rattle.solo_laws.specs.Tabled.{named}
 use Rattle.solo_laws.specs.RunGoing.{IsEnding, Stage, code_at, poll_ends, drop_ends, loss_ends}
-use Rattle.solo_laws.specs.Running.{drains, more_left, run_left}
+use Rattle.solo_laws.specs.Running.{drains, more_left}
 use Rattle.machine_roads.proofs.Lists.{clash}
 use Rattle.solo_laws.proofs.Prompt.{chosen}
 use Rattle.solo_laws.proofs.Turning.{At, begun_at, left_at, let_go_at, lined_if_at, run_drained_at, scheduled_at, scheduled_if_at}
 use Rattle.solo_laws.proofs.Turning.{searched_turn, tick_left_at, told_at}
 use Rattle.two_roads.specs.Acting.{goes_on_in, takes_for_run}
-use Rattle.two_roads.specs.Turns.{CallsTakeTurns, polls_tick, turned_in, turns_of}
+use Rattle.two_roads.specs.Turns.{CallsTakeTurns, turned_in, turns_of}
 
 -- one that a run took ends, behind which the run goes on
 for_run : {T X : Type 0} (p : Plain T (SoloWaker X)) (stage : Stage T (SoloWaker X)) (r : ℕ) (w : SoloWaker X) (rest : List (Code T (SoloWaker X)))

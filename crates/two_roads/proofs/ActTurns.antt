@@ -1,4 +1,4 @@
--- The machine takes one turn in a try, and none in another act where no tick is polled and no run goes on.
+-- How many turns the machine takes in an act in which no run goes on.
 use Rattle.std.proofs.Common.{◌≡◌, ◌<◌, ◌++◌, ℕ, List, [], ◌∷◌, Bool, true, false, nat_lt, length, refl, sym, ap, ◌∙◌, subst, arith}
 use Rattle.std.specs.Prelude.{Option, Some, None, Ok, reverse}
 use Rattle.executor_model.specs.declared.call.Call.{Call}
@@ -34,7 +34,22 @@ use Rattle.task_moves.specs.Moves.{notify_if}
 use Rattle.plain_scheduler.specs.State.{Code, Drop, Lose, Plain, Poll, PollOwn, Taker}
 use Rattle.plain_scheduler.specs.Calls as plain
 use Rattle.machine_roads.specs.Alike.{begins as begins_alike, upon}
-use Rattle.machine_roads.specs.Alone.{alone, is_resting}
+use Rattle.machine_roads.specs.Alone.{SleepsAlone, alone, is_resting}
+use Rattle.machine_roads.specs.Road.{Follows}
+use Rattle.machine_roads.specs.Seeing.{heard_in}
+use Rattle.executor_model.specs.SleepersAgree.{SleepersAgree}
+use Rattle.executor_model.specs.declared.call.By.{By}
+use Rattle.executor_model.specs.declared.op.TickOrRun.{TickOrRun}
+use Rattle.executor_model.specs.declared.op.TickOrRun.TheVariants as tick_or_run
+use Rattle.executor_model.specs.Steps.{waker_of}
+use Rattle.executor_model.proofs.Sleepers.SleepersFollowingExecutions.{agree}
+use Rattle.plain_scheduler.specs.Lists.{any}
+use Rattle.std.specs.Prelude.{not}
+use Rattle.machine_roads.specs.Within.{is_on_way, may_stand_in, owes}
+use Rattle.machine_roads.proofs.Changing.{logs}
+use Rattle.machine_roads.proofs.Lists.{clash}
+use Rattle.machine_roads.proofs.LoneRuns.{both_true, not_true}
+use Rattle.machine_roads.proofs.LoneTicks.{can_poll, may_begin}
 use Rattle.machine_roads.specs.Dropped.{answered as drop_answered, loses, rest_of}
 use Rattle.machine_roads.specs.Losing.{left_of}
 use Rattle.machine_roads.specs.Stopped.{Stopped, answered, drops, drops_given, drops_polled, polls}
@@ -48,9 +63,11 @@ use Rattle.machine_roads.proofs.LoneRuns.{Walks, passed, within as is_within}
 use Rattle.machine_roads.proofs.Tying.{top_of}
 use Rattle.machine_roads.proofs.Walked.{answer_leads_of, begun_leads_of, no_answer}
 use Rattle.two_roads.specs.Acting.{goes_on_in, is_runs, takes_for_run}
-use Rattle.two_roads.specs.Turns.{ActsTakeTurns, polls_tick, turned, turns_of}
+use Rattle.two_roads.specs.Renaming.{is_refusal}
+use Rattle.two_roads.specs.Turns.{ActsTakeTurns, tick_turns, turned, turns_of}
 use Rattle.two_roads.proofs.Seeking.{alone_still, begins_none, begins_still, due, due_push, due_resting, is_still, mild_seeks, seeks}
 use Rattle.two_roads.proofs.Seeking.{reacts_still, try_turned}
+use Rattle.two_roads.proofs.TickTurns.{polled}
 
 -- nothing is asked of what is done
 walks : Walks (λ w o. Unit {0}) (λ s. Unit {0})
@@ -69,6 +86,28 @@ rests_alike e q (dropping taker final below f b it nested (drop_answered next in
     ap (λ os. is_resting os) next ∙ rests_in below b.inside nested
 rests_alike e q (dropping taker final below f b it nested (loses awaiter next inside ending)) = ap (λ os. is_resting os) next
 rests_alike e q (forgetting taker final below f b it nested stops) = ap (λ os. is_resting os) stops.left
+
+owes_going : (r : ℕ) (rest : Op) → IsLeaving r rest → (below : List Op) → owes (op.User (user_op.DropOwn r) ∷ rest ∷ below) ≡ true
+owes_going r rest unlisted below = refl
+owes_going r rest listed below = refl
+
+-- where a call may begin nothing is owed
+follows_here : (e : Done) (q : Plain Output Waker) → StandsAlike e q → owes e.next ≡ false → Follows e.world q
+follows_here e q (alike nested follows) even = follows
+follows_here e q (losing f below b nested stops) even = absurd (clash even (ap (λ os. owes os) stops.left))
+follows_here e q (going r below b nested stops) even =
+    absurd (clash even (ap (λ os. owes os) stops.left ∙ owes_going r stops.rest stops.leaving below))
+follows_here e q (dropping taker final below f b it nested (drop_answered next inside follows)) even = follows
+follows_here e q (dropping taker final below f b it nested (loses awaiter next inside ending)) even =
+    absurd (clash even (ap (λ os. owes os) next))
+follows_here e q (forgetting taker final below f b it nested stops) even = absurd (clash even (ap (λ os. owes os) stops.left))
+
+-- numbers in use are distinct
+apart_here : (s : Machine) → Reached s → (x : TickOrRun) → SleepsAlone s.world x
+apart_here s reached x n here y there =
+    let agrees : SleepersAgree s =
+    subst SleepersAgree (sym reached.is) (agree reached.limit reached.kind reached.parties reached.steps) in
+    agrees.apart y x n there here
 
 -- an end behind which a run would go on; behind an output the future is dropped first
 abbrev ends_for : UserEnd → List (Code Output Waker) → Bool
@@ -170,7 +209,8 @@ alike_rests e q (forgetting taker final below f b it nested stops) =
     (λ codes. Rests codes (op.User (user_op.Drop f) ∷ op.Table (table_op.LeaveTable f) ∷ op.Handle (handle_op.LetGo f) ∷ final ∷ below))
     (sym stops.inside) (behind_drop taker final below it (due_in below b.inside nested) f _ (op.Handle (handle_op.LetGo f)) refl b.inside))
 
-module _ (s : Machine) (reached : Reached s) (p : ℕ) (q : Plain Output Waker) (stands : StandsAlike (standing s p) q) (new : Machine) where
+module _ (s : Machine) (reached : Reached s) (p : ℕ) (q : Plain Output Waker) (stands : StandsAlike (standing s p) q) (new : Machine)
+    (unrefused : any is_refusal (heard_in new.world.trace) ≡ false) where
   abbrev Turns : ℕ → Type 0
   Turns n = new.world.urgent_turns ≡ turned n s.world.urgent_turns
 
@@ -194,14 +234,31 @@ module _ (s : Machine) (reached : Reached s) (p : ℕ) (q : Plain Output Waker) 
       (due_push (begun p w here c).next below (begins_none p w here c quiet) (due_resting below (rests_alike (standing s p) q stands)))
       ∙ begins_still p w here c)
 
+  -- a tick is polled
+  polls : (t : ℕ) (b : By) (ts : List Step) → p < length s.parties → rests_after p ts (after s (Begin p (call.PollTick t b))) ≡ true
+      → run_all (Begin p (call.PollTick t b) ∷ ts) s ≡ Ok new → owes (reverse (stack s p)) ≡ false → Turns (tick_turns t q)
+  polls t b ts there rests made even =
+      let begun_so = event.CallBegun p (call.PollTick t b) in
+      let polled_so = event.TickPolled p t in
+      let a = waker_of (mine (top (stack s p))) b in
+      let w = log (log s.world begun_so) polled_so in
+      let follows = follows_here (standing s p) q stands even in
+      let can = can_poll s reached p t b (may_begin s p (call.PollTick t b) (run-first (Begin p (call.PollTick t b)) ts s new made).0) in
+      begun_leads_of (λ w o. Unit {0}) (λ s. Unit {0}) walks p
+      (λ e. any is_refusal (heard_in e.world.trace) ≡ false → e.world.urgent_turns ≡ turned (tick_turns t q) s.world.urgent_turns) new tt
+      (call.PollTick t b) ts s reached there
+      (λ hints all over. polled p (reverse (stack s p)) (rests_alike (standing s p) q stands) t a (length (log s.world begun_so).trace) w q
+      (logs (log s.world begun_so) q (logs s.world q follows begun_so refl) polled_so refl)
+      (record { living = can.living; roomed = can.roomed }) (apart_here s reached (tick_or_run.Tick t)) hints over) rests made unrefused
+
   by_call : (c : Call) (ts : List Step) (x : plain.Call Output Waker) → IsCallIn (mine (top (stack s p))) s.world c x
       → p < length s.parties → rests_after p ts (after s (Begin p c)) ≡ true → run_all (Begin p c ∷ ts) s ≡ Ok new
-      → polls_tick x ≡ false → Turns (turns_of x)
+      → owes (reverse (stack s p)) ≡ false → Turns (turns_of q x)
   by_call c ts x within.try_tick there rests made none =
       began c ts there rests made 1
       (λ hints over. try_turned p hints (log s.world (event.CallBegun p call.TryTick)) (reverse (stack s p))
       (rests_alike (standing s p) q stands) over)
-  by_call c ts x (within.poll_tick t b) there rests made none = absurd cc
+  by_call c ts x (within.poll_tick t b) there rests made none = polls t b ts there rests made none
   by_call c ts x (within.spawn m) there rests made none = still c ts there rests made refl
   by_call c ts x within.is_empty there rests made none = still c ts there rests made refl
   by_call c ts x (within.use_waker k f is) there rests made none = still c ts there rests made refl
@@ -246,20 +303,23 @@ module _ (s : Machine) (reached : Reached s) (p : ℕ) (q : Plain Output Waker) 
       (run-first t ts s new made).0))
 
   one : (t : Step) (ts : List Step) (x : plain.Call Output Waker) → IsMade s p t x → rests_after p ts (after s t) ≡ true
-      → run_all (t ∷ ts) s ≡ Ok new → polls_tick x ≡ false → takes_for_run q x ≡ false → Turns (turns_of x)
-  one t ts x (within.begins c y is) rests made none alone = by_call c ts y is (there t ts refl made) rests made none
+      → run_all (t ∷ ts) s ≡ Ok new → is_on_way (reverse (stack s p)) t ≡ true → takes_for_run q x ≡ false → Turns (turns_of q x)
+  one t ts x (within.begins c y is) rests made on alone =
+      by_call c ts y is (there t ts refl made) rests made
+      (not_true (owes (reverse (stack s p))) (both_true (may_stand_in c) (not (owes (reverse (stack s p)))) on).1)
   one t ts x within.pends rests made none alone = ended (Polled Pending) ts (there t ts refl made) rests made alone
   one t ts x within.gives rests made none alone = ended (Polled Ready) ts (there t ts refl made) rests made refl
   one t ts x within.ends rests made none alone = ended Over ts (there t ts refl made) rests made alone
 
 pub act_turns : (s : Machine) → Reached s → (q : Plain Output Waker) (a : Act) (x : plain.Call Output Waker)
-    → StandsAlike (standing s a.party) q → IsAct s a → IsMade s a.party a.first x → polls_tick x ≡ false → takes_for_run q x ≡ false
-    → a.left.world.urgent_turns ≡ turned (turns_of x) s.world.urgent_turns
-act_turns s reached q a x stands is made none alone =
-    one s reached a.party q stands a.left a.first a.steps x made is.rests is.made none alone
+    → StandsAlike (standing s a.party) q → IsAct s a → is_on_way (reverse (stack s a.party)) a.first ≡ true → IsMade s a.party a.first x
+    → any is_refusal (heard_in a.left.world.trace) ≡ false → takes_for_run q x ≡ false
+    → a.left.world.urgent_turns ≡ turned (turns_of q x) s.world.urgent_turns
+act_turns s reached q a x stands is on made unrefused alone =
+    one s reached a.party q stands a.left unrefused a.first a.steps x made is.rests is.made on alone
 
 pub acts_take_turns : ActsTakeTurns
-acts_take_turns limit kind parties steps s made q a x stands is so none alone =
+acts_take_turns limit kind parties steps s made q a x stands is on so unrefused alone =
     act_turns s
     (reached-more steps (start limit kind parties) s
-    (record { limit = limit; kind = kind; parties = parties; steps = []; is = refl }) made) q a x stands is so none alone
+    (record { limit = limit; kind = kind; parties = parties; steps = []; is = refl }) made) q a x stands is on so unrefused alone

@@ -16,3 +16,4 @@ pub mod ActTurns
 pub mod SoloTurns
 pub mod InStep
 pub mod InStepToEnd
+pub mod TickTurns

@@ -1,35 +1,43 @@
--- How many turns of the executor's two queues a call takes, as the plain scheduler has it: neither a tick is polled nor does a run go on.
-use Rattle.std.specs.Prelude.{◌≡◌, ℕ, zero, suc, ◌+◌, ◌^◌, ◌%◌, Bool, true, false, ◌&&◌, not, List, [], ◌∷◌, Ok}
+-- How many turns of the executor's two queues a call takes, as the plain scheduler has it, where no run goes on.
+use Rattle.std.specs.Prelude.{◌≡◌, ℕ, zero, suc, ◌+◌, ◌^◌, ◌%◌, Bool, false, List, Ok, find, if◌then◌else◌, is_some, reverse}
 use Rattle.executor_parts.specs.Marks.{turn_after}
 use Rattle.executor_model.specs.declared.kind.Kind.{Kind}
 use Rattle.executor_model.specs.declared.op.Waker.{Waker}
 use Rattle.executor_model.specs.declared.step.Step.{Step}
 use Rattle.executor_model.specs.Executions.{run_all}
-use Rattle.executor_model.specs.Steps.{Machine, start}
+use Rattle.executor_model.specs.Steps.{Machine, stack, start}
 use Rattle.solo.specs.declared.names.SoloWaker.{SoloWaker}
 use Rattle.solo.specs.declared.owed.Lent.{Lent}
 use Rattle.solo.specs.declared.solo.Solo.{Solo}
-use Rattle.plain_scheduler.specs.State.{Choice, Event, Plain}
+use Rattle.executor_parts.specs.declared.mark.Mark.TheVariants.{Plain as PlainMark, Urgent}
+use Rattle.plain_scheduler.specs.State.{ATick, Choice, Event, Lying, Plain, Who}
+use Rattle.plain_scheduler.specs.Lists.{any, or}
+use Rattle.plain_scheduler.specs.Moves.{is_common, lies}
 use Rattle.plain_scheduler.specs.Calls.{Call, PollTick, TryTick}
+use Rattle.machine_roads.specs.Seeing.{heard_in}
 use Rattle.machine_roads.specs.View.{Output}
-use Rattle.machine_roads.specs.Within.{Act, IsAct, IsMade, StandsAlike, standing}
+use Rattle.machine_roads.specs.Within.{Act, IsAct, IsMade, StandsAlike, is_on_way, standing}
 use Rattle.solo_laws.specs.Courses.{Acts}
 use Rattle.solo_laws.specs.Owner.{Owner}
 use Rattle.two_roads.specs.Acting.{takes_for_run}
+use Rattle.two_roads.specs.Renaming.{is_refusal}
 
-abbrev pub polls_tick : {T A : Type 0} → Call T A → Bool
-polls_tick (PollTick t w) = true
-polls_tick _ = false
+-- it lies, and wasn't called
+abbrev pub lies_uncalled : {A : Type 0} → Who → List (Lying A) → Bool
+lies_uncalled who ls = or (find (lies who) ls) (λ l. is_some l.waker) false
 
--- no tick is polled
-abbrev pub poll_no_tick : {T A : Type 0} → List (Choice × Call T A) → Bool
-poll_no_tick [] = true
-poll_no_tick (c ∷ cs) = not (polls_tick c.1) && poll_no_tick cs
+-- a tick's poll that isn't refused takes one where a future without a keeper is due, or where it lies with a waker; else it lies down and
+-- searches again
+abbrev pub tick_turns : {T A : Type 0} → ℕ → Plain T A → ℕ
+tick_turns t p =
+    if any (is_common PlainMark) p.due then 1
+    else (if any (is_common Urgent) p.due then 1 else (if lies_uncalled (ATick t) p.lying then 1 else 2))
 
--- a try takes one, and no other such call takes any
-abbrev pub turns_of : {T A : Type 0} → Call T A → ℕ
-turns_of TryTick = 1
-turns_of _ = 0
+-- a try takes one, and no other call than these takes any
+abbrev pub turns_of : {T A : Type 0} → Plain T A → Call T A → ℕ
+turns_of p TryTick = 1
+turns_of p (PollTick t w) = tick_turns t p
+turns_of p _ = 0
 
 -- what the machine's turn is so many later, and that of the executor of one owner
 abbrev pub turned : ℕ → ℕ → ℕ
@@ -40,13 +48,14 @@ abbrev pub turned_in : ℕ → ℕ → ℕ
 turned_in zero n = n
 turned_in (suc k) n = turned_in k ((n + 1) % 2 ^ 64)
 
--- so many the machine takes in the act that is this call
+-- so many the machine takes in the act that is this call, if memory is refused to nobody
 abbrev pub ActsTakeTurns : Type 0
 ActsTakeTurns =
     (limit : ℕ) (kind : Kind) (parties : ℕ) (steps : List Step) (s : Machine) → run_all steps (start limit kind parties) ≡ Ok s
     → (q : Plain Output Waker) (a : Act) (call : Call Output Waker) → StandsAlike (standing s a.party) q → IsAct s a
-    → IsMade s a.party a.first call → polls_tick call ≡ false → takes_for_run q call ≡ false
-    → a.left.world.urgent_turns ≡ turned (turns_of call) s.world.urgent_turns
+    → is_on_way (reverse (stack s a.party)) a.first ≡ true → IsMade s a.party a.first call
+    → any is_refusal (heard_in a.left.world.trace) ≡ false → takes_for_run q call ≡ false
+    → a.left.world.urgent_turns ≡ turned (turns_of q call) s.world.urgent_turns
 
 -- and so many the executor of one owner
 abbrev pub CallsTakeTurns : Type 0 → Type 0 → Type 0 → Type 0

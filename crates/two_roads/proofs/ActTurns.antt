@@ -235,9 +235,9 @@ module _ (s : Machine) (reached : Reached s) (p : ℕ) (q : Plain Output Waker) 
       ∙ begins_still p w here c)
 
   -- a tick is polled
-  polls : (t : ℕ) (b : By) (ts : List Step) → p < length s.parties → rests_after p ts (after s (Begin p (call.PollTick t b))) ≡ true
+  tick_polled : (t : ℕ) (b : By) (ts : List Step) → p < length s.parties → rests_after p ts (after s (Begin p (call.PollTick t b))) ≡ true
       → run_all (Begin p (call.PollTick t b) ∷ ts) s ≡ Ok new → owes (reverse (stack s p)) ≡ false → Turns (tick_turns t q)
-  polls t b ts there rests made even =
+  tick_polled t b ts there rests made even =
       let begun_so = event.CallBegun p (call.PollTick t b) in
       let polled_so = event.TickPolled p t in
       let a = waker_of (mine (top (stack s p))) b in
@@ -258,7 +258,7 @@ module _ (s : Machine) (reached : Reached s) (p : ℕ) (q : Plain Output Waker) 
       began c ts there rests made 1
       (λ hints over. try_turned p hints (log s.world (event.CallBegun p call.TryTick)) (reverse (stack s p))
       (rests_alike (standing s p) q stands) over)
-  by_call c ts x (within.poll_tick t b) there rests made none = polls t b ts there rests made none
+  by_call c ts x (within.poll_tick t b) there rests made none = tick_polled t b ts there rests made none
   by_call c ts x (within.spawn m) there rests made none = still c ts there rests made refl
   by_call c ts x within.is_empty there rests made none = still c ts there rests made refl
   by_call c ts x (within.use_waker k f is) there rests made none = still c ts there rests made refl

@@ -26,9 +26,8 @@ use Rattle.solo_laws.specs.Owner.{Owner, new_owner}
 use Rattle.solo_laws.specs.Road.{wakes}
 use Rattle.two_roads.specs.Acting.{AreActed, AreOfSteps, EndActed, EndOfSteps, IsActed, IsOfStep, left_of, looks_first}
 use Rattle.two_roads.specs.Together.{as_heard}
-use Rattle.two_roads.specs.Turns.{poll_no_tick}
 use Rattle.two_roads.proofs.ActedToEnd.{unrefused_end_together}
-use Rattle.two_roads.proofs.InStep.{tickless_acted}
+use Rattle.two_roads.proofs.InStep.{steps_acted}
 
 task_looks : {T A : Type 0} (call : Call T A) → is_on_task call ≡ true → looks_first call ≡ false
 task_looks calls.TryTick on = absurd cc
@@ -86,7 +85,7 @@ module _ {F T X : Type 0} (its : ℕ → Lent) (number : X → ℕ) where
   last_acted a later y p cs others z (no_drop c rest m u shows shown is dropped drains on) of =
       (of.0, after_acted later a.left rest m u (does wakes c calls.DropExecutor p) shown on of.1)
 
-  pub tickless_end_together : (limit : ℕ) (kind : MachineKind) (solo_kind : Kind) (parties : ℕ) (acts : List Act) (a : Act)
+  pub steps_end_together : (limit : ℕ) (kind : MachineKind) (solo_kind : Kind) (parties : ℕ) (acts : List Act) (a : Act)
       (later : List Act) (cs ends : List (Choice × Call T (SoloWaker X))) (first middle last : Solo F T X)
       (shown others : List (Event T (SoloWaker X))) (before : Who → ℕ) (after : Owner) → AreActs (start limit kind parties) acts
       → IsQuiet (left_by (start limit kind parties) acts).world.trace → IsAct (left_by (start limit kind parties) acts) a
@@ -94,14 +93,14 @@ module _ {F T X : Type 0} (its : ℕ → Lent) (number : X → ℕ) where
       → counts solo_kind ≡ not (is_static_kind kind)
       → Leads its cs (new_owner before) first (new limit (is_static_kind kind)) shown after middle
       → LastCalls its middle (course wakes cs (new limit (is_static_kind kind))) ends others last
-      → (course wakes cs (new limit (is_static_kind kind))).inside ≡ [] → poll_no_tick cs ≡ true
+      → (course wakes cs (new limit (is_static_kind kind))).inside ≡ []
       → AreOfSteps number (start limit kind parties) acts (new limit (is_static_kind kind)) cs
       → EndOfSteps number a later (course wakes cs (new limit (is_static_kind kind))) ends
       → IsClosed its last (course wakes (cs ++ ends) (new limit (is_static_kind kind)))
       × (heard_in (left_of a.left later).world.trace ≡ as_heard number (shown ++ others))
-  tickless_end_together limit kind solo_kind parties acts a later cs ends first middle last shown others before after they quiet acts_so
-      begins they_too is_new counted led then_so nowhere none of end_of =
+  steps_end_together limit kind solo_kind parties acts a later cs ends first middle last shown others before after they quiet acts_so
+      begins they_too is_new counted led then_so nowhere of end_of =
       unrefused_end_together its number limit kind solo_kind parties acts a later cs ends first middle last shown others before after they
       quiet acts_so begins they_too is_new counted led then_so nowhere
-      (tickless_acted its number limit kind solo_kind parties acts cs first middle shown before after they is_new led none of)
+      (steps_acted its number limit kind solo_kind parties acts cs first middle shown before after they is_new counted led of)
       (last_acted a later middle (course wakes cs (new limit (is_static_kind kind))) ends others last then_so end_of)

@@ -17,3 +17,4 @@ pub mod SoloTurns
 pub mod InStep
 pub mod InStepToEnd
 pub mod TickTurns
+pub mod SoloTicks

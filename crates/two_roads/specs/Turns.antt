@@ -1,5 +1,5 @@
 -- How many turns of the executor's two queues a call takes, as the plain scheduler has it, where no run goes on.
-use Rattle.std.specs.Prelude.{◌≡◌, ℕ, zero, suc, ◌+◌, ◌^◌, ◌%◌, Bool, false, List, Ok, find, if◌then◌else◌, is_some, reverse}
+use Rattle.std.specs.Prelude.{◌≡◌, ℕ, zero, suc, ◌+◌, ◌^◌, ◌%◌, Bool, true, false, List, Ok, find, if◌then◌else◌, is_some, reverse, length, ◌≤◌}
 use Rattle.executor_parts.specs.Marks.{turn_after}
 use Rattle.executor_model.specs.declared.kind.Kind.{Kind}
 use Rattle.executor_model.specs.declared.op.Waker.{Waker}
@@ -10,7 +10,7 @@ use Rattle.solo.specs.declared.names.SoloWaker.{SoloWaker}
 use Rattle.solo.specs.declared.owed.Lent.{Lent}
 use Rattle.solo.specs.declared.solo.Solo.{Solo}
 use Rattle.executor_parts.specs.declared.mark.Mark.TheVariants.{Plain as PlainMark, Urgent}
-use Rattle.plain_scheduler.specs.State.{ATick, Choice, Event, Lying, Plain, Who}
+use Rattle.plain_scheduler.specs.State.{ATick, Choice, Event, Granted, Lying, Plain, Who}
 use Rattle.plain_scheduler.specs.Lists.{any, or}
 use Rattle.plain_scheduler.specs.Moves.{is_common, lies}
 use Rattle.plain_scheduler.specs.Calls.{Call, PollTick, TryTick}
@@ -18,6 +18,7 @@ use Rattle.machine_roads.specs.Seeing.{heard_in}
 use Rattle.machine_roads.specs.View.{Output}
 use Rattle.machine_roads.specs.Within.{Act, IsAct, IsMade, StandsAlike, is_on_way, standing}
 use Rattle.solo_laws.specs.Courses.{Acts}
+use Rattle.solo_laws.specs.Led.{IsLed}
 use Rattle.solo_laws.specs.Owner.{Owner}
 use Rattle.two_roads.specs.Acting.{takes_for_run}
 use Rattle.two_roads.specs.Renaming.{is_refusal}
@@ -57,10 +58,10 @@ ActsTakeTurns =
     → any is_refusal (heard_in a.left.world.trace) ≡ false → takes_for_run q call ≡ false
     → a.left.world.urgent_turns ≡ turned (turns_of q call) s.world.urgent_turns
 
--- and so many the executor of one owner
+-- and so many the executor of one owner, to which memory isn't refused
 abbrev pub CallsTakeTurns : Type 0 → Type 0 → Type 0 → Type 0
 CallsTakeTurns F T X =
     (its : ℕ → Lent) (owner : Owner) (c : Choice) (s : Solo F T X) (p : Plain T (SoloWaker X)) (now : Owner) (z : Solo F T X)
-    (call : Call T (SoloWaker X))
-    (shown : List (Event T (SoloWaker X))) → Acts its owner c s p call shown now z → polls_tick call ≡ false
-    → takes_for_run p call ≡ false → z.lines.turn ≡ turned_in (turns_of call) s.lines.turn
+    (call : Call T (SoloWaker X)) (shown : List (Event T (SoloWaker X))) → IsLed its owner s p → length p.lying ≤ c.tells
+    → Acts its owner c s p call shown now z → c.refusal ≡ Granted → takes_for_run p call ≡ false
+    → z.lines.turn ≡ turned_in (turns_of p call) s.lines.turn

@@ -1,0 +1,191 @@
+-- How many turns a tick's poll takes in the executor of one owner: one where it finds a future or lies with a waker, else two.
+use Rattle.std.proofs.Common.{◌≡◌, ◌≤◌, ◌+◌, ◌^◌, ◌%◌, ℕ, suc, List, Bool, true, false, not, Option, Some, None, length, [], ◌∷◌}
+use Rattle.std.proofs.Common.{refl, sym, ap, ◌∙◌, subst, arith, if◌then◌else◌}
+use Rattle.std.specs.Prelude.{find, is_some}
+use Rattle.executor_parts.specs.Marks.{other}
+use Rattle.executor_parts.specs.declared.mark.Mark.{Mark}
+use Rattle.executor_parts.specs.declared.mark.Mark.TheVariants.{Plain as PlainMark, Urgent}
+use Rattle.solo.specs.declared.names.Task.{Task}
+use Rattle.solo.specs.declared.names.SoloWaker.{SoloWaker}
+use Rattle.solo.specs.declared.names.SoloWaker.TheVariants.{Task as OfTask, Outside}
+use Rattle.solo.specs.declared.owed.Lent.{Lent}
+use Rattle.solo.specs.declared.solo.Solo.{Solo}
+use Rattle.solo.specs.declared.ticks.Ticked.{Ticked}
+use Rattle.solo.specs.declared.ticks.Ticker.{Ticker}
+use Rattle.solo.specs.declared.ticks.Ticker.TheVariants.{Awake, Asleep}
+use Rattle.solo.specs.Cells.{choose}
+use Rattle.solo.specs.Lines as lines
+use Rattle.solo.specs.Lines.{mark_of_turn}
+use Rattle.solo.specs.Solo as solo
+use Rattle.solo.specs.Ticks as ticks
+use Rattle.plain_scheduler.specs.State.{ATick, Choice, Due, Lying, Plain, Who}
+use Rattle.plain_scheduler.specs.Lists.{any, or}
+use Rattle.plain_scheduler.specs.Moves.{chosen as chosen_of, copied, is_common, lies}
+use Rattle.machine_roads.proofs.Due.{find_never, find_same}
+use Rattle.machine_roads.proofs.Lists.{clash}
+use Rattle.machine_roads.proofs.TickPolls.{both_marks}
+use Rattle.solo_laws.specs.Alike.{copies}
+use Rattle.solo_laws.specs.Numbered.{IsNumbered, ticker_of}
+use Rattle.solo_laws.specs.Owner.{HasRoom}
+use Rattle.solo_laws.specs.Road.{HasLife, IsNamed, tests, wakes}
+use Rattle.solo_laws.specs.Tabled.{Stands, named}
+use Rattle.solo_laws.specs.Ticking.{looks_again, rested, slept_answer, slept_once}
+use Rattle.solo_laws.proofs.Lines.{searched_empty}
+use Rattle.solo_laws.proofs.Prompt.{chosen}
+use Rattle.solo_laws.proofs.Turning.{At, asleep_at, found_at, searched_turn}
+use Rattle.solo_laws.proofs.Following.Bases as bases
+use Rattle.solo_laws.proofs.Following.Frames.{still}
+use Rattle.solo_laws.proofs.Following.Resting as resting
+use Rattle.solo_laws.proofs.Following.Resting.{Standing, copied_lying, slept_under}
+use Rattle.solo_laws.proofs.Following.Tabling.{tabled}
+use Rattle.solo_laws.proofs.Following.Trying as trying
+use Rattle.two_roads.specs.Turns.{lies_uncalled, tick_turns, turned_in}
+
+-- where nothing without a keeper is due a search finds none, and else it does
+none_due : (m : Mark) (due : List Due) → any (is_common PlainMark) due ≡ false → any (is_common Urgent) due ≡ false
+    → find (chosen_of (tests m) due) due ≡ None
+none_due m due none nor =
+    find_same (chosen_of (tests m) due) (λ d. false) due
+    (λ d. ap (λ b. if b then is_common m d else (if any (is_common (other m)) due then is_common (other m) d else false)) (of m)
+    ∙ ap (λ b. if b then is_common (other m) d else false) (of (other m)))
+    ∙ find_never due
+  where
+    of : (m : Mark) → any (is_common m) due ≡ false
+    of PlainMark = none
+    of Urgent = nor
+
+any_finds : (test : Due → Bool) (due : List Due) → find test due ≡ None → any test due ≡ false
+any_finds test [] is = refl
+any_finds test (d ∷ ds) is = by (test d) is (any_finds test ds)
+  where
+    by : (b : Bool) → (if b then Some d else find test ds) ≡ None → (find test ds ≡ None → any test ds ≡ false)
+        → (if b then true else any test ds) ≡ false
+    by true is rest = absurd cc
+    by false is rest = rest is
+
+none_found_due : (m x : Mark) (due : List Due) → find (chosen_of (tests m) due) due ≡ None → any (is_common x) due ≡ false
+none_found_due m x due is = by (any (is_common m) due) refl (any (is_common (other m)) due) refl
+  where
+    by : (b : Bool) → any (is_common m) due ≡ b → (e : Bool) → any (is_common (other m)) due ≡ e → any (is_common x) due ≡ false
+    by true one e two =
+        absurd
+        (clash
+        (any_finds (is_common m) due
+        (sym (find_same (chosen_of (tests m) due) (is_common m) due
+        (λ d. ap (λ b. if b then is_common m d else (if any (is_common (other m)) due then is_common (other m) d else false)) one)) ∙ is))
+        one)
+    by false one true two =
+        absurd
+        (clash
+        (any_finds (is_common (other m)) due
+        (sym (find_same (chosen_of (tests m) due) (is_common (other m)) due
+        (λ d. ap (λ b. if b then is_common m d else (if any (is_common (other m)) due then is_common (other m) d else false)) one
+        ∙ ap (λ b. if b then is_common (other m) d else false) two)) ∙ is))
+        two)
+    by false one false two = both_marks m x due one two
+
+module _ {F T X : Type 0} where
+  copied_at : (n : ℕ) (w : SoloWaker X) (s : Solo F T X) → At n s → At n (copies w s)
+  copied_at n (OfTask task) s at = at
+  copied_at n (Outside x) s at = at
+
+  slept_at : (n : ℕ) (ticker : Ticker) (w : SoloWaker X) (s : Solo F T X) → At n (solo.popped s) → At n (slept_once ticker w s)
+  slept_at n ticker w s at =
+      let y = copies w (solo.popped s) in
+      chosen (At n) (lines.is_empty y.lines) (ticks.fallen_asleep ticker w y) y (asleep_at n ticker w y (copied_at n w (solo.popped s) at))
+      (copied_at n w (solo.popped s) at)
+
+module _ {F T X : Type 0} (its : ℕ → Lent) (number : Who → ℕ) (s : Solo F T X) (p : Plain T (SoloWaker X)) (both : Stands its s p)
+    (n : IsNumbered number s.sleepers p.lying) (c : Choice) (t : ℕ) (w : SoloWaker X) (turn : c.first ≡ mark_of_turn s.lines.turn) where
+  abbrev its_ticker : Ticker
+  its_ticker = ticker_of number (ATick t) p.lying
+
+  -- it finds one
+  pub taken_turns : (task : Task) → solo.sought s ≡ Some task
+      → (ticks.found its_ticker task (solo.popped s)).lines.turn ≡ turned_in (tick_turns t p) s.lines.turn
+  taken_turns task some =
+      found_at ((s.lines.turn + 1) % 2 ^ 64) its_ticker task (solo.popped s) (searched_turn s.lines)
+      ∙ ap (λ k. turned_in k s.lines.turn) (sym (one (any (is_common PlainMark) p.due) refl (any (is_common Urgent) p.due) refl))
+    where
+      one : (b : Bool) → any (is_common PlainMark) p.due ≡ b → (e : Bool) → any (is_common Urgent) p.due ≡ e → tick_turns t p ≡ 1
+      one true none e nor =
+          ap (λ b. if b then 1 else (if any (is_common Urgent) p.due then 1 else (if lies_uncalled (ATick t) p.lying then 1 else 2))) none
+      one false none true nor =
+          ap (λ b. if b then 1 else (if any (is_common Urgent) p.due then 1 else (if lies_uncalled (ATick t) p.lying then 1 else 2))) none
+          ∙ ap (λ b. if b then 1 else (if lies_uncalled (ATick t) p.lying then 1 else 2)) nor
+      one false none false nor =
+          let no : ◌≡◌ {A = Option Task} (Some task) None =
+          sym some ∙ (trying.nothing (named its) c s p turn both.0 (none_due c.first p.due none nor)).0 in absurd cc
+
+  -- it lies, or lies down and searches again
+  pub rested_turns : solo.sought s ≡ None → HasRoom (ATick t) s p
+      → ((u : Task) → w ≡ OfTask u → IsNamed (named its) (length p.futures) u × (solo.may_hold u s ≡ true))
+      → suc (length p.lying) ≤ c.tells → HasLife 2 s.lines
+      → (rested its_ticker w s).lines.turn ≡ turned_in (tick_turns t p) s.lines.turn
+  rested_turns none room names many life = found (find (trying.test (named its) c s p turn both.0) p.due) refl
+    where
+      now : ℕ
+      now = s.lines.turn
+
+      fewer : length p.lying ≤ c.tells
+      fewer = omega (arith, many)
+
+      so : find (trying.test (named its) c s p turn both.0) p.due ≡ None → Standing its c (ATick t) w number (solo.popped s) p
+      so is = record {
+        follows = (trying.nothing (named its) c s p turn both.0 is).1;
+        tabled = tabled its c s (solo.popped s) p p (bases.same s) (still c p) both.1;
+        numbered = n;
+        none = searched_empty s.lines none;
+      }
+
+      lives : HasLife 2 (solo.popped s).lines
+      lives = trying.lives (named its) c s p turn both.0 2 life
+
+      -- it searches again where it isn't with a waker
+      again : find (trying.test (named its) c s p turn both.0) p.due ≡ None → (o : Option (Lying (SoloWaker X)))
+          → find (lies (ATick t)) p.lying ≡ o
+          → looks_again (slept_answer (or o (λ l. slept_under (number (ATick t))) (Awake ticks.its_room)) w s).look
+          ≡ not (or o (λ l. is_some l.waker) false)
+      again is None lain =
+          ap (λ (out : Ticked F X). looks_again out.look)
+          (resting.anew_answer its c (ATick t) w number (solo.popped s) p (so is) names fewer lives
+          (ap (find (lies (ATick t))) (copied_lying w p) ∙ lain) (room lain))
+      again is (Some l) lain = waker l.waker refl
+        where
+          waker : (a : Option (SoloWaker X)) → l.waker ≡ a
+              → looks_again (slept_answer (slept_under (number (ATick t))) w s).look ≡ not (is_some l.waker)
+          waker None has =
+              ap (λ (out : Ticked F X). looks_again out.look)
+              (resting.later_answer its c (ATick t) w number (solo.popped s) p (so is) names fewer lives l
+              (ap (find (lies (ATick t))) (copied_lying w p) ∙ lain) has)
+              ∙ ap (λ (a : Option (SoloWaker X)). not (is_some a)) (sym has)
+          waker (Some old) has =
+              ap (λ (out : Ticked F X). looks_again out.look)
+              (resting.answer_is its c (ATick t) w number (solo.popped s) p (so is) names fewer lives l
+              (ap (find (lies (ATick t))) (copied_lying w p) ∙ lain) old has)
+              ∙ ap (λ (a : Option (SoloWaker X)). not (is_some a)) (sym has)
+
+      counted : (b u : Bool) → b ≡ not u → (ticker : Ticker)
+          → (choose b (slept_once ticker w (slept_once its_ticker w s)) (slept_once its_ticker w s)).lines.turn
+          ≡ turned_in (if u then 1 else 2) s.lines.turn
+      counted false true so ticker = slept_at ((s.lines.turn + 1) % 2 ^ 64) its_ticker w s (searched_turn s.lines)
+      counted true false so ticker =
+          let z = slept_once its_ticker w s in
+          let one = slept_at ((s.lines.turn + 1) % 2 ^ 64) its_ticker w s (searched_turn s.lines) in
+          slept_at ((z.lines.turn + 1) % 2 ^ 64) ticker w z (searched_turn z.lines) ∙ ap (λ n. (n + 1) % 2 ^ 64) one
+      counted true true so ticker = absurd cc
+      counted false false so ticker = absurd cc
+
+      found : (o : Option Due) → find (trying.test (named its) c s p turn both.0) p.due ≡ o
+          → (rested its_ticker w s).lines.turn ≡ turned_in (tick_turns t p) s.lines.turn
+      found (Some d) is =
+          let some = trying.something (named its) c s p turn both.0 d is in
+          let no : ◌≡◌ {A = Option Task} None (Some (named its d.future)) = sym none ∙ some.0 in absurd cc
+      found None is =
+          let out = slept_answer its_ticker w s in
+          counted (looks_again out.look) (lies_uncalled (ATick t) p.lying) (again is (find (lies (ATick t)) p.lying) refl) out.ticker
+          ∙ ap (λ k. turned_in k s.lines.turn)
+          (sym
+          (ap (λ b. if b then 1 else (if any (is_common Urgent) p.due then 1 else (if lies_uncalled (ATick t) p.lying then 1 else 2)))
+          (none_found_due c.first PlainMark p.due is)
+          ∙ ap (λ b. if b then 1 else (if lies_uncalled (ATick t) p.lying then 1 else 2)) (none_found_due c.first Urgent p.due is)))

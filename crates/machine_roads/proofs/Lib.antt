@@ -90,6 +90,10 @@ pub mod Open
 pub mod OneCall
 pub mod CourseBehind
 pub mod InDrop
+pub mod Along
+pub mod Handless
+pub mod HandlessActs
+pub mod InLoss
 pub mod OpenCalls
 pub mod DropActs
 pub mod FewTaken

@@ -1,4 +1,5 @@
 -- A call that begins where a party stands in code of calls one inside another, or does nothing: where it rests first, both stand alike.
+use Rattle.std.proofs.Common.{◌==◌, ◌||◌}
 use Rattle.std.proofs.Common.{◌≡◌, ℕ, suc, ◌<◌, ◌≤◌, ◌&&◌, not, Bool, true, false, List, [], ◌∷◌, ◌++◌, length, Option, Some, None}
 use Rattle.std.proofs.Common.{is_some as is_there, slice_get, if◌then◌else◌, refl, sym, ap, subst, ◌∙◌, arith}
 use Rattle.std.specs.Prelude.{reverse}
@@ -8,15 +9,20 @@ use Rattle.executor_model.specs.declared.call.Call.{Call}
 use Rattle.executor_model.specs.declared.call.Call.TheVariants as call
 use Rattle.executor_model.specs.declared.call.Reply.TheVariants as reply
 use Rattle.executor_model.specs.declared.op.Hold.TheVariants as hold
+use Rattle.executor_model.specs.declared.op.ListOp.TheVariants as list_op
 use Rattle.executor_model.specs.declared.op.Op.{Op}
 use Rattle.executor_model.specs.declared.op.Op.TheVariants as op
+use Rattle.executor_model.specs.declared.op.RunOp.TheVariants as run_op
+use Rattle.executor_model.specs.declared.op.Section.TheVariants as section
 use Rattle.executor_model.specs.declared.op.UserOp.TheVariants as user_op
 use Rattle.executor_model.specs.declared.op.Waker.{Waker}
 use Rattle.executor_model.specs.declared.step.Step.TheVariants.{Begin}
 use Rattle.executor_model.specs.Rows.{lending_of, running_of}
 use Rattle.executor_model.specs.Steps.{Machine, begin_refusal, future_of, has_all, is_some, is_unused, kept, mine, stack, top, waker_of}
 use Rattle.executor_model.specs.Steps.{is_known, is_there as is_in_use}
-use Rattle.executor_model.specs.World.{Done, done, run_of, task}
+use Rattle.executor_model.specs.World.{Done, Ended as RunEnded, done, run_of, task}
+use Rattle.executor_model.specs.SleepersAgree.{sleeps}
+use Rattle.executor_model.specs.Weights.{weigh_all}
 use Rattle.executor_model.proofs.Steps.Reached.{Reached}
 use Rattle.plain_scheduler.specs.State.{AtOnce, Choice, Finished, Granted, Plain, PollOwn, Refusal, Taker, Tick, Try}
 use Rattle.plain_scheduler.specs.Moves as plain
@@ -32,23 +38,28 @@ use Rattle.machine_roads.specs.Course.{IsChosen}
 use Rattle.machine_roads.specs.Losing.{StopsLosing, left_of}
 use Rattle.machine_roads.specs.Stopped.{Stops}
 use Rattle.machine_roads.specs.Within.{ActsBy, GoesOnBy, IsCallIn, Nested, alike, by_tick, by_try, begins as begins_by, losing, may_stand_in, takes}
+use Rattle.machine_roads.specs.Within.{IsLeaving, going, listed, unlisted, drop_run}
 use Rattle.machine_roads.specs.Within.{cancel, copy, detach, drop_handle, drop_tick, is_empty, keep, leak, new_run, new_tick, poll_handle}
 use Rattle.machine_roads.specs.Within.{poll_run, poll_tick, polls_own, release, spawn, try_tick, use_waker, wake, wake_self}
 use Rattle.machine_roads.proofs.Calling.{cancels, copies_kept, detaches, empty_alike, handle_goes, keeps_own, spawns, uses_alike}
 use Rattle.machine_roads.proofs.Calling.{waker_goes, wakes_itself, wakes_kept}
 use Rattle.machine_roads.proofs.Cancelling.{cancel_output}
+use Rattle.machine_roads.proofs.Counting.{leaves as leaves_list, over_in, some_op}
 use Rattle.machine_roads.proofs.Counting.{Alike, Comes as Comes_to, Counted, StandsSo, at_end, comes, in_code, like, makes_counted}
 use Rattle.machine_roads.proofs.Exchanging.{loudly}
 use Rattle.machine_roads.proofs.Inmost.{rests_in, wakes_none}
 use Rattle.machine_roads.proofs.Inside.{cancel_inside, copy_inside, detach_inside, drop_inside, handle_inside, poll_inside}
 use Rattle.machine_roads.proofs.Inside.{release_inside, run_inside, spawn_inside, tick_inside, use_inside, wake_inside}
 use Rattle.machine_roads.proofs.Leaking.{leak_inside, leaks}
+use Rattle.machine_roads.proofs.Lists.{same_of}
 use Rattle.machine_roads.proofs.LoneRuns.{both_true, not_true}
 use Rattle.machine_roads.proofs.LoneTicks.{can_poll, owned_by, there_all}
 use Rattle.machine_roads.proofs.Losing.{detaches_to_lose, goes_to_lose}
 use Rattle.machine_roads.proofs.LyingDown.{polls_tick_so}
+use Rattle.machine_roads.proofs.OwnGoes.{Drops, drops_run, in_drop, at_once as goes_at_once}
 use Rattle.machine_roads.proofs.OwnPolls.{Polls, at_once, in_own, its_poll, polls_run}
 use Rattle.machine_roads.proofs.PollCalls.{polls}
+use Rattle.machine_roads.proofs.RunHere.{awake_here}
 use Rattle.machine_roads.proofs.RunsBeside.{cancel_runs, copy_runs, detach_runs, drop_runs, handle_runs, leak_runs, poll_runs, poll_tick_runs}
 use Rattle.machine_roads.proofs.RunsBeside.{release_runs, spawn_runs, tick_runs, try_runs, use_runs, wake_runs}
 use Rattle.machine_roads.proofs.RunsMade.{makes_run}
@@ -186,6 +197,21 @@ module _ (s : Machine) (reached : Reached s) (p : ℕ) (q : Plain Output Waker) 
     counted =
         above (op.User (user_op.DropOutput f) ∷ (left_of f ++ below)) e stops.left (record { last = λ r. refl; left = λ r. refl }) z runs;
   }
+
+  -- in the drop of the own future of a run that goes
+  in_going : (r : ℕ) (rest : Op) → IsLeaving r rest → (e : Done) → e.next ≡ op.User (user_op.DropOwn r) ∷ rest ∷ below
+      → (z : Plain Output Waker) → z.runs ≡ q.runs → over_in r q.runs ≡ false → Counted e.next z.runs
+  in_going r rest unlisted e at z runs unover =
+      above (op.User (user_op.DropOwn r) ∷ op.Run (run_op.Reschedule r reply.Done) ∷ below) e at
+      (record { last = λ r. refl; left = λ r. refl }) z runs
+  in_going r rest listed e at z runs unover =
+      subst (λ os. Counted os z.runs) (sym at)
+      (subst (Counted (op.User (user_op.DropOwn r) ∷ op.List (list_op.LockWrite (section.Unregister r reply.Done)) ∷ below)) (sym runs)
+      (record { taken = counted.taken; going = λ k is. by k (k == r) refl is }))
+    where
+      by : (k : ℕ) (b : Bool) → (k == r) ≡ b → ((k == r) || some_op (leaves_list k) below) ≡ true → over_in k q.runs ≡ false
+      by k true here is = ap (λ n. over_in n q.runs) (same_of k r here) ∙ unover
+      by k false apart is = counted.going k (ap (λ b. b || some_op (leaves_list k) below) (sym apart) ∙ is)
 
   -- a handle that goes
   detached : (f : ℕ) (o : Option Output) → (plain.task f q).output ≡ o → Leads (call.Detach f)
@@ -335,6 +361,28 @@ module _ (s : Machine) (reached : Reached s) (p : ℕ) (q : Plain Output Waker) 
                   above (op.User (user_op.PollOwn (its_poll p here below under s.world q follows (choice Granted) r b)) ∷ below) e next
                   (record { last = λ r. refl; left = λ r. refl }) z (polled_runs r (waker_of here b));
             },
+          )
+  one_begins (call.DropRun r) on may = λ hints all rests.
+      let two =
+      both_true (is_in_use (run_of s.world r)) (is_unused (running_of r) s.parties) (there (call.DropRun r) may) in
+      let e = alone p hints (upon below (begins p here (call.DropRun r) s.world)) in
+      by r (not_true (run_of s.world r).dropped two.0)
+      (awake_here s reached r (same_of (weigh_all (running_of r) s.parties) 0 two.1)) e
+      (drops_run p here below under s.world q follows (choice Granted) many r (not_true (run_of s.world r).dropped two.0)
+      (awake_here s reached r (same_of (weigh_all (running_of r) s.parties) 0 two.1)) hints all rests)
+    where
+      by : (r : ℕ) (unended : (run_of s.world r).dropped ≡ false)
+          (awake : (run_of s.world r).stage ≡ RunEnded → sleeps (run_of s.world r).place ≡ 0) (e : Done)
+          → Drops p here below under s.world q follows (choice Granted) many r unended awake e → Comes (call.DropRun r) e
+      by r unended awake e (goes_at_once next inside runs leaves) =
+          let z : Plain Output Waker = does wakes (choice Granted) (plain_calls.DropRun r) q in
+          quick (call.DropRun r) (plain_calls.DropRun r) Granted (drop_run r) inside (stays z runs) e next leaves
+      by r unended awake e (in_drop unover runs stops) =
+          let x : plain_calls.Call Output Waker = plain_calls.DropRun r in
+          let z : Plain Output Waker = does wakes (choice Granted) x q in (
+            z,
+            acts (call.DropRun r) x Granted (drop_run r),
+            record { alike = going r below q nested stops; counted = in_going r stops.rest stops.leaving e stops.left z runs unover },
           )
   one_begins call.Leak on may =
       plainly call.Leak plain_calls.Leak leak (leak_inside (choice Granted) q) (leak_runs (choice Granted) q)

@@ -10,6 +10,7 @@ use Rattle.executor_model.specs.declared.op.HandleOp.TheVariants as handle_op
 use Rattle.executor_model.specs.declared.op.ListOp.TheVariants as list_op
 use Rattle.executor_model.specs.declared.op.Op.{Op}
 use Rattle.executor_model.specs.declared.op.Op.TheVariants as op
+use Rattle.executor_model.specs.declared.op.RunOp.TheVariants as run_op
 use Rattle.executor_model.specs.declared.op.RunPoll.{RunPoll}
 use Rattle.executor_model.specs.declared.op.Section.TheVariants as section
 use Rattle.executor_model.specs.declared.op.TableOp.TheVariants as table_op
@@ -24,12 +25,13 @@ use Rattle.executor_model.specs.Acts.{is_last_waker}
 use Rattle.executor_model.specs.ActsOfRuns.{asleep}
 use Rattle.executor_model.specs.Rows.{running_of}
 use Rattle.executor_model.specs.Steps.{Machine, accepts, answer_refusal, react, refusal, stack}
-use Rattle.executor_model.specs.World.{Done, World, done, task}
+use Rattle.executor_model.specs.World.{Done, World, done, run_of, task}
 use Rattle.executor_model.specs.Weights.{weigh}
 use Rattle.executor_model.proofs.OwnQueues.Using.{emptying_of, polling_of}
 use Rattle.executor_model.proofs.Steps.Reached.{Reached}
 use Rattle.executor_model.proofs.Steps.Stepping.{refusal-there}
 use Rattle.executor_laws.proofs.Termination.LoneEnds.{OthersRest}
+use Rattle.plain_scheduler.specs.State.{Done as DoneAnswer}
 use Rattle.plain_scheduler.specs.State.{Choice, Closed, Code, Drop, DropOwn, End, Future, Granted, Lose, Plain, Poll, PollOwn, Ready, Run, Taker}
 use Rattle.plain_scheduler.specs.Lists.{on, or}
 use Rattle.plain_scheduler.specs.Moves.{is_kept}
@@ -45,6 +47,7 @@ use Rattle.machine_roads.specs.Forgotten.{IsForgotten, IsLastPoll, unawaited, wi
 use Rattle.machine_roads.specs.Losing.{IsLosing, left_of, without_handle}
 use Rattle.machine_roads.specs.Searching.{goes_on_by}
 use Rattle.machine_roads.specs.Stopped.{IsInPoll, given, pended}
+use Rattle.machine_roads.specs.Within.{IsLeaving, listed, unlisted}
 use Rattle.machine_roads.specs.Within.{ActsBy, IsMade, Nested, alike, ends, gives, pends}
 use Rattle.machine_roads.specs.Within.{GoesOnBy, by_run, by_tick, by_try, drops_own}
 use Rattle.machine_roads.proofs.ActBegins.{choice_in, enough, more_by_one}
@@ -60,6 +63,7 @@ use Rattle.machine_roads.proofs.Inside.{ends_inside}
 use Rattle.machine_roads.proofs.Losing.{loses_alike}
 use Rattle.machine_roads.proofs.Lists.{clash, same_of}
 use Rattle.machine_roads.proofs.LoneRuns.{passed}
+use Rattle.machine_roads.proofs.OwnGoes.{own_went}
 use Rattle.machine_roads.proofs.OwnPolls.{own_goes}
 use Rattle.machine_roads.proofs.Passing.{telling}
 use Rattle.machine_roads.proofs.Pending.{gives_so, pends_by}
@@ -67,6 +71,7 @@ use Rattle.machine_roads.proofs.Puts.{put_at, put_by}
 use Rattle.machine_roads.proofs.RunApart.{drop_ends, gives_ends, gone_spares, gone_taken, loss_ends, pends_ends, take_ends}
 use Rattle.machine_roads.proofs.RunEnding.{dropped_by, lost_by}
 use Rattle.machine_roads.proofs.RunHere.{Above, final_none, going_here, left_here, none_empty, off_left, used_once}
+use Rattle.machine_roads.proofs.Runs.{changed, ended_run, runs_is}
 use Rattle.machine_roads.proofs.RunsOn.{goes_from}
 use Rattle.machine_roads.proofs.Standing.{IsGoing, IsTaken, StaysSo}
 use Rattle.machine_roads.proofs.Tying.{LeadsSo, top_of}
@@ -420,37 +425,60 @@ module _ (s : Machine) (reached : Reached s) (p : ℕ) (there : p < length s.par
         }
     from_own_poll x is at follows u ok = absurd cc
 
+    -- a run has gone: what others have taken stays
+    gone_count : (r : ℕ) → weigh (running_of r) below ≡ 0 → ((k : ℕ) → Taken (some_op (lasts k) below) (taken_in k q.runs))
+        → ((k : ℕ) → (k == r) ≡ false → some_op (leaves k) below ≡ true → over_in k q.runs ≡ false)
+        → Counted below (plain_calls.gone wakes c1 r r0).runs
+    gone_count r unused taken going = record {
+      taken = λ k. subst (Taken (some_op (lasts k) below)) (sym (gone_taken c1 k r r0)) (taken k);
+      going = λ k is_left. goes k (k == r) refl is_left;
+    }
+      where
+        goes : (k : ℕ) (b : Bool) → (k == r) ≡ b → some_op (leaves k) below ≡ true
+            → over_in k (plain_calls.gone wakes c1 r r0).runs ≡ false
+        goes k true here is_left =
+            absurd (clash (ap (λ k. some_op (leaves k) below) (same_of k r here) ∙ none_left r below unused) is_left)
+        goes k false apart is_left =
+            ap (λ o. or o (λ run. run.is_over) true) (gone_spares c1 k r r0 apart) ∙ going k apart is_left
+
     -- and its drop
     pub from_own_drop : (r : ℕ)
         → reverse (stack s p) ≡ op.User (user_op.DropOwn r) ∷ op.List (list_op.LockWrite (section.Unregister r reply.Ready)) ∷ below
         → q.inside ≡ DropOwn r Ready ∷ inside → Follows s.world q → (u : UserEnd) → accepts (op.User (user_op.DropOwn r)) u ≡ true
         → Leads u (op.User (user_op.DropOwn r)) (op.List (list_op.LockWrite (section.Unregister r reply.Ready)) ∷ below)
     from_own_drop r is at follows end.Done ok = λ hints all rests.
+        let xs = op.User (user_op.DropOwn r) ∷ op.List (list_op.LockWrite (section.Unregister r reply.Ready)) ∷ below in
         let e = alone p hints (done s.world (op.List (list_op.LockWrite (section.Unregister r reply.Ready)) ∷ below)) in
+        let counted0 : Counted xs q.runs = subst (λ os. Counted os q.runs) is counted in
         let so =
         own_goes p below under s.world r0 (follows0 (DropOwn r Ready) at refl s.world follows) c1 many r hints all rests in
-        back end.Done Ends ends (DropOwn r Ready) at e so.0 so.2 gone_count so.1
-      where
-        xs : List Op
-        xs = op.User (user_op.DropOwn r) ∷ op.List (list_op.LockWrite (section.Unregister r reply.Ready)) ∷ below
-
-        counted0 : Counted xs q.runs
-        counted0 = subst (λ os. Counted os q.runs) is counted
-
-        unused : weigh (running_of r) below ≡ 0
-        unused = omega (arith, used_once s reached p there xs is r, same_self r)
-
-        gone_count : Counted below (plain_calls.gone wakes c1 r r0).runs
-        gone_count = record {
-          taken = λ k. subst (Taken (some_op (lasts k) below)) (sym (gone_taken c1 k r r0)) (counted0.taken k);
-          going = λ k is_left. goes k (k == r) refl is_left;
-        }
-          where
-            goes : (k : ℕ) (b : Bool) → (k == r) ≡ b → some_op (leaves k) below ≡ true
-                → over_in k (plain_calls.gone wakes c1 r r0).runs ≡ false
-            goes k true here is_left =
-                absurd (clash (ap (λ k. some_op (leaves k) below) (same_of k r here) ∙ none_left r below unused) is_left)
-            goes k false apart is_left =
-                ap (λ o. or o (λ run. run.is_over) true) (gone_spares c1 k r r0 apart)
-                ∙ counted0.going k (ap (λ b. b || some_op (leaves k) below) apart ∙ is_left)
+        back end.Done Ends ends (DropOwn r Ready) at e so.0 so.2
+        (gone_count r (omega (arith, used_once s reached p there xs is r, same_self r)) counted0.taken
+        (λ k apart is_left. counted0.going k (ap (λ b. b || some_op (leaves k) below) apart ∙ is_left))) so.1
     from_own_drop r is at follows u ok = absurd cc
+
+    -- so is that of a run that goes
+    pub from_going : (r : ℕ) (rest : Op) → IsLeaving r rest → reverse (stack s p) ≡ op.User (user_op.DropOwn r) ∷ rest ∷ below
+        → q.inside ≡ DropOwn r DoneAnswer ∷ inside → (run_of s.world r).dropped ≡ true → Follows s.world (plain.runs ended_run r q)
+        → (u : UserEnd) → accepts (op.User (user_op.DropOwn r)) u ≡ true → Leads u (op.User (user_op.DropOwn r)) (rest ∷ below)
+    from_going r rest leaving is at dropped follows end.Done ok = λ hints all rests.
+        let e = alone p hints (done s.world (rest ∷ below)) in
+        let so =
+        own_went p below under s.world r0 r rest leaving dropped
+        (stands_in inside s.world (record q { runs = changed ended_run r q.runs }) (subst (Follows s.world) (runs_is ended_run r q) follows)
+        (sym (ap (λ codes. waking_in codes) at))) c1 many hints all rests in
+        back end.Done Ends ends (DropOwn r DoneAnswer) at e so.0 so.2 (by rest leaving is) so.1
+      where
+        by : (rest : Op) → IsLeaving r rest → reverse (stack s p) ≡ op.User (user_op.DropOwn r) ∷ rest ∷ below
+            → Counted below (plain_calls.gone wakes c1 r r0).runs
+        by rest unlisted is =
+            let xs = op.User (user_op.DropOwn r) ∷ op.Run (run_op.Reschedule r reply.Done) ∷ below in
+            let counted0 : Counted xs q.runs = subst (λ os. Counted os q.runs) is counted in
+            gone_count r (omega (arith, used_once s reached p there xs is r, same_self r)) counted0.taken
+            (λ k apart is_left. counted0.going k is_left)
+        by rest listed is =
+            let xs = op.User (user_op.DropOwn r) ∷ op.List (list_op.LockWrite (section.Unregister r reply.Done)) ∷ below in
+            let counted0 : Counted xs q.runs = subst (λ os. Counted os q.runs) is counted in
+            gone_count r (omega (arith, used_once s reached p there xs is r, same_self r)) counted0.taken
+            (λ k apart is_left. counted0.going k (ap (λ b. b || some_op (leaves k) below) apart ∙ is_left))
+    from_going r rest leaving is at dropped follows u ok = absurd cc

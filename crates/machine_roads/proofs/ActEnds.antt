@@ -23,8 +23,9 @@ use Rattle.machine_roads.specs.View.{Output}
 use Rattle.machine_roads.specs.Road.{Follows}
 use Rattle.machine_roads.specs.Dropped.{answered, loses, rest_of}
 use Rattle.machine_roads.specs.Losing.{left_of}
+use Rattle.machine_roads.specs.Within.{going}
 use Rattle.machine_roads.specs.Within.{StandsAlike, alike, dropping, forgetting, losing, standing}
-use Rattle.machine_roads.proofs.ActCodes.{EndsSo, accepted, from_drop, from_forgotten, from_losing, from_loss, from_own_drop, from_own_poll, from_poll}
+use Rattle.machine_roads.proofs.ActCodes.{EndsSo, from_going, accepted, from_drop, from_forgotten, from_losing, from_loss, from_own_drop, from_own_poll, from_poll}
 use Rattle.machine_roads.proofs.Counting.{Counted}
 use Rattle.machine_roads.proofs.Inmost.{Inmost, IsDropOf, drop, inmost, none, of_given, of_polled, of_queued, own_drop, own_poll, poll}
 use Rattle.machine_roads.proofs.RunHere.{Above}
@@ -127,6 +128,15 @@ module _ (s : Machine) (reached : Reached s) (p : ℕ) (there : p < length s.par
             from_losing s reached p there open_still others q counted below b.inside nested f stops.left stops.inside stops.losing u
             (accepted s reached p there open_still others q counted u (op.User (user_op.DropOutput f)) xs may stops.left);
       }
+  code_ends (going r below b nested stops) u may = record {
+    first = op.User (user_op.DropOwn r);
+    rest = stops.rest ∷ below;
+    is = stops.left;
+    leads =
+        from_going s reached p there open_still others q counted below b.inside nested r stops.rest stops.leaving stops.left stops.inside
+        stops.dropped stops.follows u
+        (accepted s reached p there open_still others q counted u (op.User (user_op.DropOwn r)) (stops.rest ∷ below) may stops.left);
+  }
   code_ends (dropping taker final below f b it nested (answered next inside follows)) u may =
       from_alike below b.inside (inmost below b.inside nested) next inside follows u may
   code_ends (dropping taker final below f b it nested (loses awaiter next inside ending)) u may =

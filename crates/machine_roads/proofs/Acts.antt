@@ -6,6 +6,8 @@ use Rattle.executor_model.specs.declared.call.Call.{Call}
 use Rattle.executor_model.specs.declared.call.Call.TheVariants as call
 use Rattle.executor_model.specs.declared.event.Event.TheVariants as event
 use Rattle.executor_model.specs.declared.op.Op.{Op}
+use Rattle.executor_model.specs.declared.op.Op.TheVariants as op
+use Rattle.executor_model.specs.declared.op.UserOp.TheVariants as user_op
 use Rattle.executor_model.specs.declared.op.Waker.{Waker}
 use Rattle.executor_model.specs.declared.step.Hint.{Hint}
 use Rattle.executor_model.specs.declared.step.Step.{Step}
@@ -28,6 +30,7 @@ use Rattle.machine_roads.specs.View.{Output}
 use Rattle.machine_roads.specs.Road.{Follows}
 use Rattle.machine_roads.specs.Alone.{is_outside, is_resting}
 use Rattle.machine_roads.specs.Dropped.{answered, loses}
+use Rattle.machine_roads.specs.Within.{IsLeaving, going, listed, unlisted}
 use Rattle.machine_roads.specs.Within.{Act, ActAlike, ActsBy, AreActs, ListsActAlike, Nested, StandsAlike, alike, calls_outside}
 use Rattle.machine_roads.specs.Within.{dropping, forgetting, goes_on, is_on_way, losing, may_stand_in, nowhere, owes, rests_after, standing}
 use Rattle.machine_roads.proofs.ActBegins.{one_begins}
@@ -98,6 +101,7 @@ goes_rest (t ∷ ts) s new p rests made others =
 rests_alike : (e : Done) (q : Plain Output Waker) → StandsAlike e q → is_resting e.next ≡ true
 rests_alike e q (alike nested follows) = rests_in e.next q.inside nested
 rests_alike e q (losing f below b nested stops) = ap (λ os. is_resting os) stops.left
+rests_alike e q (going r below b nested stops) = ap (λ os. is_resting os) stops.left
 rests_alike e q (dropping taker final below f b it nested (answered next inside follows)) =
     ap (λ os. is_resting os) next ∙ rests_in below b.inside nested
 rests_alike e q (dropping taker final below f b it nested (loses awaiter next inside ending)) = ap (λ os. is_resting os) next
@@ -114,6 +118,10 @@ no_go_resting s p there h (o ∷ os) is resting may =
     clash
     (not_true (waits o) (passed (not (waits o)) WrongAnswer (unless (not (is_locked_out s.world.lock o)) Waits None) goes))
     (both_true (waits o) (not (is_outside o)) resting).0
+
+owes_going : (r : ℕ) (rest : Op) → IsLeaving r rest → (below : List Op) → owes (op.User (user_op.DropOwn r) ∷ rest ∷ below) ≡ true
+owes_going r rest unlisted below = refl
+owes_going r rest listed below = refl
 
 module _ (s : Machine) (reached : Reached s) (p : ℕ) (q : Plain Output Waker) (stands : StandsSo (standing s p) q) (new : Machine)
     (later : new.world.gone ≡ false) (open_still : s.world.gone ≡ false) (others : OthersRest p s) (there : p < length s.parties) where
@@ -132,6 +140,8 @@ module _ (s : Machine) (reached : Reached s) (p : ℕ) (q : Plain Output Waker) 
       by : StandsAlike (standing s p) q → Comes (Begin p c)
       by (alike nested follows) = begins nested follows
       by (losing f below b nested stops) = absurd (clash even (ap (λ os. owes os) stops.left))
+      by (going r below b nested stops) =
+          absurd (clash even (ap (λ os. owes os) stops.left ∙ owes_going r stops.rest stops.leaving below))
       by (dropping taker final below f b it nested (answered next inside follows)) =
           begins (subst (λ os. Nested os q.inside) (sym next) (subst (λ codes. Nested below codes) (sym inside) nested)) follows
       by (dropping taker final below f b it nested (loses awaiter next inside ending)) = absurd (clash even (ap (λ os. owes os) next))

@@ -13,7 +13,8 @@ use Rattle.machine_roads.specs.View.{Output}
 use Rattle.executor_model.specs.declared.op.Waker.{Waker}
 use Rattle.machine_roads.specs.Road.{Follows}
 use Rattle.machine_roads.specs.Dropped.{answered, loses}
-use Rattle.machine_roads.specs.Within.{Act, ActAlike, AreActs, Nested, StandsAlike, alike, dropping, forgetting, losing, nowhere, standing}
+use Rattle.machine_roads.specs.Within.{Act, ActAlike, AreActs, Nested, StandsAlike, alike, dropping, forgetting, going, losing, nowhere}
+use Rattle.machine_roads.specs.Within.{standing}
 use Rattle.machine_roads.specs.DropActs.{ListsActToTheEnd, left_by, plain_behind}
 use Rattle.machine_roads.proofs.Acts.{acts_alike}
 use Rattle.machine_roads.proofs.Calling.{begin_alike}
@@ -40,6 +41,7 @@ pub record AtRest (s : Machine) (q : Plain Output Waker) : Type 0 where
 rests_alike : (e : Done) (q : Plain Output Waker) → StandsAlike e q → e.next ≡ [] → Follows e.world q × (q.inside ≡ [])
 rests_alike e q (alike nested follows) is = (follows, nested_nowhere e.next q.inside nested is)
 rests_alike e q (losing f below b nested stops) is = absurd (filled (sym stops.left ∙ is))
+rests_alike e q (going r below b nested stops) is = absurd (filled (sym stops.left ∙ is))
 rests_alike e q (dropping taker final below f b it nested (answered next inside follows)) is =
     (follows, inside ∙ nested_nowhere below b.inside nested (sym next ∙ is))
 rests_alike e q (dropping taker final below f b it nested (loses awaiter next inside ending)) is = absurd (filled (sym next ∙ is))

@@ -112,4 +112,5 @@ pub mod Counting
 pub mod RunHere
 pub mod ActLands
 pub mod ActCodes
+pub mod OwnGoes
 pub mod ActsToEnd

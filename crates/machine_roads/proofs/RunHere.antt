@@ -3,11 +3,23 @@ use Rattle.std.proofs.Common.{◌≡◌, ℕ, ◌<◌, ◌≤◌, ◌==◌, ◌|
 use Rattle.std.proofs.Common.{get_or, get_or-set_same, get_or-set_other, set, refl, sym, ap, subst, ◌∙◌, arith}
 use Rattle.std.specs.Prelude.{reverse}
 use Rattle.std.proofs.lemmas.Bool.Decides.{nat_tests}
+use Rattle.executor_model.specs.declared.op.Hold.{Hold}
+use Rattle.executor_model.specs.declared.op.Hold.TheVariants as hold
+use Rattle.executor_model.specs.declared.op.ListOp.TheVariants as list_op
 use Rattle.executor_model.specs.declared.op.Op.{Op}
+use Rattle.executor_model.specs.declared.op.Op.TheVariants as op
+use Rattle.executor_model.specs.declared.op.RunOp.TheVariants as run_op
+use Rattle.executor_model.specs.declared.op.Section.TheVariants as section
+use Rattle.executor_model.specs.declared.op.StealOp.TheVariants as steal_op
+use Rattle.executor_model.specs.declared.op.TickOp.TheVariants as tick_op
+use Rattle.executor_model.specs.declared.op.TickOrRun.{TickOrRun}
+use Rattle.executor_model.specs.declared.op.TickOrRun.TheVariants as tick_or_run
+use Rattle.executor_model.specs.declared.op.UserOp.TheVariants as user_op
 use Rattle.executor_model.specs.declared.op.Waker.{Waker}
 use Rattle.executor_model.specs.Rows.{running_of}
 use Rattle.executor_model.specs.Steps.{Machine, stack}
-use Rattle.executor_model.specs.Weights.{same, weigh, weigh_all}
+use Rattle.executor_model.specs.Weights.{holds_run, is_run, same, weigh, weigh_all}
+use Rattle.executor_model.specs.SleepersAgree.{sleeps}
 use Rattle.executor_model.specs.World.{Ended, Listed, New, Stage, World, no_run, own_of, run_of}
 use Rattle.executor_model.proofs.OwnQueues.Using.{emptying_of, polling_of}
 use Rattle.executor_model.proofs.OwnQueues.UsingWorlds.{is_over_stage, is_past}
@@ -15,6 +27,10 @@ use Rattle.executor_model.proofs.Quiet.Resting.{all-rest}
 use Rattle.executor_model.proofs.Steps.Lists.{same_is}
 use Rattle.executor_model.proofs.Steps.Reached.{Reached}
 use Rattle.executor_laws.proofs.Termination.LoneEnds.{OthersRest}
+use Rattle.executor_laws.proofs.Wakeups.Sitting.{holds_it, is_it}
+use Rattle.executor_laws.proofs.Wakeups.Stands.{used_of}
+use Rattle.executor_laws.proofs.Wakeups.StandsMachine.{standing}
+use Rattle.executor_laws.proofs.Wakeups.StandsSteps.{Standing}
 use Rattle.executor_laws.proofs.Walks.Enrolled.{Enrolled}
 use Rattle.executor_laws.proofs.Walks.Finding.{enrolled-here}
 use Rattle.plain_scheduler.specs.State.{Code, Plain, Taker}
@@ -121,3 +137,55 @@ module _ (s : Machine) (reached : Reached s) (p : ℕ) (there : p < length s.par
               quiet k off,
               all-rest (emptying_of k) (set s.parties p []) (λ n. rest_of n (n == p) refl),
             )
+
+-- who uses a run in one count does in the other
+who_runs : (r : ℕ) (t : TickOrRun) → is_it (tick_or_run.Run r) t ≤ is_run r t
+who_runs r (tick_or_run.Tick u) = omega arith
+who_runs r (tick_or_run.Run q) = omega arith
+
+hold_runs : (r : ℕ) (held : Hold) → holds_it (tick_or_run.Run r) held ≤ holds_run r held
+hold_runs r (hold.Run q) = omega arith
+hold_runs r (hold.Tick t) = omega arith
+hold_runs r _ = omega arith
+
+used_runs : (r : ℕ) (o : Op) → used_of (tick_or_run.Run r) o ≤ running_of r o
+used_runs r (op.User (user_op.PollOwn x)) = omega arith
+used_runs r (op.Tick (tick_op.Search s)) = omega (arith, who_runs r s.who)
+used_runs r (op.Tick (tick_op.Look s l)) = omega (arith, who_runs r s.who)
+used_runs r (op.Tick (tick_op.CopyWaker s)) = omega (arith, who_runs r s.who)
+used_runs r (op.Tick (tick_op.FallAsleep s)) = omega (arith, who_runs r s.who)
+used_runs r (op.List (list_op.LockWrite section.MakeRun)) = omega arith
+used_runs r (op.List (list_op.LockWrite (section.Register x))) = omega arith
+used_runs r (op.List (list_op.LockWrite (section.Unregister q a))) = omega arith
+used_runs r (op.List (list_op.Write section.MakeRun)) = omega arith
+used_runs r (op.List (list_op.Write (section.Register x))) = omega arith
+used_runs r (op.List (list_op.Write (section.Unregister q a))) = omega arith
+used_runs r (op.List (list_op.LockRead x)) = omega arith
+used_runs r (op.Steal (steal_op.Length s)) = omega arith
+used_runs r (op.Steal (steal_op.OwnLength s n)) = omega arith
+used_runs r (op.Steal (steal_op.Take s more)) = omega arith
+used_runs r (op.Steal (steal_op.Put s more f)) = omega arith
+used_runs r (op.Run (run_op.TakeTurn x)) = omega arith
+used_runs r (op.Run (run_op.SearchCommon x l)) = omega arith
+used_runs r (op.Run (run_op.LookOwn x at left)) = omega arith
+used_runs r (op.Run (run_op.WakeOwn x)) = omega arith
+used_runs r (op.Run (run_op.Reschedule q a)) = omega arith
+used_runs r (op.End a held) = hold_runs r held
+used_runs r _ = omega arith
+
+all_below : (v u : Op → ℕ) → ((o : Op) → v o ≤ u o) → (os : List Op) → weigh v os ≤ weigh u os
+all_below v u few [] = omega arith
+all_below v u few (o ∷ os) = omega (arith, few o, all_below v u few os)
+
+each_below : (v u : Op → ℕ) → ((o : Op) → v o ≤ u o) → (ss : List (List Op)) → weigh_all v ss ≤ weigh_all u ss
+each_below v u few [] = omega arith
+each_below v u few (os ∷ ss) = omega (arith, all_below v u few os, each_below v u few ss)
+
+-- a run that has ended and isn't used doesn't sleep
+pub awake_here : (s : Machine) → Reached s → (r : ℕ) → weigh_all (running_of r) s.parties ≡ 0 → (run_of s.world r).stage ≡ Ended
+    → sleeps (run_of s.world r).place ≡ 0
+awake_here s reached r unused is =
+    let all : Standing s = subst Standing (sym reached.is) (standing reached.limit reached.kind reached.parties reached.steps) in
+    let few = each_below (used_of (tick_or_run.Run r)) (running_of r) (used_runs r) s.parties in
+    ⊎_elim (λ both. both.0) (λ used. absurd (omega (arith, used, few, unused)))
+    ((all.stands (tick_or_run.Run r)).rests (ap is_over_stage is))

@@ -14,6 +14,7 @@ use Rattle.executor_model.specs.declared.op.Hold.TheVariants as hold
 use Rattle.executor_model.specs.declared.op.ListOp.TheVariants as list_op
 use Rattle.executor_model.specs.declared.op.Op.{Op}
 use Rattle.executor_model.specs.declared.op.Op.TheVariants as op
+use Rattle.executor_model.specs.declared.op.RunOp.TheVariants as run_op
 use Rattle.executor_model.specs.declared.op.RunPoll.{RunPoll}
 use Rattle.executor_model.specs.declared.op.Section.TheVariants as section
 use Rattle.executor_model.specs.declared.op.TableOp.TheVariants as table_op
@@ -21,11 +22,12 @@ use Rattle.executor_model.specs.declared.op.UserOp.TheVariants as user_op
 use Rattle.executor_model.specs.declared.op.Waker.{Waker}
 use Rattle.executor_model.specs.declared.step.Step.{Step}
 use Rattle.executor_model.specs.declared.step.Step.TheVariants.{Answer, Begin, Go}
-use Rattle.executor_model.specs.declared.step.UserEnd.TheVariants.{Done as IsDone, Polled}
+use Rattle.executor_model.specs.declared.step.UserEnd.TheVariants.{Done as Over, Polled}
 use Rattle.executor_model.specs.Executions.{run_all}
 use Rattle.executor_model.specs.Steps.{Machine, after, future_of, is_static_kind, kept, mine, party_of, stack, start, top, waker_of}
-use Rattle.executor_model.specs.World.{Done, World, done}
-use Rattle.plain_scheduler.specs.State.{Choice, Code, DropOwn, Plain, PollOwn, Ready as IsReady, Run, Taker, Tick, Try}
+use Rattle.executor_model.specs.World.{Done, World, done, run_of}
+use Rattle.plain_scheduler.specs.State.{Choice, Code, Done as IsDone, DropOwn, Plain, PollOwn, Ready as IsReady, Run, Taker, Tick, Try}
+use Rattle.plain_scheduler.specs.Moves as moves
 use Rattle.plain_scheduler.specs.Calls as plain
 use Rattle.plain_scheduler.specs.Calls.{does, new}
 use Rattle.machine_roads.specs.View.{Output, wakes}
@@ -71,15 +73,17 @@ pub record IsAct (s : Machine) (a : Act) : Type 0 where
 abbrev pub standing : Machine → ℕ → Done
 standing s p = done s.world (reverse (stack s p))
 
--- in the drop of an output, and in that of a future that nobody could wake any more, the call still owes something
+-- in the drop of an output, in that of a future that nobody could wake any more, and in that of the own future of a run that goes, the
+-- call still owes something
 abbrev pub owes : List Op → Bool
+owes (op.User (user_op.DropOwn r) ∷ op.Run o ∷ os) = true
+owes (op.User (user_op.DropOwn r) ∷ op.List (list_op.LockWrite (section.Unregister k reply.Done)) ∷ os) = true
 owes (op.User (user_op.DropOutput f) ∷ os) = true
 owes (op.User (user_op.Drop f) ∷ op.Table (table_op.LeaveTable g) ∷ op.Handle (handle_op.LetGo h) ∷ os) = true
 owes _ = false
 
--- but drops of runs, and the executor's drop
+-- all calls but the executor's drop
 abbrev pub may_stand_in : Call → Bool
-may_stand_in (call.DropRun r) = false
 may_stand_in call.DropExecutor = false
 may_stand_in _ = true
 
@@ -113,6 +117,7 @@ pub data IsCallIn (here : Option Waker) (w : World) : Call → plain.Call Output
   drop_tick : (t : ℕ) → IsCallIn here w (call.DropTick t) (plain.DropTick t)
   new_run : IsCallIn here w call.NewRun plain.NewRun
   poll_run : (r : ℕ) (b : By) → IsCallIn here w (call.PollRun r b) (plain.PollRun r (waker_of here b))
+  drop_run : (r : ℕ) → IsCallIn here w (call.DropRun r) (plain.DropRun r)
   leak : IsCallIn here w call.Leak plain.Leak
 
 -- what an act is that begins so: a call, or the end of the innermost code
@@ -120,7 +125,7 @@ pub data IsMade (s : Machine) (p : ℕ) : Step → plain.Call Output Waker → T
   begins : (c : Call) (x : plain.Call Output Waker) → IsCallIn (mine (top (stack s p))) s.world c x → IsMade s p (Begin p c) x
   pends : IsMade s p (Answer p (Polled Pending)) plain.Pends
   gives : IsMade s p (Answer p (Polled Ready)) (plain.EndsWith tt)
-  ends : IsMade s p (Answer p IsDone) plain.Ends
+  ends : IsMade s p (Answer p Over) plain.Ends
 
 -- a call that begins is made by what is chosen so, and where code ends who lay down last is told
 abbrev pub IsChosenAt : Step → World → Plain Output Waker → Choice → Type 0
@@ -155,10 +160,25 @@ pub data Nested : List Op → List (Code Output Waker) → Type 0 where
       → Nested (op.User (user_op.DropOwn r) ∷ op.List (list_op.LockWrite (section.Unregister r reply.Ready)) ∷ below)
       (DropOwn r IsReady ∷ inside)
 
+-- what is left of a run that goes: its own queue leaves the list, if it stands there, and what is in it is appended
+pub data IsLeaving (r : ℕ) : Op → Type 0 where
+  unlisted : IsLeaving r (op.Run (run_op.Reschedule r reply.Done))
+  listed : IsLeaving r (op.List (list_op.LockWrite (section.Unregister r reply.Done)))
+
+-- its own future is being dropped, and both stand alike but that the plain scheduler's run isn't over yet
+pub record StopsGoing (r : ℕ) (below : List Op) (b : Plain Output Waker) (e : Done) (q : Plain Output Waker) : Type 0 where
+  pub rest : Op
+  pub leaving : IsLeaving r rest
+  pub left : e.next ≡ op.User (user_op.DropOwn r) ∷ rest ∷ below
+  pub inside : q.inside ≡ DropOwn r IsDone ∷ b.inside
+  pub dropped : (run_of e.world r).dropped ≡ true
+  pub follows : Follows e.world (moves.runs (λ run. record run { is_over = true }) r q)
+
 -- both stand alike, or, in such a drop, alike but for what the call still owes
 pub data StandsAlike (e : Done) (q : Plain Output Waker) : Type 0 where
   alike : Nested e.next q.inside → Follows e.world q → StandsAlike e q
   losing : (f : ℕ) (below : List Op) (b : Plain Output Waker) → Nested below b.inside → StopsLosing f below b e q → StandsAlike e q
+  going : (r : ℕ) (below : List Op) (b : Plain Output Waker) → Nested below b.inside → StopsGoing r below b e q → StandsAlike e q
   dropping : (taker : Taker Waker) (final : Op) (below : List Op) (f : ℕ) (b : Plain Output Waker)
       → GoesOnBy taker final → Nested below b.inside → Drops taker final below f b e q → StandsAlike e q
   forgetting : (taker : Taker Waker) (final : Op) (below : List Op) (f : ℕ) (b : Plain Output Waker)

@@ -193,7 +193,14 @@ module _ (s : Machine) (reached : Reached s) (p : ℕ) (q : Plain Output Waker) 
   -- in the drop of an output
   lossy : (f : ℕ) (e : Done) (z : Plain Output Waker) → z.runs ≡ q.runs → StopsLosing f below q e z → StandsSo e z
   lossy f e z runs stops = record {
-    alike = losing f below q nested stops;
+    alike = losing f [] below q.inside nested (record {
+      left = stops.left;
+      inside = stops.inside;
+      losing = record {
+        shut = (record { known = stops.losing.known; closed = stops.losing.closed }, refl, tt);
+        follows = stops.losing.follows;
+      };
+    });
     counted =
         above (op.User (user_op.DropOutput f) ∷ (left_of f ++ below)) e stops.left (record { last = λ r. refl; left = λ r. refl }) z runs;
   }

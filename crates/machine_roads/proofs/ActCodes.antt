@@ -44,7 +44,6 @@ use Rattle.machine_roads.specs.Road.{Follows, futures_in, waking_in}
 use Rattle.machine_roads.specs.Alone.{alone, is_resting}
 use Rattle.machine_roads.specs.Dropped.{Drops, IsEnding, rest_of, without_run}
 use Rattle.machine_roads.specs.Forgotten.{IsForgotten, IsLastPoll, unawaited, without_awaiter}
-use Rattle.machine_roads.specs.Losing.{IsLosing, left_of, without_handle}
 use Rattle.machine_roads.specs.Searching.{goes_on_by}
 use Rattle.machine_roads.specs.Stopped.{IsInPoll, given, pended}
 use Rattle.machine_roads.specs.Within.{IsLeaving, listed, unlisted}
@@ -59,8 +58,6 @@ use Rattle.machine_roads.proofs.Counting.{taken_in}
 use Rattle.machine_roads.proofs.Forgetting.{forgets_by, forgotten_by}
 use Rattle.machine_roads.proofs.Having.{same_self}
 use Rattle.machine_roads.proofs.Inmost.{IsDropOf, is_going, is_taken, rests_in}
-use Rattle.machine_roads.proofs.Inside.{ends_inside}
-use Rattle.machine_roads.proofs.Losing.{loses_alike}
 use Rattle.machine_roads.proofs.Lists.{clash, same_of}
 use Rattle.machine_roads.proofs.LoneRuns.{passed}
 use Rattle.machine_roads.proofs.OwnGoes.{own_went}
@@ -335,23 +332,6 @@ module _ (s : Machine) (reached : Reached s) (p : ℕ) (there : p < length s.par
           (facts_forgotten f it_is) (λ d. drop_ends d taker r0 f Closed)
           (forgotten_by taker final p f below s.world r0 c1 forgotten0 many hints all rests))
       from_forgotten f at it_is u ok = absurd cc
-
-    -- the drop of an output whose handle goes
-    pub from_losing : (f : ℕ) → reverse (stack s p) ≡ op.User (user_op.DropOutput f) ∷ (left_of f ++ below) → q.inside ≡ Lose None None ∷ inside
-        → IsLosing s.world f q → (u : UserEnd) → accepts (op.User (user_op.DropOutput f)) u ≡ true
-        → Leads u (op.User (user_op.DropOutput f)) (left_of f ++ below)
-    from_losing f is at lost end.Done ok = λ hints all rests.
-        let lost0 : IsLosing s.world f r0 =
-        record {
-          known = lost.known;
-          closed = lost.closed;
-          follows = follows0 (Lose None None) at refl (without_handle f s.world) lost.follows;
-        } in
-        let e = alone p hints (done s.world (left_of f ++ below)) in
-        let so = loses_alike p f below s.world r0 c1 under lost0 hints tt all rests in
-        back end.Done Ends ends (Lose None None) at e so.0 (ends_inside c1 (r1 (Lose None None)) inside refl)
-        (count_at (op.User (user_op.DropOutput f) ∷ (left_of f ++ below)) below is (record { last = λ r. refl; left = λ r. refl })) so.1
-    from_losing f is at lost u ok = absurd cc
 
     -- the poll of a run's own future: with an output, or without
     pub from_own_poll : (x : RunPoll) → reverse (stack s p) ≡ op.User (user_op.PollOwn x) ∷ below → q.inside ≡ PollOwn x.run x.waker ∷ inside

@@ -1,5 +1,5 @@
 -- Acts from the executor's drop on leave both alike at each moment at which a party rests.
-use Rattle.std.proofs.Common.{◌≡◌, ℕ, suc, ◌≤◌, ◌<◌, ◌==◌, ◌++◌, ◌&&◌, nat_lt, Bool, true, false, List, [], ◌∷◌, length}
+use Rattle.std.proofs.Common.{◌≡◌, ℕ, suc, ◌≤◌, ◌<◌, ◌==◌, ◌++◌, nat_lt, Bool, true, false, List, [], ◌∷◌, length}
 use Rattle.std.proofs.Common.{Option, Some, None, Ok, refl, sym, ap, subst, ◌∙◌, get_or-set_same, get_or-set_other}
 use Rattle.std.specs.Prelude.{reverse}
 use Rattle.task_moves.specs.declared.moves.state.State.{State}
@@ -17,9 +17,8 @@ use Rattle.executor_model.specs.declared.step.UserEnd.{UserEnd}
 use Rattle.executor_model.specs.declared.step.UserEnd.TheVariants.{Done as IsDone, Polled}
 use Rattle.executor_model.specs.Executions.{run_all}
 use Rattle.executor_model.specs.Quiet.{IsQuiet}
-use Rattle.executor_model.specs.Rows.{lending_of}
-use Rattle.executor_model.specs.Steps.{Machine, accepts, after, answer_refusal, future_of, has_all, is_on_executor, is_some, is_unused}
-use Rattle.executor_model.specs.Steps.{kept, mine, part_refusal, party_of, refusal, stack, top, waker_of}
+use Rattle.executor_model.specs.Steps.{Machine, accepts, after, answer_refusal, is_on_executor}
+use Rattle.executor_model.specs.Steps.{mine, part_refusal, party_of, refusal, stack, top}
 use Rattle.executor_model.specs.World.{Done, World, blank, done, log, put}
 use Rattle.executor_model.specs.World as world
 use Rattle.executor_model.proofs.Quiet.Resting.{rests}
@@ -34,12 +33,9 @@ use Rattle.machine_roads.specs.Road.{Follows, waking_in}
 use Rattle.machine_roads.specs.Alone.{alone, is_resting, HasAll, HasIn}
 use Rattle.machine_roads.specs.Alike.{begins, upon}
 use Rattle.machine_roads.specs.Closing.{ComesOn, IsInDrop, IsLosingInDrop, loses}
-use Rattle.machine_roads.specs.Course.{IsCall}
-use Rattle.machine_roads.specs.Course as course
 use Rattle.machine_roads.specs.Losing.{StopsLosing, left_of, without_handle}
 use Rattle.machine_roads.specs.Lone.{EachLoneAlike, NoneWaits}
 use Rattle.machine_roads.specs.Within.{Act, ActsBy, IsCallIn, begins as begins_by, ends as ends_by, owes, rests_after, standing}
-use Rattle.machine_roads.specs.Within as within_it
 use Rattle.machine_roads.specs.DropActs.{AreDropActs, DropActAlike, DropActsAlike, StandsDropping, behind, drops, left_to_close}
 use Rattle.machine_roads.specs.DropActs.{loses_behind, loses_inside, may_act}
 use Rattle.machine_roads.proofs.ActBegins.{choice_in, chosen_in, enough}
@@ -54,50 +50,13 @@ use Rattle.machine_roads.proofs.Lists.{apart_of, clash, length_set, same_of}
 use Rattle.machine_roads.proofs.LoneCalls.{each}
 use Rattle.machine_roads.proofs.LoneCloses.{Closing, IsAny, drop_leads_so, walks}
 use Rattle.machine_roads.proofs.LoneLosing.{loss_leads}
-use Rattle.machine_roads.proofs.LoneRuns.{both_true, not_true, passed, within}
+use Rattle.machine_roads.proofs.LoneRuns.{not_true, passed, within}
 use Rattle.machine_roads.proofs.LoneTicks.{may_begin, there_all}
-use Rattle.machine_roads.proofs.OneCall.{some_kept}
+use Rattle.machine_roads.proofs.Named.{Named, named}
 use Rattle.machine_roads.proofs.OpenCalls.{HasOpen, of_calls, open_all}
 use Rattle.machine_roads.proofs.Tying.{LeadsSoOf, none_of as none_left, top_of}
 use Rattle.machine_roads.proofs.Waits.{HasOfTasks, NoTaskWaits, are_append, begins_calmly, put_stays, waits_in}
 use Rattle.machine_roads.proofs.Walked.{answer_leads_of, begun_leads_of, no_answer}
-
--- which call of the plain scheduler it is, where no poll is around it
-record Named (w : World) (c : Call) : Type 0 where
-  made : plain.Call Output Waker
-  is : IsCall w c made
-  within_none : IsCallIn None w c made
-
-module _ (w : World) (ss : List (List Op)) (o : Option Op) (none : mine o ≡ None) where
-  kept_one : (k : ℕ) → (is_some (kept w k) && is_unused (lending_of k) ss) ≡ true → (f : ℕ) × (kept w k ≡ Some f)
-  kept_one k is = some_kept (kept w k) (both_true (is_some (kept w k)) (is_unused (lending_of k) ss) is).0
-
-  named : (c : Call) → is_on_executor c ≡ false → has_all w ss o c ≡ true → Named w c
-  named (call.Wake k) off has =
-      let f = kept_one k has in
-      record { made = plain.Use f.0; is = course.use_waker k f.0 f.1; within_none = within_it.use_waker k f.0 f.1 }
-  named (call.WakeByRef k) off has =
-      let f = some_kept (kept w k) has in
-      record { made = plain.Wake f.0; is = course.wake k f.0 f.1; within_none = within_it.wake k f.0 f.1 }
-  named (call.Copy k) off has =
-      let f = some_kept (kept w k) has in
-      record { made = plain.Copy f.0; is = course.copy k f.0 f.1; within_none = within_it.copy k f.0 f.1 }
-  named (call.DropWaker k) off has =
-      let f = kept_one k has in
-      record { made = plain.Release f.0; is = course.release k f.0 f.1; within_none = within_it.release k f.0 f.1 }
-  named call.Keep off has = absurd (clash (ap (λ o. is_some (future_of o)) none) has)
-  named call.WakeSelf off has = absurd (clash (ap (λ o. is_some (future_of o)) none) has)
-  named (call.PollHandle f b) off has =
-      record {
-        made = plain.PollHandle f (waker_of None b);
-        is = course.poll_handle f b;
-        within_none = within_it.poll_handle f b;
-      }
-  named (call.Cancel f) off has = record { made = plain.Cancel f; is = course.cancel f; within_none = within_it.cancel f }
-  named (call.Detach f) off has = record { made = plain.Detach f; is = course.detach f; within_none = within_it.detach f }
-  named (call.DropHandle f) off has =
-      record { made = plain.DropHandle f; is = course.drop_handle f; within_none = within_it.drop_handle f }
-  named c off has = absurd cc
 
 -- the executor's drop has come on so
 pub stands_on : (fs all : List ℕ) (q : Plain Output Waker) (e : Done) → ComesOn fs all [] q e → StandsDropping e q

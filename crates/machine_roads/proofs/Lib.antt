@@ -95,6 +95,7 @@ pub mod Handless
 pub mod HandlessActs
 pub mod InLoss
 pub mod OpenCalls
+pub mod Named
 pub mod DropActs
 pub mod FewTaken
 pub mod FewAfter
@@ -103,6 +104,7 @@ pub mod InHand
 pub mod Walked
 pub mod Inmost
 pub mod ActBegins
+pub mod ActLosses
 pub mod ActEnds
 pub mod Acts
 pub mod OwnPolls

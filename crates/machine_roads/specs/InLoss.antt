@@ -9,8 +9,8 @@ use Rattle.executor_model.specs.declared.op.UserOp.TheVariants as user_op
 use Rattle.executor_model.specs.declared.op.Waker.{Waker}
 use Rattle.executor_model.specs.declared.step.Hint.{Hint}
 use Rattle.executor_model.specs.Steps.{is_on_executor}
-use Rattle.executor_model.specs.World.{World, among, task}
-use Rattle.plain_scheduler.specs.State.{Choice, Lose, Plain, Refusal}
+use Rattle.executor_model.specs.World.{Done, World, among, task}
+use Rattle.plain_scheduler.specs.State.{Choice, Code, Lose, Plain, Refusal}
 use Rattle.plain_scheduler.specs.Calls as plain
 use Rattle.plain_scheduler.specs.Calls.{does, Ends}
 use Rattle.machine_roads.specs.View.{Output, wakes}
@@ -93,3 +93,18 @@ abbrev pub InAnyLoss : (ℕ → List ℕ → List Op → World → Plain Output 
 InAnyLoss So =
     (p : ℕ) (fs : List ℕ) (below : List Op) (w : World) (q : Plain Output Waker) (d : Choice) (hints : List Hint)
     → So p fs below w q d hints
+
+-- what is left to do in such drops, one inside another, above what lies below them, and the code in which the plain scheduler's calls stand
+abbrev pub loss_ops : List ℕ → List Op → List Op
+loss_ops [] below = below
+loss_ops (f ∷ fs) below = op.User (user_op.DropOutput f) ∷ (left_of f ++ loss_ops fs below)
+
+abbrev pub loss_codes : List ℕ → List (Code Output Waker) → List (Code Output Waker)
+loss_codes [] codes = codes
+loss_codes (f ∷ fs) codes = Lose None None ∷ loss_codes fs codes
+
+-- a party stands in them
+pub record StopsInLoss (fs : List ℕ) (below : List Op) (codes : List (Code Output Waker)) (e : Done) (q : Plain Output Waker) : Type 0 where
+  pub left : e.next ≡ loss_ops fs below
+  pub inside : q.inside ≡ loss_codes fs codes
+  pub losing : AreLosing e.world fs q

@@ -1,7 +1,8 @@
 -- Calls one inside another. A party begins a call, also where it stands in user code, or user code of its ends; then it goes on until
 -- nothing is left to do or it stands in user code once more. Each of these is a call of the plain scheduler, or the end of the code that
 -- is innermost there.
-use Rattle.std.specs.Prelude.{◌≡◌, ℕ, ◌<◌, ◌==◌, Bool, true, false, ◌&&◌, not, List, [], ◌∷◌, length, reverse, Option, Some, None, Ok}
+use Rattle.std.specs.Prelude.{◌≡◌, ℕ, ◌<◌, ◌==◌, Bool, true, false, ◌&&◌, ◌||◌, not, List, [], ◌∷◌, length, reverse, Option, Some, None, Ok}
+use Rattle.task_moves.specs.declared.moves.owed.Move.TheVariants as move
 use Rattle.executor_parts.specs.declared.mark.Mark.{Mark}
 use Rattle.executor_model.specs.declared.call.By.{By}
 use Rattle.executor_model.specs.declared.call.Call.{Call}
@@ -24,7 +25,7 @@ use Rattle.executor_model.specs.declared.step.Step.{Step}
 use Rattle.executor_model.specs.declared.step.Step.TheVariants.{Answer, Begin, Go}
 use Rattle.executor_model.specs.declared.step.UserEnd.TheVariants.{Done as Over, Polled}
 use Rattle.executor_model.specs.Executions.{run_all}
-use Rattle.executor_model.specs.Steps.{Machine, after, future_of, is_static_kind, kept, mine, party_of, stack, start, top, waker_of}
+use Rattle.executor_model.specs.Steps.{Machine, after, future_of, is_on_executor, is_static_kind, kept, mine, party_of, stack, start, top, waker_of}
 use Rattle.executor_model.specs.World.{Done, World, done, run_of}
 use Rattle.plain_scheduler.specs.State.{Choice, Code, Done as IsDone, DropOwn, Plain, PollOwn, Ready as IsReady, Run, Taker, Tick, Try}
 use Rattle.plain_scheduler.specs.Moves as moves
@@ -36,7 +37,7 @@ use Rattle.machine_roads.specs.Alone.{is_outside, is_resting}
 use Rattle.machine_roads.specs.Course.{IsChosen}
 use Rattle.machine_roads.specs.Dropped.{Drops}
 use Rattle.machine_roads.specs.Forgotten.{StopsForgetting}
-use Rattle.machine_roads.specs.Losing.{StopsLosing}
+use Rattle.machine_roads.specs.InLoss.{StopsInLoss}
 use Rattle.machine_roads.specs.Searching.{goes_on_by}
 use Rattle.machine_roads.specs.Stopped.{Stopped}
 
@@ -87,9 +88,17 @@ abbrev pub may_stand_in : Call → Bool
 may_stand_in call.DropExecutor = false
 may_stand_in _ = true
 
--- no call begins where one owes something
+-- in the drop of an output that goes with its handle
+abbrev pub loses_handle : List Op → Bool
+loses_handle (op.User (user_op.DropOutput f) ∷ op.Move move.Detach g ∷ os) = true
+loses_handle _ = false
+
+-- there calls of wakers and handles begin; where else one owes something no call does
+abbrev pub may_begin_in : List Op → Call → Bool
+may_begin_in os c = not (owes os) || (loses_handle os && not (is_on_executor c))
+
 abbrev pub is_on_way : List Op → Step → Bool
-is_on_way os (Begin p c) = may_stand_in c && not (owes os)
+is_on_way os (Begin p c) = may_stand_in c && may_begin_in os c
 is_on_way os _ = true
 
 -- one act after the other
@@ -177,7 +186,8 @@ pub record StopsGoing (r : ℕ) (below : List Op) (b : Plain Output Waker) (e : 
 -- both stand alike, or, in such a drop, alike but for what the call still owes
 pub data StandsAlike (e : Done) (q : Plain Output Waker) : Type 0 where
   alike : Nested e.next q.inside → Follows e.world q → StandsAlike e q
-  losing : (f : ℕ) (below : List Op) (b : Plain Output Waker) → Nested below b.inside → StopsLosing f below b e q → StandsAlike e q
+  losing : (f : ℕ) (fs : List ℕ) (below : List Op) (codes : List (Code Output Waker)) → Nested below codes
+      → StopsInLoss (f ∷ fs) below codes e q → StandsAlike e q
   going : (r : ℕ) (below : List Op) (b : Plain Output Waker) → Nested below b.inside → StopsGoing r below b e q → StandsAlike e q
   dropping : (taker : Taker Waker) (final : Op) (below : List Op) (f : ℕ) (b : Plain Output Waker)
       → GoesOnBy taker final → Nested below b.inside → Drops taker final below f b e q → StandsAlike e q

@@ -68,7 +68,7 @@ module _ (s : Machine) (reached : Reached s) (p : ℕ) (there : p < length s.par
       (both_true ((task s.world g).handle) (is_unused (handling_of g) s.parties) has).1 in
       unused_spares g fs below (omega (arith, unused, whole s p reached there (loss_ops fs below) is (handling_of g)))
 
-  spares_all : (o : Option Op) (c : Call) → has_all s.world s.parties o c ≡ true → spares fs (handle_in c) ≡ true
+  pub spares_all : (o : Option Op) (c : Call) → has_all s.world s.parties o c ≡ true → spares fs (handle_in c) ≡ true
   spares_all o (call.PollHandle g b) has =
       apart_from g (both_true (has_handle s.world s.parties g) (is_known o b) has).0
   spares_all o (call.Cancel g) has = apart_from g has

@@ -109,7 +109,7 @@ module _ (f : ℕ) where
       }
   begins_does p c w off spared shut = absurd cc
 
-off_one : (b : Bool) → not b ≡ true → b ≡ false
+pub off_one : (b : Bool) → not b ≡ true → b ≡ false
 off_one false is = refl
 off_one true is = absurd cc
 
@@ -122,22 +122,22 @@ spares_rest f fs None is = refl
 spares_rest f fs (Some g) is = (parts g f fs is).1
 
 -- so are those of all
-shut_through : (fs : List ℕ) (f : ℕ) (w : World) → IsShut w f → IsShut (without_handles fs w) f
+pub shut_through : (fs : List ℕ) (f : ℕ) (w : World) → IsShut w f → IsShut (without_handles fs w) f
 shut_through [] f w shut = shut
 shut_through (g ∷ fs) f w shut =
     let v = without_handles fs w in
     put_shut f v g (record (task v g) { handle = false }) (shut_through fs f w shut) (λ c. c)
 
-abbrev AllGo : List ℕ → List Op → Type 0
+abbrev pub AllGo : List ℕ → List Op → Type 0
 AllGo [] os = Unit {0}
 AllGo (f ∷ fs) os = (goes f os ≡ true) × AllGo fs os
 
-record AlongAll (fs : List ℕ) (p : ℕ) (hints : List Hint) (there here : Done) : Type 0 where
-  has : HasAllOf Has p hints there
-  same : alone p hints there ≡ done (without_handles fs (alone p hints here).world) (alone p hints here).next
-  shut : AreShut (alone p hints here).world fs
+pub record AlongAll (fs : List ℕ) (p : ℕ) (hints : List Hint) (there here : Done) : Type 0 where
+  pub has : HasAllOf Has p hints there
+  pub same : alone p hints there ≡ done (without_handles fs (alone p hints here).world) (alone p hints here).next
+  pub shut : AreShut (alone p hints here).world fs
 
-all_along : (fs : List ℕ) (p : ℕ) (hints : List Hint) (w : World) (os : List Op) → AreShut w fs → AllGo fs os
+pub all_along : (fs : List ℕ) (p : ℕ) (hints : List Hint) (w : World) (os : List Op) → AreShut w fs → AllGo fs os
     → HasAllOf Has p hints (done w os) → AlongAll fs p hints (done (without_handles fs w) os) (done w os)
 all_along [] p hints w os shut go has = record { has = has; same = refl; shut = tt }
 all_along (f ∷ fs) p hints w os shut go has =
@@ -150,12 +150,12 @@ all_along (f ∷ fs) p hints w os shut go has =
       shut = ((one_along f p hints w os shut.0 go.0 has).kept, shut.1, r.shut);
     }
 
-record BegunAll (fs : List ℕ) (below : List Op) (there here : Done) : Type 0 where
-  same : there ≡ done (without_handles fs here.world) here.next
-  shut : AreShut here.world fs
-  go : AllGo fs (here.next ++ below)
+pub record BegunAll (fs : List ℕ) (below : List Op) (there here : Done) : Type 0 where
+  pub same : there ≡ done (without_handles fs here.world) here.next
+  pub shut : AreShut here.world fs
+  pub go : AllGo fs (here.next ++ below)
 
-all_begun : (fs : List ℕ) (p : ℕ) (below : List Op) (c : Call) (w : World) → is_resting below ≡ true → is_on_executor c ≡ false
+pub all_begun : (fs : List ℕ) (p : ℕ) (below : List Op) (c : Call) (w : World) → is_resting below ≡ true → is_on_executor c ≡ false
     → spares fs (handle_in c) ≡ true → AreShut w fs
     → BegunAll fs below (begins p None c (without_handles fs w)) (begins p None c w)
 all_begun [] p below c w under off spared shut = record { same = refl; shut = tt; go = tt }
@@ -180,13 +180,13 @@ wakers_through : (fs : List ℕ) (w : World) → (without_handles fs w).wakers �
 wakers_through [] w = refl
 wakers_through (f ∷ fs) w = wakers_through fs w
 
-closed_through : (fs : List ℕ) (g : ℕ) (w : World) → AreShut w fs → (task (without_handles fs w) g).closed ≡ (task w g).closed
+pub closed_through : (fs : List ℕ) (g : ℕ) (w : World) → AreShut w fs → (task (without_handles fs w) g).closed ≡ (task w g).closed
 closed_through [] g w shut = refl
 closed_through (f ∷ fs) g w shut =
     let v = without_handles fs w in
     ap (λ (s : State). s.closed) (task_less f v (shut_through fs f w shut.0).known g) ∙ closed_through fs g w shut.2
 
-many_through : (fs : List ℕ) (w : World) → length (without_handles fs w).tasks ≡ length w.tasks
+pub many_through : (fs : List ℕ) (w : World) → length (without_handles fs w).tasks ≡ length w.tasks
 many_through [] w = refl
 many_through (f ∷ fs) w =
     let v = without_handles fs w in length_set v.tasks f (record (task v f) { handle = false }) ∙ many_through fs w
@@ -198,7 +198,7 @@ module _ (fs : List ℕ) (w : World) where
   kept_there : (k f : ℕ) → kept w k ≡ Some f → kept v k ≡ Some f
   kept_there k f is = ap (λ ws. slice_index_or ws k None) (wakers_through fs w) ∙ is
 
-  call_there : (c : Call) (x : plain.Call Output Waker) → is_on_executor c ≡ false → IsCall w c x → IsCall v c x
+  pub call_there : (c : Call) (x : plain.Call Output Waker) → is_on_executor c ≡ false → IsCall w c x → IsCall v c x
   call_there c x off (use_waker k f is) = use_waker k f (kept_there k f is)
   call_there c x off (wake k f is) = wake k f (kept_there k f is)
   call_there c x off (copy k f is) = copy k f (kept_there k f is)
@@ -298,7 +298,7 @@ loses_in_loss p fs below w q d hints c x under losing is some has rests =
     loses_so fs w p below under q losing d hints c x is has rests some
 
 -- the drop of the output ends
-left_goes : (f : ℕ) (fs : List ℕ) (below : List Op) → is_resting below ≡ true → among f fs ≡ false → AllGo fs (left_of f ++ below)
+pub left_goes : (f : ℕ) (fs : List ℕ) (below : List Op) → is_resting below ≡ true → among f fs ≡ false → AllGo fs (left_of f ++ below)
 left_goes f [] below under apart = tt
 left_goes f (g ∷ fs) below under apart =
     let both = parts f g fs (ap not apart) in (

@@ -96,6 +96,8 @@ pub mod HandlessActs
 pub mod InLoss
 pub mod OpenCalls
 pub mod Named
+pub mod LossInDrop
+pub mod DropPlaces
 pub mod DropActs
 pub mod FewTaken
 pub mod FewAfter

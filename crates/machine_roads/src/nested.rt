@@ -14,9 +14,9 @@ pub fn lists_of_nested_calls_go_alike()
 {}
 
 /// From the executor's drop on, too, where a machine at rest stands where the plain scheduler does, in
-/// no code: the calls that are made inside of the drops of futures in it, the ends of these drops and
-/// the calls behind it are calls of the plain scheduler, and the ends of its innermost code. No call
-/// begins in the drop of an output.
+/// no code: the calls that are made inside of the drops of futures in it, and of outputs in these, the
+/// ends of these drops and the calls behind it are calls of the plain scheduler, and the ends of its
+/// innermost code.
 pub fn calls_nested_in_the_executors_drop_go_alike()
     ensures { EachLoneAlike DropActsAlike }
 {}

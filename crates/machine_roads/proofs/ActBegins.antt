@@ -389,7 +389,7 @@ module _ (s : Machine) (reached : Reached s) (p : ℕ) (q : Plain Output Waker) 
           let z : Plain Output Waker = does wakes (choice Granted) x q in (
             z,
             acts (call.DropRun r) x Granted (drop_run r),
-            record { alike = going r below q nested stops; counted = in_going r stops.rest stops.leaving e stops.left z runs unover },
+            record { alike = going r [] below q.inside nested stops; counted = in_going r stops.rest stops.leaving e stops.left z runs unover },
           )
   one_begins call.Leak on may =
       plainly call.Leak plain_calls.Leak leak (leak_inside (choice Granted) q) (leak_runs (choice Granted) q)

@@ -25,7 +25,7 @@ use Rattle.executor_model.specs.Acts.{is_last_waker}
 use Rattle.executor_model.specs.ActsOfRuns.{asleep}
 use Rattle.executor_model.specs.Rows.{running_of}
 use Rattle.executor_model.specs.Steps.{Machine, accepts, answer_refusal, react, refusal, stack}
-use Rattle.executor_model.specs.World.{Done, World, done, run_of, task}
+use Rattle.executor_model.specs.World.{Done, World, done, task}
 use Rattle.executor_model.specs.Weights.{weigh}
 use Rattle.executor_model.proofs.OwnQueues.Using.{emptying_of, polling_of}
 use Rattle.executor_model.proofs.Steps.Reached.{Reached}
@@ -439,12 +439,12 @@ module _ (s : Machine) (reached : Reached s) (p : ℕ) (there : p < length s.par
 
     -- so is that of a run that goes
     pub from_going : (r : ℕ) (rest : Op) → IsLeaving r rest → reverse (stack s p) ≡ op.User (user_op.DropOwn r) ∷ rest ∷ below
-        → q.inside ≡ DropOwn r DoneAnswer ∷ inside → (run_of s.world r).dropped ≡ true → Follows s.world (plain.runs ended_run r q)
+        → q.inside ≡ DropOwn r DoneAnswer ∷ inside → Follows s.world (plain.runs ended_run r q)
         → (u : UserEnd) → accepts (op.User (user_op.DropOwn r)) u ≡ true → Leads u (op.User (user_op.DropOwn r)) (rest ∷ below)
-    from_going r rest leaving is at dropped follows end.Done ok = λ hints all rests.
+    from_going r rest leaving is at follows end.Done ok = λ hints all rests.
         let e = alone p hints (done s.world (rest ∷ below)) in
         let so =
-        own_went p below under s.world r0 r rest leaving dropped
+        own_went p below under s.world r0 r rest leaving
         (stands_in inside s.world (record q { runs = changed ended_run r q.runs }) (subst (Follows s.world) (runs_is ended_run r q) follows)
         (sym (ap (λ codes. waking_in codes) at))) c1 many hints all rests in
         back end.Done Ends ends (DropOwn r DoneAnswer) at e so.0 so.2 (by rest leaving is) so.1
@@ -461,4 +461,4 @@ module _ (s : Machine) (reached : Reached s) (p : ℕ) (there : p < length s.par
             let counted0 : Counted xs q.runs = subst (λ os. Counted os q.runs) is counted in
             gone_count r (omega (arith, used_once s reached p there xs is r, same_self r)) counted0.taken
             (λ k apart is_left. counted0.going k (ap (λ b. b || some_op (leaves k) below) apart ∙ is_left))
-    from_going r rest leaving is at dropped follows u ok = absurd cc
+    from_going r rest leaving is at follows u ok = absurd cc

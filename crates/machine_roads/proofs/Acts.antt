@@ -31,12 +31,13 @@ use Rattle.machine_roads.specs.View.{Output}
 use Rattle.machine_roads.specs.Road.{Follows}
 use Rattle.machine_roads.specs.Alone.{is_outside, is_resting}
 use Rattle.machine_roads.specs.Dropped.{answered, loses, rest_of}
+use Rattle.machine_roads.specs.InLoss.{loss_ops}
 use Rattle.machine_roads.specs.Within.{IsLeaving, going, listed, unlisted}
 use Rattle.machine_roads.specs.Within.{Act, ActAlike, ActsBy, AreActs, ListsActAlike, Nested, StandsAlike, alike, calls_outside}
 use Rattle.machine_roads.specs.Within.{dropping, forgetting, goes_on, is_on_way, losing, may_begin_in, may_stand_in, nowhere, rests_after, standing}
 use Rattle.machine_roads.proofs.ActBegins.{one_begins}
 use Rattle.machine_roads.proofs.ActEnds.{code_ends}
-use Rattle.machine_roads.proofs.ActLosses.{begins_in_loss}
+use Rattle.machine_roads.proofs.ActLosses.{begins_in_going, begins_in_loss}
 use Rattle.machine_roads.proofs.Calling.{begin_alike}
 use Rattle.machine_roads.proofs.Counting.{StandsSo}
 use Rattle.machine_roads.proofs.Inmost.{rests_in}
@@ -103,7 +104,8 @@ goes_rest (t ∷ ts) s new p rests made others =
 rests_alike : (e : Done) (q : Plain Output Waker) → StandsAlike e q → is_resting e.next ≡ true
 rests_alike e q (alike nested follows) = rests_in e.next q.inside nested
 rests_alike e q (losing f fs below codes nested stops) = ap (λ os. is_resting os) stops.left
-rests_alike e q (going r below b nested stops) = ap (λ os. is_resting os) stops.left
+rests_alike e q (going r [] below codes nested stops) = ap (λ os. is_resting os) stops.left
+rests_alike e q (going r (f ∷ fs) below codes nested stops) = ap (λ os. is_resting os) stops.left
 rests_alike e q (dropping taker final below f b it nested (answered next inside follows)) =
     ap (λ os. is_resting os) next ∙ rests_in below b.inside nested
 rests_alike e q (dropping taker final below f b it nested (loses awaiter next inside ending)) = ap (λ os. is_resting os) next
@@ -121,10 +123,11 @@ no_go_resting s p there h (o ∷ os) is resting may =
     (not_true (waits o) (passed (not (waits o)) WrongAnswer (unless (not (is_locked_out s.world.lock o)) Waits None) goes))
     (both_true (waits o) (not (is_outside o)) resting).0
 
-none_going : (r : ℕ) (rest : Op) → IsLeaving r rest → (below : List Op) (c : Call)
-    → may_begin_in (op.User (user_op.DropOwn r) ∷ rest ∷ below) c ≡ false
-none_going r rest unlisted below c = refl
-none_going r rest listed below c = refl
+going_off : (fs : List ℕ) (r : ℕ) (rest : Op) → IsLeaving r rest → (below : List Op) (c : Call)
+    → may_begin_in (loss_ops fs (op.User (user_op.DropOwn r) ∷ rest ∷ below)) c ≡ true → is_on_executor c ≡ false
+going_off [] r rest unlisted below c on = not_true (is_on_executor c) on
+going_off [] r rest listed below c on = not_true (is_on_executor c) on
+going_off (f ∷ fs) r rest leaving below c on = not_true (is_on_executor c) on
 
 none_losing : (b : Bool) (f : ℕ) (final : Op) (below : List Op) (c : Call)
     → may_begin_in (op.User (user_op.DropOutput f) ∷ (rest_of b f final ++ below)) c ≡ false
@@ -154,8 +157,13 @@ module _ (s : Machine) (reached : Reached s) (p : ℕ) (q : Plain Output Waker) 
           (begins_in_loss s reached p there q f fs below codes nested stops stands.counted c off
           (may_begin s p c (run-first (Begin p c) ts s new made).0))
           rests made
-      by (going r below b nested stops) =
-          absurd (clash (ap (λ os. may_begin_in os c) stops.left ∙ none_going r stops.rest stops.leaving below c) even)
+      by (going r fs below codes nested stops) =
+          let off =
+          going_off fs r stops.rest stops.leaving below c (sym (ap (λ os. may_begin_in os c) stops.left) ∙ even) in
+          begun_leads p (λ e. (r : Plain Output Waker) × ActsBy s p (Begin p c) q r × StandsSo e r) new later c ts s reached there
+          (begins_in_going s reached p there q r fs below codes nested stops stands.counted c off
+          (may_begin s p c (run-first (Begin p c) ts s new made).0))
+          rests made
       by (dropping taker final below f b it nested (answered next inside follows)) =
           begins (subst (λ os. Nested os q.inside) (sym next) (subst (λ codes. Nested below codes) (sym inside) nested)) follows
       by (dropping taker final below f b it nested (loses awaiter next inside ending)) =

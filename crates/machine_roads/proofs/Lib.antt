@@ -106,6 +106,7 @@ pub mod InHand
 pub mod Walked
 pub mod Inmost
 pub mod ActBegins
+pub mod RunsAlone
 pub mod ActLosses
 pub mod ActEnds
 pub mod Acts

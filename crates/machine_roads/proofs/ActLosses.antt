@@ -15,7 +15,8 @@ use Rattle.executor_model.specs.declared.step.Step.TheVariants.{Answer, Begin}
 use Rattle.executor_model.specs.declared.step.UserEnd.{UserEnd}
 use Rattle.executor_model.specs.declared.step.UserEnd.TheVariants as end
 use Rattle.executor_model.specs.Rows.{handling_of}
-use Rattle.executor_model.specs.Steps.{Machine, accepts, begin_refusal, has_all, has_handle, is_known, is_on_executor, is_unused, mine, react, stack, top, waker_of}
+use Rattle.executor_model.specs.Steps.{Machine, accepts, begin_refusal, has_all, has_handle, is_known, is_on_executor, is_unused, mine}
+use Rattle.executor_model.specs.Steps.{react, stack, top, waker_of}
 use Rattle.executor_model.specs.Weights.{same, weigh, weigh_all}
 use Rattle.executor_model.specs.World.{Done, World, among, done, task}
 use Rattle.executor_model.proofs.Steps.Lists.{same_is}
@@ -31,7 +32,8 @@ use Rattle.machine_roads.specs.Closing.{called, loses}
 use Rattle.machine_roads.specs.Course.{IsCall, cancel, copy, detach, drop_handle, poll_handle, release, use_waker, wake}
 use Rattle.machine_roads.specs.InLoss.{AreLosing, IsCallInLoss, StopsInLoss, handle_in, loss_codes, loss_ops, spares, without_handles}
 use Rattle.machine_roads.specs.Losing.{left_of}
-use Rattle.machine_roads.specs.Within.{ActsBy, IsCallIn, IsLeaving, Nested, StandsAlike, StopsGoing, alike, begins as begins_by, going, ends as ends_by, losing, standing}
+use Rattle.machine_roads.specs.Within.{ActsBy, IsCallIn, IsLeaving, Nested, StandsAlike, StopsGoing, alike, begins as begins_by, going}
+use Rattle.machine_roads.specs.Within.{ends as ends_by, losing, standing}
 use Rattle.machine_roads.proofs.ActBegins.{choice_in, chosen_in, enough}
 use Rattle.machine_roads.proofs.Counting.{Counted, StandsSo, like}
 use Rattle.machine_roads.proofs.InDrop.{stays_inside}

@@ -37,7 +37,8 @@ use Rattle.machine_roads.specs.InLoss.{AreLosing, IsCallInLoss, StopsInLoss, los
 use Rattle.machine_roads.specs.Losing.{left_of}
 use Rattle.machine_roads.specs.Lone.{EachLoneAlike, NoneWaits}
 use Rattle.machine_roads.specs.Within.{Act, ActsBy, IsCallIn, begins as begins_by, ends as ends_by, rests_after, standing}
-use Rattle.machine_roads.specs.DropActs.{AreDropActs, AreLosingInDrop, DropActAlike, DropActsAlike, StandsDropping, behind, drops, left_to_close}
+use Rattle.machine_roads.specs.DropActs.{AreDropActs, AreLosingInDrop, DropActAlike, DropActsAlike, StandsDropping, behind, drops}
+use Rattle.machine_roads.specs.DropActs.{left_to_close}
 use Rattle.machine_roads.proofs.ActBegins.{choice_in, chosen_in, enough}
 use Rattle.machine_roads.proofs.Acts.{goes_rest, no_go_resting, taken_over}
 use Rattle.machine_roads.proofs.Beside.{begins_does, go_append, rest_goes}
@@ -55,7 +56,8 @@ use Rattle.machine_roads.proofs.LoneCalls.{each}
 use Rattle.machine_roads.proofs.LoneCloses.{Closing, IsAny, drop_leads_so, walks}
 use Rattle.machine_roads.proofs.LoneRuns.{passed, within}
 use Rattle.machine_roads.proofs.LoneTicks.{may_begin, there_all}
-use Rattle.machine_roads.proofs.DropPlaces.{are_losses, handles_back, handles_there, loss_rests, queues_through, rests_so, stands_on, still_left}
+use Rattle.machine_roads.proofs.DropPlaces.{are_losses, handles_back, handles_there, loss_rests, queues_through, rests_so, stands_on}
+use Rattle.machine_roads.proofs.DropPlaces.{still_left}
 use Rattle.machine_roads.proofs.Named.{Named, named}
 use Rattle.machine_roads.proofs.OpenCalls.{AreOpen, HasOpen, of_calls, open_all}
 use Rattle.machine_roads.proofs.Tying.{LeadsSoOf, none_of as none_left, top_of}
@@ -365,7 +367,8 @@ module _ (s : Machine) (reached : Reached s) (p : ℕ) (there : p < length s.par
             loss_ends_behind g gs none stops u ts
             (accepted (op.User (user_op.DropOutput g)) (left_of g ++ loss_ops gs []) u stops.left may) rests made
 
-    one_act : (t : Step) (ts : List Step) → party_of t ≡ p → rests_after p ts (after s t) ≡ true → run_all (t ∷ ts) s ≡ Ok new → Reaches t (standing new p)
+    one_act : (t : Step) (ts : List Step) → party_of t ≡ p → rests_after p ts (after s t) ≡ true → run_all (t ∷ ts) s ≡ Ok new
+        → Reaches t (standing new p)
     one_act (Begin r c) ts its rests made =
         subst (λ n. Reaches (Begin n c) (standing new p)) (sym its)
         (call_begins c ts

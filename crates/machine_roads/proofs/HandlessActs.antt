@@ -1,5 +1,6 @@
 -- So is each thing that such calls do, and what it asks for is there.
-use Rattle.std.proofs.Common.{◌≡◌, ℕ, ◌+◌, ◌<◌, ◌≤◌, ◌==◌, ◌++◌, ◌&&◌, ◌||◌, not, Bool, true, false, List, [], ◌∷◌, length, Option, Some, None}
+use Rattle.std.proofs.Common.{◌≡◌, ℕ, ◌+◌, ◌<◌, ◌≤◌, ◌==◌, ◌++◌, ◌&&◌, ◌||◌, not, Bool, true, false, List, [], ◌∷◌, length, Option, Some}
+use Rattle.std.proofs.Common.{None}
 use Rattle.std.proofs.Common.{refl, sym, ap, subst, ◌∙◌}
 use Rattle.executor_parts.specs.Sleepers.{last_waker}
 use Rattle.task_moves.specs.declared.moves.owed.Move.TheVariants as move
@@ -133,7 +134,9 @@ module _ (f : ℕ) where
           (λ shut. record { known = shut.known; closed = shut.closed }) (given s.awaiter)
 
       again_does : (x c d : Bool)
-          → Does f (look_again_by (moves.look_again_by x c d (hide f g s)).owed.answer p (less f w) g (moves.look_again_by x c d (hide f g s)))
+          → Does f
+          (look_again_by (moves.look_again_by x c d (hide f g s)).owed.answer p (less f w) g
+          (moves.look_again_by x c d (hide f g s)))
           (look_again_by (moves.look_again_by x c d s).owed.answer p w g (moves.look_again_by x c d s))
       again_does true true d = only_writes w g s (op.End reply.Pending (hold.Handle g) ∷ []) shut (λ c. c) refl
       again_does true false d =
@@ -186,7 +189,9 @@ module _ (f : ℕ) where
           by_task (λ t. done (put (less f w) g (record t { notifying = true })) os) (done (put w g t) os)
           (only_writes w g t os shut (λ c. c) refl)
 
-      ends_notify : (same : Bool) → Does f (done (put_awaiter (put (less f w) g (moves.end_notify (world.task (less f w) g)).state) g None) (told same g (awaiter_of w g)))
+      ends_notify : (same : Bool)
+          → Does f
+          (done (put_awaiter (put (less f w) g (moves.end_notify (world.task (less f w) g)).state) g None) (told same g (awaiter_of w g)))
           (done (put_awaiter (put w g (moves.end_notify s).state) g None) (told same g (awaiter_of w g)))
       ends_notify same =
           let os : List Op = told same g (awaiter_of w g) in
@@ -253,7 +258,8 @@ module _ (f : ℕ) where
   act_does p h (op.Sleeper (sleeper_op.CallSleeper x)) w fit free shut has = calls_do p w shut (polled_as x.who) x.waker x.poll
   act_does p h (op.Handle (handle_op.Look g a)) w fit free shut has =
       let s = world.task w g in
-      by_task p w shut g (λ t. look_by (moves.poll t).owed.answer p (less f w) g a (moves.poll t)) (act p h (op.Handle (handle_op.Look g a)) w)
+      by_task p w shut g (λ t. look_by (moves.poll t).owed.answer p (less f w) g a (moves.poll t))
+      (act p h (op.Handle (handle_op.Look g a)) w)
       (looks_do p w shut g a s.closed (moves.is_going s) s.completed)
   act_does p h (op.Handle (handle_op.CopyAwaiter g a)) w fit free shut has =
       subst (λ b. Does f (copy_awaiter_by b p (less f w) g a) (copy_awaiter p h w g a)) (sym (refused_alike p w shut h a))
@@ -272,7 +278,8 @@ module _ (f : ℕ) where
       (act p h (op.Handle (handle_op.LookAgain g)) w) (again_does p w shut g s.closed (moves.is_going s) s.completed)
   act_does p h (op.Handle (handle_op.Notify g mine)) w fit free shut has =
       let s = world.task w g in
-      by_task p w shut g (λ t. notify_by (t.notifying || t.registering) (less f w) g mine) (notify_by (s.notifying || s.registering) w g mine)
+      by_task p w shut g (λ t. notify_by (t.notifying || t.registering) (less f w) g mine)
+      (notify_by (s.notifying || s.registering) w g mine)
       (notifies_do p w shut g mine (s.notifying || s.registering))
   act_does p h (op.Handle (handle_op.EndNotify g mine)) w fit free shut has = ends_notify p w shut g (mine && h.same)
   act_does p h (op.Waker (waker_op.CopyWaker g held)) w fit free shut has =

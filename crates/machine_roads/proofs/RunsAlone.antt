@@ -9,9 +9,11 @@ use Rattle.executor_model.specs.declared.call.Call.{Call}
 use Rattle.executor_model.specs.declared.op.Waker.{Waker}
 use Rattle.executor_model.specs.Steps.{is_on_executor, waker_of}
 use Rattle.executor_model.specs.World.{World}
-use Rattle.plain_scheduler.specs.State.{Calls, Choice, Done as DoneAnswer, Future, Gives, Lose, Loses, Lying, Made, NoMemory, Pending, Plain, Running}
+use Rattle.plain_scheduler.specs.State.{Calls, Choice, Done as DoneAnswer, Future, Gives, Lose, Loses, Lying, Made, NoMemory, Pending}
+use Rattle.plain_scheduler.specs.State.{Plain, Running}
 use Rattle.plain_scheduler.specs.Lists.{any, on, or}
-use Rattle.plain_scheduler.specs.Moves.{answers, appended, becomes, called, copied, enters, is_called, let_go, put, release, see, task, tell}
+use Rattle.plain_scheduler.specs.Moves.{answers, appended, becomes, called, copied, enters, is_called, let_go, put, release, see, task}
+use Rattle.plain_scheduler.specs.Moves.{tell}
 use Rattle.plain_scheduler.specs.Moves.{told_at, used}
 use Rattle.plain_scheduler.specs.Takes as plain_takes
 use Rattle.plain_scheduler.specs.Calls as plain

@@ -29,7 +29,8 @@ use Rattle.machine_roads.specs.Lone.{NoneWaits, RestsFirst, waits_for}
 use Rattle.machine_roads.specs.Course.{IsCall}
 
 -- of all those that the executor's drop has taken out these are still to be dropped, and the plain scheduler stands in the drop of the one
--- before, and in more code inside of that. Both stand alike but for the table; nobody lies, the queues are open, and who waits for a wake was taken out
+-- before, and in more code inside of that. Both stand alike but for the table; nobody lies, the queues are open, and who waits for a wake
+-- was taken out
 pub record IsInDropBelow (over : List (Code Output Waker)) (w : World) (fs all : List ℕ) (codes : List (Code Output Waker))
     (q : Plain Output Waker) : Type 0 where
   pub table : w.table ≡ []

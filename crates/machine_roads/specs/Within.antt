@@ -25,7 +25,8 @@ use Rattle.executor_model.specs.declared.step.Step.{Step}
 use Rattle.executor_model.specs.declared.step.Step.TheVariants.{Answer, Begin, Go}
 use Rattle.executor_model.specs.declared.step.UserEnd.TheVariants.{Done as Over, Polled}
 use Rattle.executor_model.specs.Executions.{run_all}
-use Rattle.executor_model.specs.Steps.{Machine, after, future_of, is_on_executor, is_static_kind, kept, mine, party_of, stack, start, top, waker_of}
+use Rattle.executor_model.specs.Steps.{Machine, after, future_of, is_on_executor, is_static_kind, kept, mine, party_of, stack, start, top}
+use Rattle.executor_model.specs.Steps.{waker_of}
 use Rattle.executor_model.specs.World.{Done, World, done}
 use Rattle.plain_scheduler.specs.State.{Choice, Code, Done as IsDone, DropOwn, Plain, PollOwn, Ready as IsReady, Run, Taker, Tick, Try}
 use Rattle.plain_scheduler.specs.Moves as moves

@@ -25,7 +25,7 @@ use Rattle.executor_model.specs.World as world
 use Rattle.executor_model.proofs.Steps.Reached.{Reached, reached-more, run-first}
 use Rattle.plain_scheduler.specs.State.{Choice, Closed, Code, Drop, End, Future, Lose, Plain, Poll, Refusal, Taker, Tick, Try}
 use Rattle.plain_scheduler.specs.Lists.{on}
-use Rattle.plain_scheduler.specs.Moves.{called, task as plain_task, tell}
+use Rattle.plain_scheduler.specs.Moves.{task as plain_task}
 use Rattle.plain_scheduler.specs.Calls as plain_calls
 use Rattle.plain_scheduler.specs.Calls.{does, Ends, EndsWith, Pends, PollTick, TryTick}
 use Rattle.machine_roads.specs.View.{Output, wakes}

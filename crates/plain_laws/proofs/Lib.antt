@@ -1,0 +1,6 @@
+pub mod Words
+pub mod Walk
+pub mod Calling
+pub mod Marked
+pub mod Lines
+pub mod InOrder

@@ -44,22 +44,35 @@ taken_of x = x.taken
 pub record Since : Type 0 where
   pub run : ℕ
   pub base : Mark → List ℕ
+  pub start : ℕ → Option Mark
   pub front : Mark → List ℕ
   pub taken : ℕ
   pub is_one : Bool
   pub future : ℕ
   pub mark : Mark
 
+-- of two calls what was taken and waits, from that of each
+pub two_so : (x taken_too behind line_end line_p more came_too came_now : List ℕ) → taken_too ++ line_end ≡ behind ++ came_too
+    → x ++ behind ≡ line_p ++ more → came_now ≡ drop (length line_p) (x ++ behind)
+    → (x ++ taken_too) ++ line_end ≡ line_p ++ (came_now ++ came_too)
+two_so x taken_too behind line_end line_p more came_too came_now rest is now =
+    assoc x taken_too line_end
+    ∙ (ap (λ l. x ++ l) rest
+    ∙ (sym (assoc x behind came_too)
+    ∙ (ap (λ l. l ++ came_too) is
+    ∙ (assoc line_p more came_too
+    ∙ ap (λ l. line_p ++ (l ++ came_too)) (sym (now ∙ (ap (drop (length line_p)) is ∙ drop_front line_p more)))))))
+
 -- nothing is taken since, or one is
-abbrev untaken : ℕ → (Mark → List ℕ) → ℕ → Since
-untaken r base i =
-    record { run = r; base = base; front = λ m. []; taken = i; is_one = false; future = 0; mark = PlainMark }
+abbrev untaken : ℕ → (Mark → List ℕ) → (ℕ → Option Mark) → ℕ → Since
+untaken r base start i =
+    record { run = r; base = base; start = start; front = λ m. []; taken = i; is_one = false; future = 0; mark = PlainMark }
 
-abbrev with_one : ℕ → (Mark → List ℕ) → Due → ℕ → Since
-with_one r base d i =
-    record { run = r; base = base; front = λ m. one_of m d; taken = i; is_one = true; future = d.future; mark = d.mark }
+abbrev with_one : ℕ → (Mark → List ℕ) → (ℕ → Option Mark) → Due → ℕ → Since
+with_one r base start d i =
+    record { run = r; base = base; start = start; front = λ m. one_of m d; taken = i; is_one = true; future = d.future; mark = d.mark }
 
-pick : (P : (Due → Bool) → Type 0) (t : Due → Bool) (ts : List (Due → Bool)) (due : List Due)
+pub pick : (P : (Due → Bool) → Type 0) (t : Due → Bool) (ts : List (Due → Bool)) (due : List Due)
     → (any t due ≡ true → P t) → (any t due ≡ false → P (chosen ts due)) → P (chosen (t ∷ ts) due)
 pick P t ts due one two = by (any t due) refl
   where
@@ -76,6 +89,7 @@ module _ {T A : Type 0} where
   pub record Waits (k : Since) (p : Plain T A) : Type 0 where
     pub marked : Marked p
     pub known : k.is_one ≡ true → at has_mark p.futures k.future ≡ Some k.mark
+    pub stays : (j : ℕ) (m : Mark) → k.start j ≡ Some m → at has_mark p.futures j ≡ Some m
     pub lines : (m : Mark) → Begins (k.base m) (k.front m ++ line m k.run p.due)
     pub alone : any (is_others k.run) p.due ≡ false
     pub counted : at taken_of p.runs k.run ≡ Some k.taken
@@ -86,6 +100,7 @@ module _ {T A : Type 0} where
         record {
           marked = marked_lasts.alike p q futures due runs good.marked;
           known = λ is. subst (λ fs. at has_mark fs k.future ≡ Some k.mark) futures (good.known is);
+          stays = λ j m is. subst (λ fs. at has_mark fs j ≡ Some m) futures (good.stays j m is);
           lines = λ m. subst (λ ds. Begins (k.base m) (k.front m ++ line m k.run ds)) due (good.lines m);
           alone = subst (λ ds. any (is_others k.run) ds ≡ false) due good.alone;
           counted = subst (λ rs. at taken_of rs k.run ≡ Some k.taken) runs good.counted;
@@ -99,6 +114,9 @@ module _ {T A : Type 0} where
           known =
               λ is.
               changed_marks (λ of due runs. of k.future ≡ Some k.mark) h same f p (λ fs are. are k.future ∙ good.known is);
+          stays =
+              λ j m is.
+              changed_marks (λ of due runs. of j ≡ Some m) h same f p (λ fs are. are j ∙ good.stays j m is);
           lines =
               λ m.
               changed_marks (λ of due runs. Begins (k.base m) (k.front m ++ line m k.run due)) h same f p (λ fs are. good.lines m);
@@ -111,6 +129,7 @@ module _ {T A : Type 0} where
         record {
           marked = marked_lasts.appends f p is good.marked;
           known = good.known;
+          stays = good.stays;
           lines =
               λ m.
               begins_more (k.base m) (k.front m) (line m k.run p.due) (line m k.run (appended f p).due)
@@ -129,6 +148,7 @@ module _ {T A : Type 0} where
               λ x p good. record {
                 marked = marked_lasts.accepts x p good.marked;
                 known = λ is. at_more has_mark p.futures x k.future k.mark (good.known is);
+                stays = λ j m is. at_more has_mark p.futures x j m (good.stays j m is);
                 lines = good.lines;
                 alone = good.alone;
                 counted = good.counted;
@@ -137,6 +157,7 @@ module _ {T A : Type 0} where
               λ x p good. record {
                 marked = marked_lasts.makes x p good.marked;
                 known = good.known;
+                stays = good.stays;
                 lines = good.lines;
                 alone = good.alone;
                 counted = at_more taken_of p.runs x k.run k.taken good.counted;
@@ -154,6 +175,7 @@ module _ {T A : Type 0} where
             record {
               marked = marked;
               known = good.known;
+              stays = good.stays;
               lines =
                   λ m.
                   subst (λ l. Begins (k.base m) (k.front m ++ l)) (sym (line_kept m n k.run p.due d is)) (good.lines m);
@@ -187,6 +209,7 @@ module _ {T A : Type 0} where
             record {
               marked = marked;
               known = good.known;
+              stays = good.stays;
               lines = good.lines;
               alone = good.alone;
               counted =
@@ -207,6 +230,7 @@ module _ {T A : Type 0} where
             record {
               marked = marked;
               known = good.known;
+              stays = good.stays;
               lines = good.lines;
               alone = good.alone;
               counted = at_set taken_of p.runs r x (record x { is_over = true }) k.run is refl ∙ good.counted;
@@ -222,13 +246,14 @@ module _ {T A : Type 0} where
         (subst (λ n. Waits k (repeat n (λ p. tell wakes c (given_back r p)) q)) (sym none) (waits_over r p good))
 
   -- so it stands behind a call: with what was taken by it
-  pub record Stands (r : ℕ) (base : Mark → List ℕ) (n : ℕ) (q : Plain T A) : Type 0 where
+  pub record Stands (r : ℕ) (base : Mark → List ℕ) (start : ℕ → Option Mark) (n : ℕ) (q : Plain T A) : Type 0 where
     pub marked : Marked q
+    pub stays : (j : ℕ) (m : Mark) → start j ≡ Some m → at has_mark q.futures j ≡ Some m
     pub is_there : is_some (slice_get q.runs r) ≡ true
     pub lines : (m : Mark) → Begins (base m) (of_mark m q (cond (nat_lt n (count r q)) (last_begun q.events) []) ++ line m r q.due)
     pub alone : any (is_others r) q.due ≡ false
 
-  count_so : (r n : ℕ) (p : Plain T A) → at taken_of p.runs r ≡ Some n → count r p ≡ n
+  pub count_so : (r n : ℕ) (p : Plain T A) → at taken_of p.runs r ≡ Some n → count r p ≡ n
   count_so r n p is = by (slice_get p.runs r) is
     where
       by : (o : Option Running) → or o (λ x. Some x.taken) None ≡ Some n → or o (λ run. run.taken) 0 ≡ n
@@ -245,19 +270,25 @@ module _ {T A : Type 0} where
       by None is = absurd cc
       by (Some x) is = refl
 
-  count_there : (r : ℕ) (p : Plain T A) → is_some (slice_get p.runs r) ≡ true → at taken_of p.runs r ≡ Some (count r p)
+  pub count_there : (r : ℕ) (p : Plain T A) → is_some (slice_get p.runs r) ≡ true → at taken_of p.runs r ≡ Some (count r p)
   count_there r p is = by (slice_get p.runs r) is
     where
       by : (o : Option Running) → is_some o ≡ true → or o (λ x. Some x.taken) None ≡ Some (or o (λ run. run.taken) 0)
       by None is = absurd cc
       by (Some x) is = refl
 
-  module _ (r : ℕ) (base : Mark → List ℕ) (n : ℕ) where
+  pub last_of : (es : List (Event T A)) (e : Event T A) → last_begun (es ++ e ∷ []) ≡ last_begun (e ∷ [])
+  last_of [] e = refl
+  last_of (x ∷ []) e = refl
+  last_of (x ∷ y ∷ es) e = last_of (y ∷ es) e
+
+  module _ (r : ℕ) (base : Mark → List ℕ) (start : ℕ → Option Mark) (n : ℕ) where
     -- none was taken
-    stops_at : (i : ℕ) → nat_lt n i ≡ false → (p : Plain T A) → Waits (untaken r base i) p → Stands r base n p
+    stops_at : (i : ℕ) → nat_lt n i ≡ false → (p : Plain T A) → Waits (untaken r base start i) p → Stands r base start n p
     stops_at i none p good =
         record {
           marked = good.marked;
+          stays = good.stays;
           is_there = run_there r i p good.counted;
           lines =
               λ m.
@@ -266,16 +297,12 @@ module _ {T A : Type 0} where
           alone = good.alone;
         }
 
-    last_of : (es : List (Event T A)) (e : Event T A) → last_begun (es ++ e ∷ []) ≡ last_begun (e ∷ [])
-    last_of [] e = refl
-    last_of (x ∷ []) e = refl
-    last_of (x ∷ y ∷ es) e = last_of (y ∷ es) e
-
     -- one was
-    took_one : (d : Due) (q : Plain T A) → Waits (with_one r base d (n + 1)) q → last_begun q.events ≡ d.future ∷ [] → Stands r base n q
+    took_one : (d : Due) (q : Plain T A) → Waits (with_one r base start d (n + 1)) q → last_begun q.events ≡ d.future ∷ [] → Stands r base start n q
     took_one d q good seen =
         record {
           marked = good.marked;
+          stays = good.stays;
           is_there = run_there r (n + 1) q good.counted;
           lines =
               λ m.
@@ -288,12 +315,12 @@ module _ {T A : Type 0} where
         }
 
     module _ (wakes : A → Option ℕ) (c : Choice) (w : A) where
-      begins_so : (d : Due) (p : Plain T A) → Waits (with_one r base d (n + 1)) p → Stands r base n (takes.run wakes c d.future (Run r w) p)
+      begins_so : (d : Due) (p : Plain T A) → Waits (with_one r base start d (n + 1)) p → Stands r base start n (takes.run wakes c d.future (Run r w) p)
       begins_so d p good =
-          let k = with_one r base d (n + 1) in
+          let k = with_one r base start d (n + 1) in
           let f = d.future in
           let q = put f (abstract.begin_run (task f p)) p in
-          if_so (Stands r base n) (task f p).closed (takes.dropping wakes c f Closed (Run r w) p)
+          if_so (Stands r base start n) (task f p).closed (takes.dropping wakes c f Closed (Run r w) p)
           (enters (Poll f (Run r w)) (see (Polls f) q))
           (took_one d (takes.dropping wakes c f Closed (Run r w) p)
           (waits_alike k p (takes.dropping wakes c f Closed (Run r w) p) refl refl refl good) (last_of p.events (Drops f)))
@@ -314,10 +341,10 @@ module _ {T A : Type 0} where
               own true is = refl
               own false is = absurd cc
 
-      takes_so : (d : Due) (p : Plain T A) → is_others r d ≡ false → Waits (with_one r base d n) p
-          → Stands r base n (takes.takes wakes c (Run r w) d p)
+      takes_so : (d : Due) (p : Plain T A) → is_others r d ≡ false → Waits (with_one r base start d n) p
+          → Stands r base start n (takes.takes wakes c (Run r w) d p)
       takes_so d p mine good =
-          let k = with_one r base d n in
+          let k = with_one r base start d n in
           let p1 = takes.robbed wakes c r d.keeper p in
           let p2 = up wakes c (ARun r) p1 in
           let p3 = tell wakes c p2 in
@@ -331,11 +358,12 @@ module _ {T A : Type 0} where
       -- what is taken was the first of its mark
       out_of : (test : Due → Bool) (p : Plain T A) (d : Due) → find test p.due ≡ Some d
           → ((m : Mark) → line m r p.due ≡ one_of m d ++ line m r (without test p.due))
-          → Waits (untaken r base n) p → Waits (with_one r base d n) (record p { due = without test p.due })
+          → Waits (untaken r base start n) p → Waits (with_one r base start d n) (record p { due = without test p.due })
       out_of test p d is first good =
           record {
             marked = marked_without test p good.marked;
             known = λ one. each_found (IsMarked p) test p.due d good.marked.due is;
+            stays = good.stays;
             lines = λ m. subst (λ l. Begins (base m) l) (first m) (good.lines m);
             alone = none_without (is_others r) test p.due good.alone;
             counted = good.counted;
@@ -343,22 +371,22 @@ module _ {T A : Type 0} where
 
       abbrev Taken : Plain T A → (Due → Bool) → Type 0
       Taken p test =
-          Stands r base n
+          Stands r base start n
           (or (find test p.due) (λ d. takes.takes wakes c (Run r w) d (record p { due = without test p.due }))
           (takes.nothing wakes c (Run r w) p))
 
-      rests_so : (p : Plain T A) → Waits (untaken r base n) p → Stands r base n (takes.nothing wakes c (Run r w) p)
+      rests_so : (p : Plain T A) → Waits (untaken r base start n) p → Stands r base start n (takes.nothing wakes c (Run r w) p)
       rests_so p good =
           stops_at n (not_below_itself n) (takes.nothing wakes c (Run r w) p)
-          (nothing_good (Waits (untaken r base n)) (waits_lasts (untaken r base n)) wakes c (Run r w) p good)
+          (nothing_good (Waits (untaken r base start n)) (waits_lasts (untaken r base start n)) wakes c (Run r w) p good)
 
-      found_so : (test : Due → Bool) (p : Plain T A) → Waits (untaken r base n) p
+      found_so : (test : Due → Bool) (p : Plain T A) → Waits (untaken r base start n) p
           → ((d : Due) → find test p.due ≡ Some d → (m : Mark) → line m r p.due ≡ one_of m d ++ line m r (without test p.due))
           → Taken p test
       found_so test p good first = by (find test p.due) refl
         where
           by : (o : Option Due) → find test p.due ≡ o
-              → Stands r base n
+              → Stands r base start n
               (or o (λ d. takes.takes wakes c (Run r w) d (record p { due = without test p.due }))
               (takes.nothing wakes c (Run r w) p))
           by None is = rests_so p good
@@ -366,7 +394,7 @@ module _ {T A : Type 0} where
               takes_so d (record p { due = without test p.due }) (none_found (is_others r) test p.due d good.alone is)
               (out_of test p d is (first d is) good)
 
-      take_so : (p : Plain T A) → Waits (untaken r base n) p → Stands r base n (takes.take wakes c (Run r w) p)
+      take_so : (p : Plain T A) → Waits (untaken r base start n) p → Stands r base start n (takes.take wakes c (Run r w) p)
       take_so p good =
           let last : List (Due → Bool) = is_kept c.robs ∷ is_due ∷ [] in
           pick (Taken p) (is_kept r) (is_common c.first ∷ is_common (other c.first) ∷ last) p.due
@@ -385,25 +413,25 @@ module _ {T A : Type 0} where
           (λ is. absurd (clash (any is_due p.due) is (none_due r c.first p.due good.alone none none1 none2)))
           (λ none4.
           subst
-          (λ o. Stands r base n
+          (λ o. Stands r base start n
           (or o (λ d. takes.takes wakes c (Run r w) d (record p { due = without (λ (d : Due). false) p.due }))
           (takes.nothing wakes c (Run r w) p))) (sym (find_nothing p.due)) (rests_so p good))))))
 
-      way_so : (p : Plain T A) → Waits (untaken r base n) p → Stands r base n (takes.gives_way wakes c r w p)
+      way_so : (p : Plain T A) → Waits (untaken r base start n) p → Stands r base start n (takes.gives_way wakes c r w p)
       way_so p good =
           stops_at 0 (not_below_zero n) (takes.gives_way wakes c r w p)
-          (gives_way_good (Waits (untaken r base 0)) (waits_lasts (untaken r base 0)) wakes c r w p
-          (waits_counts (untaken r base n) (λ run. record run { taken = 0 }) 0 (λ x is. refl) p good))
+          (gives_way_good (Waits (untaken r base start 0)) (waits_lasts (untaken r base start 0)) wakes c r w p
+          (waits_counts (untaken r base start n) (λ run. record run { taken = 0 }) 0 (λ x is. refl) p good))
 
 same_number : (a b : ℕ) → (a == b) ≡ true → a ≡ b
 same_number a b is = grind (arith, nat_tests, is)
 
-module _ (T A : Type 0) (r : ℕ) (base : Mark → List ℕ) (n : ℕ) (wakes : A → Option ℕ) (c : Choice) where
+module _ (T A : Type 0) (r : ℕ) (base : Mark → List ℕ) (start : ℕ → Option Mark) (n : ℕ) (wakes : A → Option ℕ) (c : Choice) where
   abbrev Before : Plain T A → Type 0
-  Before p = Waits (untaken r base n) p
+  Before p = Waits (untaken r base start n) p
 
   abbrev Behind : Plain T A → Type 0
-  Behind p = Stands r base n p
+  Behind p = Stands r base start n p
 
   abbrev MayTake : Taker A → Type 0
   MayTake Try = ⊥
@@ -414,22 +442,22 @@ module _ (T A : Type 0) (r : ℕ) (base : Mark → List ℕ) (n : ℕ) (wakes : 
   take_by Try may p good = absurd may
   take_by (Tick t w) may p good = absurd may
   take_by (Run k w) may p good =
-      subst (λ j. Behind (takes.take wakes c (Run j w) p)) (same_number r k may) (take_so r base n wakes c w p good)
+      subst (λ j. Behind (takes.take wakes c (Run j w) p)) (same_number r k may) (take_so r base start n wakes c w p good)
 
   way_by : (k : ℕ) (w : A) → (r == k) ≡ true → (p : Plain T A) → Before p → Behind (takes.gives_way wakes c k w p)
   way_by k w may p good =
-      subst (λ j. Behind (takes.gives_way wakes c j w p)) (same_number r k may) (way_so r base n wakes c w p good)
+      subst (λ j. Behind (takes.gives_way wakes c j w p)) (same_number r k may) (way_so r base start n wakes c w p good)
 
   abbrev its_ways : Ways wakes c Before Behind
   its_ways =
       record {
-        lasts = waits_lasts (untaken r base n);
-        stops = λ p good. stops_at r base n n (not_below_itself n) p good;
+        lasts = waits_lasts (untaken r base start n);
+        stops = λ p good. stops_at r base start n n (not_below_itself n) p good;
         May = MayTake;
         take = take_by;
         gives_way = way_by;
         MayGo = λ k. not (r == k) ≡ true;
-        gone = λ k may p good. waits_gone (untaken r base n) wakes c k may p good;
+        gone = λ k may p good. waits_gone (untaken r base start n) wakes c k may p good;
         MayClose = ⊥;
         close = λ may fs all p good. absurd may;
       }
@@ -471,11 +499,12 @@ module _ (T A : Type 0) (r : ℕ) (base : Mark → List ℕ) (n : ℕ) (wakes : 
 module _ {T A : Type 0} (r : ℕ) where
   -- a state to begin from
   waits_first : (p : Plain T A) → Marked p → is_some (slice_get p.runs r) ≡ true → any (is_others r) p.due ≡ false
-      → Waits (untaken r (λ m. line m r p.due) (count r p)) p
+      → Waits (untaken r (λ m. line m r p.due) (at has_mark p.futures) (count r p)) p
   waits_first p marked there alone =
       record {
         marked = marked;
         known = λ is. absurd (never_so is);
+        stays = λ j m is. is;
         lines = λ m. ([], sym (nothing_behind (line m r p.due)));
         alone = alone;
         counted = count_there r p there;
@@ -485,25 +514,24 @@ module _ {T A : Type 0} (r : ℕ) where
       never_so is = cc
 
   module _ (wakes : A → Option ℕ) where
+    abbrev Behind_one : Choice → Call T A → Plain T A → Type 0
+    Behind_one c call p = Stands r (λ m. line m r p.due) (at has_mark p.futures) (count r p) (does wakes c call p)
+
+    -- behind one call
+    pub one_so : (c : Choice) (call : Call T A) (p : Plain T A) → Marked p → is_some (slice_get p.runs r) ≡ true
+        → any (is_others r) p.due ≡ false → leaves_to r call p.inside ≡ true → Behind_one c call p
+    one_so c call p marked there alone may =
+        one_call T A r (λ m. line m r p.due) (at has_mark p.futures) (count r p) wakes c call p may (waits_first p marked there alone)
+
     in_order_from : (cs : List (Choice × Call T A)) (p : Plain T A) → Marked p → is_some (slice_get p.runs r) ≡ true
         → any (is_others r) p.due ≡ false → takes_alone wakes r cs p ≡ true → InOrder wakes r cs p
     in_order_from [] p marked there alone may m = sym (nothing_behind (line m r p.due))
     in_order_from (c ∷ cs) p marked there alone may m =
         let q = does wakes c.0 c.1 p in
         let both = both_true (leaves_to r c.1 p.inside) (takes_alone wakes r cs q) may in
-        let base : Mark → List ℕ = λ m. line m r p.due in
-        let s : Stands r base (count r p) q =
-        one_call T A r base (count r p) wakes c.0 c.1 p both.0 (waits_first p marked there alone) in
-        let rest = in_order_from cs q s.marked s.is_there s.alone both.1 m in
-        let x = took_of m r p q in
-        let more = (s.lines m).0 in
-        assoc x (taken wakes m r cs q) (line m r (course wakes cs q).due)
-        ∙ (ap (λ l. x ++ l) rest
-        ∙ (sym (assoc x (line m r q.due) (came wakes m r cs q))
-        ∙ (ap (λ l. l ++ came wakes m r cs q) (s.lines m).1
-        ∙ (assoc (line m r p.due) more (came wakes m r cs q)
-        ∙ ap (λ l. line m r p.due ++ (l ++ came wakes m r cs q))
-        (sym (ap (drop (length (line m r p.due))) (s.lines m).1 ∙ drop_front (line m r p.due) more))))))
+        let s = one_so c.0 c.1 p marked there alone both.0 in
+        two_so (took_of m r p q) (taken wakes m r cs q) (line m r q.due) (line m r (course wakes cs q).due) (line m r p.due) (s.lines m).0
+        (came wakes m r cs q) (came_with m r p q) (in_order_from cs q s.marked s.is_there s.alone both.1 m) (s.lines m).1 refl
 
     pub in_order : (limit : ℕ) (is_static : Bool) (before cs : List (Choice × Call T A))
         → IsAlone wakes r cs (course wakes before (new limit is_static)) → InOrder wakes r cs (course wakes before (new limit is_static))

@@ -4,3 +4,5 @@ pub mod Calling
 pub mod Marked
 pub mod Lines
 pub mod InOrder
+pub mod Altogether
+pub mod TakesDue

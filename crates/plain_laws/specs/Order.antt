@@ -2,8 +2,9 @@
 use Rattle.std.specs.Prelude.{◌≡◌, ℕ, ◌==◌, nat_lt, Bool, true, false, ◌&&◌, not, if◌then◌else◌, Option, is_some}
 use Rattle.std.specs.Prelude.{List, [], ◌∷◌, ◌++◌, length, map, filter, drop, slice_get}
 use Rattle.executor_parts.specs.declared.mark.Mark.{Mark}
+use Rattle.executor_parts.specs.declared.mark.Mark.TheVariants.{Urgent}
 use Rattle.executor_parts.specs.Marks.{same_mark}
-use Rattle.plain_scheduler.specs.State.{Due, Taker, Try, Tick, Run, Code, Poll, Drop, Lose, PollOwn, DropOwn, Close}
+use Rattle.plain_scheduler.specs.State.{Due, Future, Taker, Try, Tick, Run, Code, Poll, Drop, Lose, PollOwn, DropOwn, Close}
 use Rattle.plain_scheduler.specs.State.{Event, Polls, Drops, Choice, Plain}
 use Rattle.plain_scheduler.specs.Lists.{any, or}
 use Rattle.plain_scheduler.specs.Moves.{is_common, is_kept, mark}
@@ -15,6 +16,13 @@ is_kept_of m r d = is_kept r d && same_mark m d.mark
 
 abbrev pub line : Mark → ℕ → List Due → List ℕ
 line m r due = map (λ (d : Due). d.future) (filter (is_kept_of m r) due ++ filter (is_common m) due)
+
+-- the futures of both marks that wait for it
+abbrev pub is_unkept : Due → Bool
+is_unkept d = not (is_some d.keeper)
+
+abbrev pub whole_line : ℕ → List Due → List ℕ
+whole_line r due = map (λ (d : Due). d.future) (filter (is_kept r) due ++ filter is_unkept due)
 
 -- whether another run keeps it
 abbrev pub is_others : ℕ → Due → Bool
@@ -80,6 +88,12 @@ module _ {T A : Type 0} where
   abbrev pub came_with : Mark → ℕ → Plain T A → Plain T A → List ℕ
   came_with m r p q = drop (length (line m r p.due)) (took_of m r p q ++ line m r q.due)
 
+  abbrev pub all_came_with : ℕ → Plain T A → Plain T A → List ℕ
+  all_came_with r p q = drop (length (whole_line r p.due)) (took r p q ++ whole_line r q.due)
+
+  abbrev pub is_urgent : Future T A → Bool
+  is_urgent x = same_mark Urgent x.mark
+
   module _ (wakes : A → Option ℕ) where
     -- in these calls none takes a future but run r, which goes in none of them
     abbrev pub takes_alone : ℕ → List (Choice × Call T A) → Plain T A → Bool
@@ -95,6 +109,15 @@ module _ {T A : Type 0} where
     came m r [] p = []
     came m r (c ∷ cs) p = came_with m r p (does wakes c.0 c.1 p) ++ came m r cs (does wakes c.0 c.1 p)
 
+    -- those of both marks
+    abbrev pub all_taken : ℕ → List (Choice × Call T A) → Plain T A → List ℕ
+    all_taken r [] p = []
+    all_taken r (c ∷ cs) p = took r p (does wakes c.0 c.1 p) ++ all_taken r cs (does wakes c.0 c.1 p)
+
+    abbrev pub all_came : ℕ → List (Choice × Call T A) → Plain T A → List ℕ
+    all_came r [] p = []
+    all_came r (c ∷ cs) p = all_came_with r p (does wakes c.0 c.1 p) ++ all_came r cs (does wakes c.0 c.1 p)
+
     -- run r is there, and no other keeps a future; in these calls none takes a future but run r, which goes in none of them
     pub record IsAlone (r : ℕ) (cs : List (Choice × Call T A)) (p : Plain T A) : Type 0 where
       pub is_there : is_some (slice_get p.runs r) ≡ true
@@ -105,3 +128,14 @@ module _ {T A : Type 0} where
     abbrev pub InOrder : ℕ → List (Choice × Call T A) → Plain T A → Type 0
     InOrder r cs p =
         (m : Mark) → taken m r cs p ++ line m r (course wakes cs p).due ≡ line m r p.due ++ came m r cs p
+
+    -- and so it is of all futures, where none is urgent
+    abbrev pub InWholeOrder : ℕ → List (Choice × Call T A) → Plain T A → Type 0
+    InWholeOrder r cs p =
+        any is_urgent (course wakes cs p).futures ≡ false
+        → all_taken r cs p ++ whole_line r (course wakes cs p).due ≡ whole_line r p.due ++ all_came r cs p
+
+    -- as the poll of run r's own future ends with Pending, the run takes a future that is due
+    abbrev pub TakesDue : Choice → ℕ → Plain T A → Type 0
+    TakesDue c r p =
+        (f : ℕ) × ((took r p (does wakes c Pends p) ≡ f ∷ []) × (any (λ (d : Due). f == d.future) p.due ≡ true))

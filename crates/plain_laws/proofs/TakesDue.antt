@@ -43,21 +43,21 @@ found_due t (e ∷ due) d is = by (t e) (found_due t due d) is
         (ap (λ (x : Due). d.future == x.future) (sym (the_same is)) ∙ is_itself d.future)
     by false rest is = late (d.future == e.future) (rest is)
 
+abbrev Found : List Due → (Due → Bool) → Type 0
+Found due t = is_some (find t due) ≡ true
+
 chosen_found : (r : ℕ) (c : Choice) (due : List Due) → any is_due due ≡ true
     → is_some (find (chosen (is_kept r ∷ is_common c.first ∷ is_common (other c.first) ∷ is_kept c.robs ∷ is_due ∷ []) due) due) ≡ true
 chosen_found r c due some =
-    pick Found (is_kept r) (is_common c.first ∷ is_common (other c.first) ∷ is_kept c.robs ∷ is_due ∷ []) due (some_found (is_kept r) due)
+    pick (Found due) (is_kept r) (is_common c.first ∷ is_common (other c.first) ∷ is_kept c.robs ∷ is_due ∷ []) due (some_found (is_kept r) due)
     (λ a.
-    pick Found (is_common c.first) (is_common (other c.first) ∷ is_kept c.robs ∷ is_due ∷ []) due (some_found (is_common c.first) due)
+    pick (Found due) (is_common c.first) (is_common (other c.first) ∷ is_kept c.robs ∷ is_due ∷ []) due (some_found (is_common c.first) due)
     (λ b.
-    pick Found (is_common (other c.first)) (is_kept c.robs ∷ is_due ∷ []) due (some_found (is_common (other c.first)) due)
+    pick (Found due) (is_common (other c.first)) (is_kept c.robs ∷ is_due ∷ []) due (some_found (is_common (other c.first)) due)
     (λ e.
-    pick Found (is_kept c.robs) (is_due ∷ []) due (some_found (is_kept c.robs) due)
-    (λ f. pick Found is_due [] due (some_found is_due due) (λ g. absurd (clash (any is_due due) some g))))))
+    pick (Found due) (is_kept c.robs) (is_due ∷ []) due (some_found (is_kept c.robs) due)
+    (λ f. pick (Found due) is_due [] due (some_found is_due due) (λ g. absurd (clash (any is_due due) some g))))))
   where
-    abbrev Found : (Due → Bool) → Type 0
-    Found t = is_some (find t due) ≡ true
-
     clash : (a : Bool) → a ≡ true → a ≡ false → ⊥
     clash true one two = cc
     clash false one two = cc
@@ -150,8 +150,7 @@ module _ {T A : Type 0} (wakes : A → Option ℕ) (c : Choice) (r : ℕ) (w : A
       by None is one = absurd cc
       by (Some d) is one =
           let p1 : Plain T A = record p { due = without (chosen (looks c (Run r w)) p.due) p.due } in
-          let p4 = takes.kept wakes c r (tell wakes c (up wakes c (ARun r) (takes.robbed wakes c r d.keeper p1))) in
-          (
+          let p4 = takes.kept wakes c r (tell wakes c (up wakes c (ARun r) (takes.robbed wakes c r d.keeper p1))) in (
             d,
             (
               run_begun d (takes.counted wakes c r p4) (counted_so r n p4 (taken_counts r n wakes c w d p1 good)),
@@ -164,8 +163,7 @@ module _ {T A : Type 0} (wakes : A → Option ℕ) (c : Choice) (r : ℕ) (w : A
       → any is_due p.due ≡ true → TakesDue wakes c r p
   takes_due p rest inside there some =
       let p1 : Plain T A = record p { inside = rest } in
-      let it = take_begins wakes c r w (count r p) p1 (count_there r p there) some in
-      (
+      let it = take_begins wakes c r w (count r p) p1 (count_there r p there) some in (
         it.0.future,
         (
           subst

@@ -1,6 +1,6 @@
 -- Where no future is urgent it takes all futures in order.
-use Rattle.std.proofs.Common.{◌≡◌, ℕ, zero, suc, ◌&&◌, not, is_some, nat_lt, cond, filter, drop, map, Bool, true, false}
-use Rattle.std.proofs.Common.{List, [], ◌∷◌, ◌++◌, length, Option, Some, None, slice_get, refl, sym, subst, ap, ◌∙◌}
+use Rattle.std.proofs.Common.{◌≡◌, ℕ, zero, suc, ◌&&◌, is_some, cond, filter, map, Bool, true, false, List, [], ◌∷◌, ◌++◌, Option, Some}
+use Rattle.std.proofs.Common.{None, slice_get, refl, sym, ap, ◌∙◌}
 use Rattle.executor_parts.specs.declared.mark.Mark.{Mark}
 use Rattle.executor_parts.specs.declared.mark.Mark.TheVariants.{Plain as PlainMark, Urgent}
 use Rattle.executor_parts.specs.Marks.{same_mark}
@@ -13,7 +13,8 @@ use Rattle.plain_laws.specs.Order.{leaves_to, line, of_mark, takes_alone, took, 
 use Rattle.plain_laws.proofs.Words.{Each, at, both_true, nothing_behind}
 use Rattle.plain_laws.proofs.Lines.{future_of}
 use Rattle.plain_laws.proofs.Marked.{IsMarked, Marked, are_marked, has_mark}
-use Rattle.plain_laws.proofs.InOrder.{Stands, one_so, two_so}
+use Rattle.plain_laws.proofs.InOrder.{one_so}
+use Rattle.plain_laws.proofs.Waits.{two_so}
 
 -- two tests that say the same of each
 filter_as : {X : Type 0} (P : X → Type 0) (t s : X → Bool) → ((x : X) → P x → t x ≡ s x) → (xs : List X) → Each P xs
@@ -62,7 +63,8 @@ module _ {T A : Type 0} where
   line_all : (r : ℕ) (q : Plain T A) → Marked q → ArePlain q.futures → line PlainMark r q.due ≡ whole_line r q.due
   line_all r q marked plain =
       ap (λ l. map future_of (l ++ filter (is_common PlainMark) q.due))
-      (filter_as (IsMarked q) (is_kept_of PlainMark r) (is_kept r) (λ d is. all (is_kept r d) d (plain d.future d.mark is)) q.due marked.due)
+      (filter_as (IsMarked q) (is_kept_of PlainMark r) (is_kept r) (λ d is. all (is_kept r d) d (plain d.future d.mark is)) q.due
+      marked.due)
       ∙ ap (λ l. map future_of (filter (is_kept r) q.due ++ l))
       (filter_as (IsMarked q) (is_common PlainMark) is_unkept (λ d is. all (is_unkept d) d (plain d.future d.mark is)) q.due marked.due)
     where

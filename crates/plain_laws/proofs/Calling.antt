@@ -1,21 +1,19 @@
 -- What lasts so is behind each call, where it is behind each take that the call may come to.
-use Rattle.std.proofs.Common.{◌≡◌, ℕ, nat_lt, cond, true, false}
-use Rattle.std.proofs.Common.{List, [], ◌∷◌, ◌++◌, length, Option, Some, None, slice_get, refl, ap}
+use Rattle.std.proofs.Common.{◌≡◌, ℕ, nat_lt, cond, true, false, List, [], ◌∷◌, ◌++◌, length, Option, Some, None, slice_get, refl}
 use Rattle.executor_parts.specs.declared.mark.Mark.{Mark}
 use Rattle.task_moves.specs.AbstractTask as abstract
 use Rattle.task_moves.specs.AbstractTask.{AbstractTask, Left}
-use Rattle.plain_scheduler.specs.State.{Answer, ARun, ATick, Cancelled, Choice, Close as Closing, Closed, Code, Done, Drop}
-use Rattle.plain_scheduler.specs.State.{DropOwn, Drops, End, Finished, Full, Future, Gave, Gives, Lose, Loses}
-use Rattle.plain_scheduler.specs.State.{Made, No, NoMemory, Pending, Plain, Poll, PollOwn, Ready, Run, Taker, Tick}
-use Rattle.plain_scheduler.specs.State.{Try, Yes}
-use Rattle.plain_scheduler.specs.Lists.{each, on, or}
-use Rattle.plain_scheduler.specs.Moves.{answers, appended, becomes, called, changed, copied, enters, leaves, let_go, put, release, runs, see}
-use Rattle.plain_scheduler.specs.Moves.{task, tell, used, wake}
+use Rattle.plain_scheduler.specs.State.{Answer, ATick, Cancelled, Choice, Close as Closing, Closed, Code, Done, Drop, DropOwn, Drops, End}
+use Rattle.plain_scheduler.specs.State.{Finished, Full, Future, Gave, Gives, Lose, Loses, Made, No, NoMemory, Pending, Plain, Poll}
+use Rattle.plain_scheduler.specs.State.{PollOwn, Ready, Run, Taker, Tick, Try, Yes}
+use Rattle.plain_scheduler.specs.Lists.{on, or}
+use Rattle.plain_scheduler.specs.Moves.{answers, appended, becomes, called, changed, copied, enters, leaves, let_go, put, release, runs}
+use Rattle.plain_scheduler.specs.Moves.{see, task, tell, used, wake}
 use Rattle.plain_scheduler.specs.Takes as takes
 use Rattle.plain_scheduler.specs.Calls as calls
 use Rattle.plain_scheduler.specs.Calls.{Call, does, is_granted, living_from}
 use Rattle.plain_laws.proofs.Words.{last_there}
-use Rattle.plain_laws.proofs.Walk.{Keeps, Lasts, becomes_good, calls_good, copied_good, dropping_good, each_good, freed_good, given_up_good}
+use Rattle.plain_laws.proofs.Walk.{Lasts, becomes_good, calls_good, copied_good, dropping_good, each_good, freed_good, given_up_good}
 use Rattle.plain_laws.proofs.Walk.{goes_good, if_so, is_some_so, leaves_good, put_good, release_good, says, tell_good, used_good}
 use Rattle.plain_laws.proofs.Walk.{wake_good}
 

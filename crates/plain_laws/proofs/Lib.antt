@@ -3,6 +3,7 @@ pub mod Walk
 pub mod Calling
 pub mod Marked
 pub mod Lines
+pub mod Waits
 pub mod InOrder
 pub mod Altogether
 pub mod TakesDue

@@ -1,7 +1,6 @@
 -- Which futures wait for a run, where one is appended, kept or taken.
-use Rattle.std.proofs.Common.{◌≡◌, ℕ, ◌==◌, ◌&&◌, not, is_some, cond, Bool, true, false, List, [], ◌∷◌, ◌++◌, map, filter, find}
-use Rattle.std.proofs.Common.{Option, Some, None, refl, sym, subst, ap, ◌∙◌}
-use Rattle.std.proofs.Common.{arith}
+use Rattle.std.proofs.Common.{◌≡◌, ℕ, ◌==◌, ◌&&◌, not, is_some, cond, Bool, true, false, List, [], ◌∷◌, ◌++◌, map, filter, find, Option}
+use Rattle.std.proofs.Common.{Some, None, refl, sym, subst, ap, ◌∙◌, arith}
 use Rattle.std.proofs.lemmas.Bool.Decides.{nat_tests}
 use Rattle.executor_parts.specs.declared.mark.Mark.{Mark}
 use Rattle.executor_parts.specs.declared.mark.Mark.TheVariants.{Plain as PlainMark, Urgent}
@@ -11,7 +10,7 @@ use Rattle.plain_scheduler.specs.Lists.{any, or, without}
 use Rattle.plain_scheduler.specs.Moves.{is_common, is_due, is_kept}
 use Rattle.plain_laws.specs.Order.{is_kept_of, is_others, line}
 use Rattle.plain_laws.proofs.Words.{assoc, both_true, filter_both, filter_first, filter_found, filter_none, filter_without, find_passes}
-use Rattle.plain_laws.proofs.Words.{is_itself, map_both, mark_itself, nothing_behind, same_marks}
+use Rattle.plain_laws.proofs.Words.{is_itself, map_both, nothing_behind, same_marks}
 
 abbrev pub future_of : Due → ℕ
 future_of d = d.future

@@ -1,21 +1,21 @@
 -- Each future that is due is there, and has the mark by which it is due: so it is behind each list of calls of a new scheduler.
-use Rattle.std.proofs.Common.{◌≡◌, ℕ, zero, suc, ◌+◌, ◌==◌, is_some, nat_lt, count_by, cond, filter, Bool, true, false}
-use Rattle.std.proofs.Common.{List, [], ◌∷◌, ◌++◌, length, find, Option, Some, None, slice_get, slice_set, refl, sym, subst, ap, ◌∙◌}
+use Rattle.std.proofs.Common.{◌≡◌, ℕ, ◌+◌, ◌==◌, is_some, nat_lt, count_by, cond, filter, Bool, true, List, [], ◌∷◌, ◌++◌, find, Option}
+use Rattle.std.proofs.Common.{Some, None, slice_get, slice_set, refl, subst, ◌∙◌}
 use Rattle.executor_parts.specs.declared.mark.Mark.{Mark}
 use Rattle.executor_parts.specs.declared.mark.Mark.TheVariants.{Plain as PlainMark, Urgent}
 use Rattle.task_moves.specs.AbstractTask as abstract
 use Rattle.plain_scheduler.specs.State.{ARun, ATick, Choice, Close as Closing, Closed, Code, Done, Drop, DropOwn, Drops, Due, Future}
 use Rattle.plain_scheduler.specs.State.{Lose, Plain, Poll, PollOwn, Polls, Run, Running, Taker, Tick, Try}
-use Rattle.plain_scheduler.specs.Lists.{any, each, on, or, repeat, without}
-use Rattle.plain_scheduler.specs.Moves.{answers, appended, chosen, changed, enters, given_back, is_common, is_kept, keeps, leaves, looks, mark}
-use Rattle.plain_scheduler.specs.Moves.{moved, put, runs, see, task, tell, up}
+use Rattle.plain_scheduler.specs.Lists.{each, on, or, repeat, without}
+use Rattle.plain_scheduler.specs.Moves.{appended, chosen, changed, enters, given_back, is_common, is_kept, keeps, looks, mark, moved, put}
+use Rattle.plain_scheduler.specs.Moves.{runs, see, task, tell, up}
 use Rattle.plain_scheduler.specs.Takes as takes
 use Rattle.plain_scheduler.specs.Calls as calls
 use Rattle.plain_scheduler.specs.Calls.{Call, course, does, new}
 use Rattle.plain_laws.proofs.Words.{Each, at, at_more, at_set, each_as, each_found, each_last, each_without}
 use Rattle.plain_laws.proofs.Walk.{Keeps, Lasts, closed_good, each_good, freed_good, gives_way_good, if_so, leaves_good, nothing_good}
 use Rattle.plain_laws.proofs.Walk.{on_good, or_good, put_good, repeat_good, says, tell_good, up_good}
-use Rattle.plain_laws.proofs.Calling.{MayBy, MayCall, MayCode, MayInside, MayNext, Ways, call_so}
+use Rattle.plain_laws.proofs.Calling.{MayBy, MayCall, MayInside, MayNext, Ways, call_so}
 
 module _ {T A : Type 0} where
   abbrev pub has_mark : Future T A → Mark

@@ -1,19 +1,19 @@
 -- A run that is polled takes one, where some future is due.
-use Rattle.std.proofs.Common.{◌≡◌, ℕ, zero, suc, ◌+◌, ◌==◌, not, is_some, nat_lt, count_by, cond, find, Bool, true, false}
-use Rattle.std.proofs.Common.{List, [], ◌∷◌, ◌++◌, Option, Some, None, slice_get, slice_set, refl, sym, subst, ap, ◌∙◌}
+use Rattle.std.proofs.Common.{◌≡◌, ℕ, ◌+◌, ◌==◌, is_some, nat_lt, count_by, cond, find, Bool, true, false, List, [], ◌∷◌, ◌++◌, Option}
+use Rattle.std.proofs.Common.{Some, None, slice_get, slice_set, refl, sym, subst, ap, ◌∙◌}
 use Rattle.executor_parts.specs.Marks.{other}
 use Rattle.task_moves.specs.AbstractTask as abstract
-use Rattle.plain_scheduler.specs.State.{ARun, Choice, Closed, Code, Drops, Due, Event, Plain, Poll, PollOwn, Polls, Run, Running}
+use Rattle.plain_scheduler.specs.State.{ARun, Choice, Closed, Code, Drops, Due, Plain, Poll, PollOwn, Polls, Run, Running}
 use Rattle.plain_scheduler.specs.Lists.{any, on, or, repeat, without}
 use Rattle.plain_scheduler.specs.Moves.{chosen, enters, is_common, is_due, is_kept, keeps, looks, moved, put, runs, see, task, tell, up}
 use Rattle.plain_scheduler.specs.Takes as takes
 use Rattle.plain_scheduler.specs.Calls as calls
-use Rattle.plain_scheduler.specs.Calls.{does}
-use Rattle.plain_laws.specs.Order.{TakesDue, count, last_begun, took}
-use Rattle.plain_laws.proofs.Words.{at, at_more, below_next, find_passes, is_itself, set_there}
+use Rattle.plain_laws.specs.Order.{TakesDue, count, last_begun}
+use Rattle.plain_laws.proofs.Words.{at, at_more, below_next, is_itself, set_there}
 use Rattle.plain_laws.proofs.Walk.{Keeps, Lasts, each_good, if_so, on_good, put_good, repeat_good, tell_good, up_good}
-use Rattle.plain_laws.proofs.Marked.{changed_marks, has_mark}
-use Rattle.plain_laws.proofs.InOrder.{count_so, count_there, last_of, pick, taken_of}
+use Rattle.plain_laws.proofs.Marked.{changed_marks}
+use Rattle.plain_laws.proofs.InOrder.{count_so, count_there, last_of}
+use Rattle.plain_laws.proofs.Waits.{clash, pick, taken_of}
 
 -- one that passes a test is found, and is due
 some_found : (t : Due → Bool) (due : List Due) → any t due ≡ true → is_some (find t due) ≡ true
@@ -32,7 +32,8 @@ found_due t (e ∷ due) d is = by (t e) (found_due t due d) is
     the_same : Some e ≡ Some d → d ≡ e
     the_same is = cc
 
-    late : (b : Bool) → any (λ (e : Due). d.future == e.future) due ≡ true → cond b true (any (λ (e : Due). d.future == e.future) due) ≡ true
+    late : (b : Bool) → any (λ (e : Due). d.future == e.future) due ≡ true
+        → cond b true (any (λ (e : Due). d.future == e.future) due) ≡ true
     late true is = refl
     late false is = is
 
@@ -49,7 +50,8 @@ Found due t = is_some (find t due) ≡ true
 chosen_found : (r : ℕ) (c : Choice) (due : List Due) → any is_due due ≡ true
     → is_some (find (chosen (is_kept r ∷ is_common c.first ∷ is_common (other c.first) ∷ is_kept c.robs ∷ is_due ∷ []) due) due) ≡ true
 chosen_found r c due some =
-    pick (Found due) (is_kept r) (is_common c.first ∷ is_common (other c.first) ∷ is_kept c.robs ∷ is_due ∷ []) due (some_found (is_kept r) due)
+    pick (Found due) (is_kept r) (is_common c.first ∷ is_common (other c.first) ∷ is_kept c.robs ∷ is_due ∷ []) due
+    (some_found (is_kept r) due)
     (λ a.
     pick (Found due) (is_common c.first) (is_common (other c.first) ∷ is_kept c.robs ∷ is_due ∷ []) due (some_found (is_common c.first) due)
     (λ b.
@@ -57,10 +59,6 @@ chosen_found r c due some =
     (λ e.
     pick (Found due) (is_kept c.robs) (is_due ∷ []) due (some_found (is_kept c.robs) due)
     (λ f. pick (Found due) is_due [] due (some_found is_due due) (λ g. absurd (clash (any is_due due) some g))))))
-  where
-    clash : (a : Bool) → a ≡ true → a ≡ false → ⊥
-    clash true one two = cc
-    clash false one two = cc
 
 module _ {T A : Type 0} (r n : ℕ) where
   abbrev Counts : Plain T A → Type 0
@@ -87,7 +85,8 @@ module _ {T A : Type 0} (r n : ℕ) where
       if_so Counts (nat_lt (count_by (is_kept k) p.due) 512) (moved k test p) p (moved_counts k test p good) good
 
   module _ (wakes : A → Option ℕ) (c : Choice) (w : A) where
-    taken_counts : (d : Due) → Keeps Counts (λ p. takes.kept wakes c r (tell wakes c (up wakes c (ARun r) (takes.robbed wakes c r d.keeper p))))
+    taken_counts : (d : Due)
+        → Keeps Counts (λ p. takes.kept wakes c r (tell wakes c (up wakes c (ARun r) (takes.robbed wakes c r d.keeper p))))
     taken_counts d p good =
         let p1 = takes.robbed wakes c r d.keeper p in
         let p2 = up wakes c (ARun r) p1 in

@@ -1,21 +1,17 @@
 -- What lasts over whatever the plain scheduler does behind a take and before the next.
-use Rattle.std.proofs.Common.{◌≡◌, ℕ, zero, suc, ◌-◌, ◌==◌, is_some, nat_lt, min, cond, Bool, true, false}
-use Rattle.std.proofs.Common.{List, [], ◌∷◌, ◌++◌, length, map, find, Option, Some, None, slice_get, slice_set, refl, ap, ◌∙◌}
-use Rattle.executor_parts.specs.declared.mark.Mark.{Mark}
+use Rattle.std.proofs.Common.{◌≡◌, ℕ, zero, suc, ◌-◌, is_some, min, cond, Bool, true, false, List, [], ◌∷◌, ◌++◌, length, map, find}
+use Rattle.std.proofs.Common.{Option, Some, None, slice_get, slice_set, refl, ap}
 use Rattle.task_moves.specs.AbstractTask as abstract
-use Rattle.task_moves.specs.AbstractTask.{AbstractTask, Left}
+use Rattle.task_moves.specs.AbstractTask.{AbstractTask}
 use Rattle.task_moves.specs.LocalTask.{info_of, told}
-use Rattle.plain_scheduler.specs.State.{Answer, ARun, ATick, AtOnce, Calls, Choice, Closed, Code, Done, Drop, DropOwn, Drops}
-use Rattle.plain_scheduler.specs.State.{Close as Closing, Due, End, Finished, Full, Future, Gave, Gives, Granted, Later, Lose, Loses, Lying}
-use Rattle.plain_scheduler.specs.State.{Cancelled, Made, No, NoMemory, Pending, Plain, Poll, PollOwn, Polls, Ready, Refusal, Run}
-use Rattle.plain_scheduler.specs.State.{Running, Taker, Tick, Try, Who, Yes}
+use Rattle.plain_scheduler.specs.State.{Answer, ARun, ATick, AtOnce, Calls, Choice, End, Future, Granted, Later, Lying, No, NoMemory}
+use Rattle.plain_scheduler.specs.State.{Pending, Plain, Refusal, Run, Running, Taker, Tick, Try, Who}
 use Rattle.plain_scheduler.specs.Lists.{any, each, on, or, repeat, without}
-use Rattle.plain_scheduler.specs.Moves.{answers, appended, becomes, called, changed, copied, enters, is_called, leaves, let_go, lies}
-use Rattle.plain_scheduler.specs.Moves.{no_task, put, release, runs, see, task, tell, told_at, up, used, wake}
+use Rattle.plain_scheduler.specs.Moves.{answers, appended, becomes, called, changed, copied, is_called, leaves, let_go, lies, no_task}
+use Rattle.plain_scheduler.specs.Moves.{put, release, runs, see, task, tell, told_at, up, used, wake}
 use Rattle.plain_scheduler.specs.Takes as takes
 use Rattle.plain_scheduler.specs.Calls as calls
-use Rattle.plain_scheduler.specs.Calls.{Call, does, is_granted, living_from}
-use Rattle.plain_laws.proofs.Words.{last_there, set_there}
+use Rattle.plain_laws.proofs.Words.{set_there}
 
 pub is_some_so : {X : Type 0} (o : Option X) (x : X) → o ≡ Some x → is_some o ≡ true
 is_some_so o x is = ap is_some is

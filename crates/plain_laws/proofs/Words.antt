@@ -1,6 +1,7 @@
 -- Words on lists and tests.
-use Rattle.std.proofs.Common.{◌≡◌, ℕ, zero, suc, ◌+◌, fold, ◌==◌, ◌&&◌, nat_lt, cond, Bool, true, false, List, [], ◌∷◌, ◌++◌, length, map, drop}
-use Rattle.std.proofs.Common.{count_by, filter, find, is_some, Option, Some, None, slice_get, slice_set, refl, sym, ap, subst, ◌∙◌, arith}
+use Rattle.std.proofs.Common.{◌≡◌, ℕ, zero, suc, ◌+◌, fold, ◌==◌, ◌&&◌, nat_lt, cond, Bool, true, false, List, [], ◌∷◌, ◌++◌, length, map}
+use Rattle.std.proofs.Common.{drop, count_by, filter, find, is_some, Option, Some, None, slice_get, slice_set, refl, sym, ap, subst, ◌∙◌}
+use Rattle.std.proofs.Common.{arith}
 use Rattle.std.proofs.lemmas.Bool.Decides.{nat_tests}
 use Rattle.executor_parts.specs.declared.mark.Mark.{Mark}
 use Rattle.executor_parts.specs.declared.mark.Mark.TheVariants.{Plain as PlainMark, Urgent}
@@ -123,7 +124,8 @@ module _ {X : Type 0} where
   filter_none t s other [] none = refl
   filter_none t s other (x ∷ xs) none = by (filter_none t s other xs) (s x) refl none
     where
-      by : (any s xs ≡ false → filter t xs ≡ []) → (b : Bool) → s x ≡ b → cond b true (any s xs) ≡ false → cond (t x) (x ∷ filter t xs) (filter t xs) ≡ []
+      by : (any s xs ≡ false → filter t xs ≡ []) → (b : Bool) → s x ≡ b → cond b true (any s xs) ≡ false
+          → cond (t x) (x ∷ filter t xs) (filter t xs) ≡ []
       by rest true is none = absurd cc
       by rest false is none =
           ap (λ b. cond b (x ∷ filter t xs) (filter t xs)) (other x is) ∙ rest none
@@ -171,7 +173,8 @@ module _ {X : Type 0} where
   none_last t [] d none is = ap (λ a. cond a true false) is
   none_last t (x ∷ xs) d none is = by (λ none. none_last t xs d none is) (t x) none
     where
-      by : (any t xs ≡ false → any t (xs ++ d ∷ []) ≡ false) → (a : Bool) → cond a true (any t xs) ≡ false → cond a true (any t (xs ++ d ∷ [])) ≡ false
+      by : (any t xs ≡ false → any t (xs ++ d ∷ []) ≡ false) → (a : Bool) → cond a true (any t xs) ≡ false
+          → cond a true (any t (xs ++ d ∷ [])) ≡ false
       by rest true none = absurd cc
       by rest false none = rest none
 

@@ -1,11 +1,11 @@
 -- In which order a run takes the futures of each mark that alone takes futures: as they came into the list.
-use Rattle.std.specs.Prelude.{◌≡◌, ℕ, ◌==◌, nat_lt, Bool, true, false, ◌&&◌, not, if◌then◌else◌, Option, is_some}
-use Rattle.std.specs.Prelude.{List, [], ◌∷◌, ◌++◌, length, map, filter, drop, slice_get}
+use Rattle.std.specs.Prelude.{◌≡◌, ℕ, ◌==◌, nat_lt, Bool, true, false, ◌&&◌, not, if◌then◌else◌, Option, is_some, List, [], ◌∷◌, ◌++◌}
+use Rattle.std.specs.Prelude.{length, map, filter, drop, slice_get}
 use Rattle.executor_parts.specs.declared.mark.Mark.{Mark}
 use Rattle.executor_parts.specs.declared.mark.Mark.TheVariants.{Urgent}
 use Rattle.executor_parts.specs.Marks.{same_mark}
-use Rattle.plain_scheduler.specs.State.{Due, Future, Taker, Try, Tick, Run, Code, Poll, Drop, Lose, PollOwn, DropOwn, Close}
-use Rattle.plain_scheduler.specs.State.{Event, Polls, Drops, Choice, Plain}
+use Rattle.plain_scheduler.specs.State.{Due, Future, Taker, Try, Tick, Run, Code, Poll, Drop, Lose, PollOwn, DropOwn, Close, Event, Polls}
+use Rattle.plain_scheduler.specs.State.{Drops, Choice, Plain}
 use Rattle.plain_scheduler.specs.Lists.{any, or}
 use Rattle.plain_scheduler.specs.Moves.{is_common, is_kept, mark}
 use Rattle.plain_scheduler.specs.Calls.{Call, TryTick, PollTick, DropExecutor, Pends, EndsWith, Ends, course, does}

@@ -1,5 +1,5 @@
 -- What lasts so is behind each call, where it is behind each take that the call may come to.
-use Rattle.std.proofs.Common.{◌≡◌, ℕ, nat_lt, cond, true, false, List, [], ◌∷◌, ◌++◌, length, Option, Some, None, slice_get, refl}
+use Rattle.std.proofs.Common.{◌≡◌, ℕ, nat_lt, cond, Bool, true, false, List, [], ◌∷◌, ◌++◌, length, Option, Some, None, slice_get, refl}
 use Rattle.executor_parts.specs.declared.mark.Mark.{Mark}
 use Rattle.task_moves.specs.AbstractTask as abstract
 use Rattle.task_moves.specs.AbstractTask.{AbstractTask, Left}
@@ -13,17 +13,34 @@ use Rattle.plain_scheduler.specs.Takes as takes
 use Rattle.plain_scheduler.specs.Calls as calls
 use Rattle.plain_scheduler.specs.Calls.{Call, does, is_granted, living_from}
 use Rattle.plain_laws.proofs.Words.{last_there}
-use Rattle.plain_laws.proofs.Walk.{Lasts, becomes_good, calls_good, copied_good, dropping_good, each_good, freed_good, given_up_good}
+use Rattle.plain_laws.proofs.Walk.{Lasts, becomes_good, calls_good, copied_good, each_good, freed_good, given_up_good}
 use Rattle.plain_laws.proofs.Walk.{goes_good, if_so, is_some_so, leaves_good, put_good, release_good, says, tell_good, used_good}
 use Rattle.plain_laws.proofs.Walk.{wake_good}
 
--- what may be taken, and by whom
+-- a try or tick that has taken one takes none behind that
+abbrev pub MayNextOf : {A : Type 0} → (Taker A → Type 0) → Taker A → Type 0
+MayNextOf May Try = Unit {0}
+MayNextOf May (Tick t w) = Unit {0}
+MayNextOf May (Run k w) = May (Run k w)
+
+abbrev pub MayByOf : {A : Type 0} → (Taker A → Type 0) → Option (Taker A) → Type 0
+MayByOf May None = Unit {0}
+MayByOf May (Some by) = MayNextOf May by
+
+-- what may be taken, and by whom; which user code may begin
 pub record Ways {T A : Type 0} (wakes : A → Option ℕ) (c : Choice) (Good After : Plain T A → Type 0) : Type 1 where
   pub lasts : Lasts Good
   pub stops : (p : Plain T A) → Good p → After p
   pub May : Taker A → Type 0
   pub take : (by : Taker A) → May by → (p : Plain T A) → Good p → After (takes.take wakes c by p)
   pub gives_way : (k : ℕ) (w : A) → May (Run k w) → (p : Plain T A) → Good p → After (takes.gives_way wakes c k w p)
+  pub MayEnter : Code T A → Type 0
+  pub enter : (code : Code T A) → MayEnter code → (p : Plain T A) → Good p → Good (enters code p)
+  pub drops : (f : ℕ) (end : End T) (by : Taker A) → MayNextOf May by → MayEnter (Drop f end by)
+  pub loses : (awaiter : Option A) (by : Option (Taker A)) → MayByOf May by → MayEnter (Lose awaiter by)
+  pub drops_own : (k : ℕ) (answer : Answer T) → MayEnter (DropOwn k answer)
+  pub pops : (code : Code T A) (rest : List (Code T A)) (p : Plain T A) → p.inside ≡ code ∷ rest → Good p
+      → Good (record p { inside = rest })
   pub MayGo : ℕ → Type 0
   pub gone : (k : ℕ) → MayGo k → (p : Plain T A) → Good p → Good (calls.gone wakes c k p)
   pub MayClose : Type 0
@@ -34,13 +51,10 @@ module _ {T A : Type 0} (wakes : A → Option ℕ) (c : Choice) (Good After : Pl
   tells_so p = tell wakes c p
 
   abbrev pub MayNext : Taker A → Type 0
-  MayNext Try = Unit {0}
-  MayNext (Tick t w) = Unit {0}
-  MayNext (Run k w) = ways.May (Run k w)
+  MayNext by = MayNextOf ways.May by
 
   abbrev pub MayBy : Option (Taker A) → Type 0
-  MayBy None = Unit {0}
-  MayBy (Some by) = MayNext by
+  MayBy by = MayByOf ways.May by
 
   abbrev pub MayCode : Code T A → Type 0
   MayCode (Poll f by) = MayNext by
@@ -54,20 +68,28 @@ module _ {T A : Type 0} (wakes : A → Option ℕ) (c : Choice) (Good After : Pl
   MayInside [] = Unit {0}
   MayInside (code ∷ rest) = MayCode code
 
-  abbrev pub MayCall : Call T A → List (Code T A) → Type 0
-  MayCall calls.TryTick inside = ways.May Try
-  MayCall (calls.PollTick t w) inside = ways.May (Tick t w)
-  MayCall calls.DropExecutor inside = ways.MayClose
-  MayCall calls.Pends inside = MayInside inside
-  MayCall (calls.EndsWith v) inside = MayInside inside
-  MayCall calls.Ends inside = MayInside inside
-  MayCall _ inside = Unit {0}
+  abbrev pub MayCall : Call T A → Plain T A → Type 0
+  MayCall calls.TryTick p = ways.May Try
+  MayCall (calls.PollTick t w) p = ways.May (Tick t w)
+  MayCall (calls.PollRun k w) p = or (slice_get p.runs k) (λ run. run.is_over) true ≡ false → ways.MayEnter (PollOwn k w)
+  MayCall calls.DropExecutor p = ways.MayClose
+  MayCall calls.Pends p = MayInside p.inside
+  MayCall (calls.EndsWith v) p = MayInside p.inside
+  MayCall calls.Ends p = MayInside p.inside
+  MayCall _ p = Unit {0}
 
   abbrev Leads : (Plain T A → Plain T A) → Type 0
   Leads f = (p : Plain T A) → Good p → After (f p)
 
-  same_good : (p q : Plain T A) → p.futures ≡ q.futures → p.due ≡ q.due → p.runs ≡ q.runs → Good p → Good q
-  same_good p q one two three good = ways.lasts.alike p q one two three good
+  same_good : (p q : Plain T A) → p.futures ≡ q.futures → p.due ≡ q.due → p.runs ≡ q.runs → p.inside ≡ q.inside → Good p → Good q
+  same_good p q one two three four good = ways.lasts.alike p q one two three four good
+
+  -- a drop begins
+  dropping_so : (f : ℕ) (end : End T) (by : Taker A) → MayNext by → Leads (takes.dropping wakes c f end by)
+  dropping_so f end by may p good =
+      ways.stops (takes.dropping wakes c f end by p)
+      (ways.enter (Drop f end by) (ways.drops f end by may) (see (Drops f) p)
+      (same_good p (see (Drops f) p) refl refl refl refl good))
 
   -- an answer ends it
   says_so : (a : Answer T) → Leads (answers a)
@@ -96,7 +118,8 @@ module _ {T A : Type 0} (wakes : A → Option ℕ) (c : Choice) (Good After : Pl
       out None = lost_so l.called by may q (goes_good Good ways.lasts wakes c l.let_go p good)
       out (Some v) =
           ways.stops (enters (Lose l.called by) (see (Loses v) p))
-          (same_good p (enters (Lose l.called by) (see (Loses v) p)) refl refl refl good)
+          (ways.enter (Lose l.called by) (ways.loses l.called by may) (see (Loses v) p)
+          (same_good p (see (Loses v) p) refl refl refl refl good))
 
   ended_so : (f : ℕ) (l : Left T A) (by : Option (Taker A)) → MayBy by → Leads (takes.ended wakes c f l by)
   ended_so f l by may p good = out_so l by may (put f l.task p) (put_good Good ways.lasts wakes f l.task p good)
@@ -160,13 +183,10 @@ module _ {T A : Type 0} (wakes : A → Option ℕ) (c : Choice) (Good After : Pl
       (becomes_good Good ways.lasts wakes tells_so (tell_good Good ways.lasts wakes c) (λ t. (abstract.detach t).task) refl f p good)
 
   pending_so : (e : abstract.PendingEnd) (f : ℕ) (by : Taker A) → MayNext by → Leads (calls.pending_by wakes c e f by)
-  pending_so abstract.PendingEnd.Drops f by may p good =
-      ways.stops (takes.dropping wakes c f Closed by p) (dropping_good Good ways.lasts wakes c f Closed by p good)
+  pending_so abstract.PendingEnd.Drops f by may p good = dropping_so f Closed by may p good
   pending_so abstract.PendingEnd.Forgets f by may p good =
-      let q = put f (record (task f p) { phase = abstract.Phase.Finished; closed = true }) p in
-      ways.stops (takes.dropping wakes c f Closed by q)
-      (dropping_good Good ways.lasts wakes c f Closed by q
-      (put_good Good ways.lasts wakes f (record (task f p) { phase = abstract.Phase.Finished; closed = true }) p good))
+      dropping_so f Closed by may (put f (record (task f p) { phase = abstract.Phase.Finished; closed = true }) p)
+      (put_good Good ways.lasts wakes f (record (task f p) { phase = abstract.Phase.Finished; closed = true }) p good)
   pending_so abstract.PendingEnd.Queues f by may p good =
       next_so by may (becomes wakes tells_so f (abstract.end_pending (task f p)).task p)
       (becomes_good Good ways.lasts wakes tells_so (tell_good Good ways.lasts wakes c) (λ t. (abstract.end_pending t).task) refl f p good)
@@ -183,10 +203,9 @@ module _ {T A : Type 0} (wakes : A → Option ℕ) (c : Choice) (Good After : Pl
   pends_so (Closing fs all) may p good = ways.stops p good
 
   gives_so : (v : T) (code : Code T A) → MayCode code → Leads (calls.gives wakes c v code)
-  gives_so v (Poll f by) may p good =
-      ways.stops (takes.dropping wakes c f (Gave v) by p) (dropping_good Good ways.lasts wakes c f (Gave v) by p good)
+  gives_so v (Poll f by) may p good = dropping_so f (Gave v) by may p good
   gives_so v (PollOwn k w) may p good =
-      ways.stops (enters (DropOwn k Ready) p) (same_good p (enters (DropOwn k Ready) p) refl refl refl good)
+      ways.stops (enters (DropOwn k Ready) p) (ways.enter (DropOwn k Ready) (ways.drops_own k Ready) p good)
   gives_so v (Drop f end by) may p good = ways.stops p good
   gives_so v (Lose awaiter by) may p good = ways.stops p good
   gives_so v (DropOwn k answer) may p good = ways.stops p good
@@ -201,18 +220,21 @@ module _ {T A : Type 0} (wakes : A → Option ℕ) (c : Choice) (Good After : Pl
   ends_so (PollOwn k w) may p good = ways.stops p good
 
   innermost_so : (end : Code T A → Plain T A → Plain T A) → ((code : Code T A) → MayCode code → Leads (end code))
-      → (codes : List (Code T A)) → MayInside codes → Leads (calls.innermost wakes c codes end)
-  innermost_so end leads [] may p good = ways.stops p good
-  innermost_so end leads (code ∷ rest) may p good =
-      leads code may (record p { inside = rest }) (same_good p (record p { inside = rest }) refl refl refl good)
+      → (codes : List (Code T A)) → (p : Plain T A) → p.inside ≡ codes → MayInside codes → Good p
+      → After (calls.innermost wakes c codes end p)
+  innermost_so end leads [] p is may good = ways.stops p good
+  innermost_so end leads (code ∷ rest) p is may good = leads code may (record p { inside = rest }) (ways.pops code rest p is good)
 
-  over_so : (k : ℕ) (a : Answer T) (code : Code T A) (p : Plain T A) → Good p
+  over_so : (k : ℕ) (a : Answer T) (code : Code T A) (p : Plain T A)
+      → (or (slice_get p.runs k) (λ run. run.is_over) true ≡ false → ways.MayEnter code) → Good p
       → After (cond (or (slice_get p.runs k) (λ run. run.is_over) true) (answers a p) (enters code p))
-  over_so k a code p good =
-      if_so After (or (slice_get p.runs k) (λ run. run.is_over) true) (answers a p) (enters code p) (says_so a p good)
-      (ways.stops (enters code p) (same_good p (enters code p) refl refl refl good))
+  over_so k a code p may good = by (or (slice_get p.runs k) (λ run. run.is_over) true) refl
+    where
+      by : (b : Bool) → or (slice_get p.runs k) (λ run. run.is_over) true ≡ b → After (cond b (answers a p) (enters code p))
+      by true is = says_so a p good
+      by false is = ways.stops (enters code p) (ways.enter code (may is) p good)
 
-  pub call_so : (call : Call T A) (p : Plain T A) → MayCall call p.inside → Good p → After (does wakes c call p)
+  pub call_so : (call : Call T A) (p : Plain T A) → MayCall call p → Good p → After (does wakes c call p)
   call_so (calls.Spawn m) p may good = spawn_so m p good
   call_so calls.TryTick p may good = ways.take Try may p good
   call_so calls.IsEmpty p may good = says_so (cond (calls.is_none (living_from 0 p.futures)) Yes No) p good
@@ -240,14 +262,14 @@ module _ {T A : Type 0} (wakes : A → Option ℕ) (c : Choice) (Good After : Pl
       let q : Plain T A = record p { runs = p.runs ++ record { taken = 0; is_over = false } ∷ [] } in
       granted_so (answers Made q) p
       (says_so Made q (ways.lasts.makes (record { taken = 0; is_over = false }) p good)) good
-  call_so (calls.PollRun k w) p may good = over_so k Finished (PollOwn k w) p good
-  call_so (calls.DropRun k) p may good = over_so k Done (DropOwn k Done) p good
+  call_so (calls.PollRun k w) p may good = over_so k Finished (PollOwn k w) p may good
+  call_so (calls.DropRun k) p may good = over_so k Done (DropOwn k Done) p (λ is. ways.drops_own k Done) good
   call_so calls.Leak p may good =
       let q : Plain T A = record p { is_static = true } in
       says_so Done (calls.leak wakes c p)
       (each_good Good (living_from 0 p.futures) (calls.freed wakes c) (freed_good Good ways.lasts wakes c) q
-      (same_good p q refl refl refl good))
+      (same_good p q refl refl refl refl good))
   call_so calls.DropExecutor p may good = ways.close may (living_from 0 p.futures) (living_from 0 p.futures) p good
-  call_so calls.Pends p may good = innermost_so (calls.pends wakes c) pends_so p.inside may p good
-  call_so (calls.EndsWith v) p may good = innermost_so (calls.gives wakes c v) (gives_so v) p.inside may p good
-  call_so calls.Ends p may good = innermost_so (calls.ends wakes c) ends_so p.inside may p good
+  call_so calls.Pends p may good = innermost_so (calls.pends wakes c) pends_so p.inside p refl may good
+  call_so (calls.EndsWith v) p may good = innermost_so (calls.gives wakes c v) (gives_so v) p.inside p refl may good
+  call_so calls.Ends p may good = innermost_so (calls.ends wakes c) ends_so p.inside p refl may good

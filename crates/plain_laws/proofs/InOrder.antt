@@ -237,6 +237,12 @@ module _ (T A : Type 0) (r : ℕ) (base : Mark → List ℕ) (start : ℕ → Op
         May = MayTake;
         take = take_by;
         gives_way = way_by;
+        MayEnter = λ code. Unit {0};
+        enter = λ code may p good. waits_alike (untaken r base start n) p (enters code p) refl refl refl good;
+        drops = λ f end by may. tt;
+        loses = λ awaiter by may. tt;
+        drops_own = λ k answer. tt;
+        pops = λ code rest p is good. waits_alike (untaken r base start n) p (record p { inside = rest }) refl refl refl good;
         MayGo = λ k. not (r == k) ≡ true;
         gone = λ k may p good. waits_gone (untaken r base start n) wakes c k may p good;
         MayClose = ⊥;
@@ -264,18 +270,18 @@ module _ (T A : Type 0) (r : ℕ) (base : Mark → List ℕ) (start : ℕ → Op
   may_inside (DropOwn k answer ∷ rest) is = is
   may_inside (Closing fs all ∷ rest) is = never ⊥ is
 
-  may_call : (call : Call T A) (inside : List (Code T A)) → leaves_to r call inside ≡ true
-      → MayCall wakes c Before Behind its_ways call inside
-  may_call calls.TryTick inside is = never ⊥ is
-  may_call (calls.PollTick t w) inside is = never ⊥ is
-  may_call calls.DropExecutor inside is = never ⊥ is
-  may_call calls.Pends inside is = may_inside inside is
-  may_call (calls.EndsWith v) inside is = may_inside inside is
-  may_call calls.Ends inside is = may_inside inside is
-  may_call _ inside is = tt
+  may_call : (call : Call T A) (p : Plain T A) → leaves_to r call p.inside ≡ true → MayCall wakes c Before Behind its_ways call p
+  may_call calls.TryTick p is = never ⊥ is
+  may_call (calls.PollTick t w) p is = never ⊥ is
+  may_call calls.DropExecutor p is = never ⊥ is
+  may_call (calls.PollRun k w) p is = λ still. tt
+  may_call calls.Pends p is = may_inside p.inside is
+  may_call (calls.EndsWith v) p is = may_inside p.inside is
+  may_call calls.Ends p is = may_inside p.inside is
+  may_call _ p is = tt
 
   one_call : (call : Call T A) (p : Plain T A) → leaves_to r call p.inside ≡ true → Before p → Behind (does wakes c call p)
-  one_call call p may good = call_so wakes c Before Behind its_ways call p (may_call call p.inside may) good
+  one_call call p may good = call_so wakes c Before Behind its_ways call p (may_call call p may) good
 
 module _ {T A : Type 0} (r : ℕ) where
   -- a state to begin from

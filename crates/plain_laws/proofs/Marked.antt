@@ -75,7 +75,7 @@ module _ {T A : Type 0} where
             (λ fs are. each_as (IsMarked p) (λ d. at has_mark fs d.future ≡ Some d.mark) (λ d is. are d.future ∙ is) p.due good.due);
       }
 
-  marked_alike : (p q : Plain T A) → p.futures ≡ q.futures → p.due ≡ q.due → Marked p → Marked q
+  pub marked_alike : (p q : Plain T A) → p.futures ≡ q.futures → p.due ≡ q.due → Marked p → Marked q
   marked_alike p q futures due good =
       record {
         due =
@@ -86,7 +86,7 @@ module _ {T A : Type 0} where
   pub marked_lasts : Lasts Marked
   marked_lasts =
       record {
-        alike = λ p q one two three good. marked_alike p q one two good;
+        alike = λ p q one two three four good. marked_alike p q one two good;
         changes = marked_changes;
         appends =
             λ f p is good. record {
@@ -210,6 +210,12 @@ module _ {T A : Type 0} where
           gives_way =
               λ k w may p good.
               gives_way_good Marked marked_lasts wakes c k w p (runs_marked (λ run. record run { taken = 0 }) k p good);
+          MayEnter = λ code. Unit {0};
+          enter = λ code may p good. marked_alike p (enters code p) refl refl good;
+          drops = λ f end by may. tt;
+          loses = λ awaiter by may. tt;
+          drops_own = λ k answer. tt;
+          pops = λ code rest p is good. marked_alike p (record p { inside = rest }) refl refl good;
           MayGo = λ k. Unit {0};
           gone = λ k may. gone_marked k;
           MayClose = Unit {0};
@@ -241,14 +247,15 @@ module _ (T A : Type 0) (wakes : A → Option ℕ) (c : Choice) where
   may_inside (DropOwn k answer ∷ rest) = tt
   may_inside (Closing fs all ∷ rest) = tt
 
-  may_call : (call : Call T A) (inside : List (Code T A)) → MayCall wakes c IsGood IsGood all_ways call inside
-  may_call calls.Pends inside = may_inside inside
-  may_call (calls.EndsWith v) inside = may_inside inside
-  may_call calls.Ends inside = may_inside inside
-  may_call _ inside = tt
+  may_call : (call : Call T A) (p : Plain T A) → MayCall wakes c IsGood IsGood all_ways call p
+  may_call (calls.PollRun k w) p = λ is. tt
+  may_call calls.Pends p = may_inside p.inside
+  may_call (calls.EndsWith v) p = may_inside p.inside
+  may_call calls.Ends p = may_inside p.inside
+  may_call _ p = tt
 
   call_marked : (call : Call T A) → Keeps IsGood (does wakes c call)
-  call_marked call p good = call_so wakes c IsGood IsGood all_ways call p (may_call call p.inside) good
+  call_marked call p good = call_so wakes c IsGood IsGood all_ways call p (may_call call p) good
 
 module _ {T A : Type 0} (wakes : A → Option ℕ) where
   course_marked : (cs : List (Choice × Call T A)) (p : Plain T A) → Marked p → Marked (course wakes cs p)

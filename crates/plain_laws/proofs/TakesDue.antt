@@ -67,7 +67,7 @@ module _ {T A : Type 0} (r n : ℕ) where
   counts_last : Lasts Counts
   counts_last =
       record {
-        alike = λ p q one two three good. subst (λ rs. at taken_of rs r ≡ Some n) three good;
+        alike = λ p q one two three four good. subst (λ rs. at taken_of rs r ≡ Some n) three good;
         changes =
             λ h same f p good. changed_marks (λ of due runs. at taken_of runs r ≡ Some n) h same f p (λ fs are. good);
         appends = λ f p is good. good;

@@ -14,7 +14,7 @@ use Rattle.plain_laws.proofs.Words.{assoc, at, at_more, at_set, drop_front, is_i
 use Rattle.plain_laws.proofs.Words.{set_there}
 use Rattle.plain_laws.proofs.Lines.{kept_by_other, line_kept, line_last, one_of}
 use Rattle.plain_laws.proofs.Walk.{Keeps, Lasts, each_good, if_so, leaves_good}
-use Rattle.plain_laws.proofs.Marked.{Marked, changed_marks, has_mark, marked_lasts, marked_moved, runs_marked}
+use Rattle.plain_laws.proofs.Marked.{Marked, changed_marks, has_mark, marked_alike, marked_lasts, marked_moved, runs_marked}
 
 abbrev pub Begins : List ℕ → List ℕ → Type 0
 Begins xs ys = (more : List ℕ) × (ys ≡ xs ++ more)
@@ -86,7 +86,7 @@ module _ {T A : Type 0} where
     pub waits_alike : (p q : Plain T A) → p.futures ≡ q.futures → p.due ≡ q.due → p.runs ≡ q.runs → Waits k p → Waits k q
     waits_alike p q futures due runs good =
         record {
-          marked = marked_lasts.alike p q futures due runs good.marked;
+          marked = marked_alike p q futures due good.marked;
           known = λ is. subst (λ fs. at has_mark fs k.future ≡ Some k.mark) futures (good.known is);
           stays = λ j m is. subst (λ fs. at has_mark fs j ≡ Some m) futures (good.stays j m is);
           lines = λ m. subst (λ ds. Begins (k.base m) (k.front m ++ line m k.run ds)) due (good.lines m);
@@ -129,7 +129,7 @@ module _ {T A : Type 0} where
     pub waits_lasts : Lasts (Waits k)
     waits_lasts =
         record {
-          alike = waits_alike;
+          alike = λ p q one two three four good. waits_alike p q one two three good;
           changes = waits_changes;
           appends = waits_appends;
           accepts =

@@ -17,10 +17,10 @@ pub is_some_so : {X : Type 0} (o : Option X) (x : X) → o ≡ Some x → is_som
 is_some_so o x is = ap is_some is
 
 module _ {T A : Type 0} where
-  -- it lasts as long as futures, due ones and runs are the same, and where a task changes, a future that is there is appended, one is
+  -- it lasts as long as futures, due ones, runs and the calls in progress are the same, and where a task changes, a future that is there is appended, one is
   -- accepted, or a run is made
   pub record Lasts (Good : Plain T A → Type 0) : Type 0 where
-    pub alike : (p q : Plain T A) → p.futures ≡ q.futures → p.due ≡ q.due → p.runs ≡ q.runs → Good p → Good q
+    pub alike : (p q : Plain T A) → p.futures ≡ q.futures → p.due ≡ q.due → p.runs ≡ q.runs → p.inside ≡ q.inside → Good p → Good q
     pub changes : (h : Future T A → Future T A) → ((x : Future T A) → (h x).mark ≡ x.mark) → (f : ℕ) (p : Plain T A) → Good p
         → Good (changed h f p)
     pub appends : (f : ℕ) (p : Plain T A) → is_some (slice_get p.futures f) ≡ true → Good p → Good (appended f p)
@@ -95,7 +95,7 @@ module _ {T A : Type 0} where
       called_good : (w : A) → Keeps Good (called wakes more w)
       called_good w p good =
           or_good Good (wakes w) (see (Calls w) p) (λ f. used wakes more f p)
-          (lasts.alike p (see (Calls w) p) refl refl refl good) (λ f. used_good f p good)
+          (lasts.alike p (see (Calls w) p) refl refl refl refl good) (λ f. used_good f p good)
 
       let_go_good : (w : A) → Keeps Good (let_go wakes more w)
       let_go_good w p good = on_good Good (wakes w) (release wakes more) release_good p good
@@ -116,7 +116,7 @@ module _ {T A : Type 0} where
           (λ l p good.
           let p1 : Plain T A = record p { lying = slice_set p.lying i (record l { waker = None }) } in
           on_good Good l.waker (called wakes (λ s. s)) (called_good (λ s. s) (λ p good. good)) p1
-          (lasts.alike p p1 refl refl refl good))
+          (lasts.alike p p1 refl refl refl refl good))
           p good
 
       pub tell_good : Keeps Good tells
@@ -136,7 +136,7 @@ module _ {T A : Type 0} where
           (λ l p. on l.waker (let_go wakes tells) (record p { lying = without (lies who) p.lying }))
           (λ l p good.
           let p1 : Plain T A = record p { lying = without (lies who) p.lying } in
-          goes_good l.waker p1 (lasts.alike p p1 refl refl refl good))
+          goes_good l.waker p1 (lasts.alike p p1 refl refl refl refl good))
           p good
 
       pub leaves_good : (who : Who) → Keeps Good (leaves wakes c who)
@@ -155,13 +155,13 @@ module _ {T A : Type 0} where
           q = copied wakes w p
 
           anew : Good (takes.lain wakes c who w q)
-          anew = lasts.alike q (takes.lain wakes c who w q) refl refl refl (copied_good w p good)
+          anew = lasts.alike q (takes.lain wakes c who w q) refl refl refl refl (copied_good w p good)
 
           waking : (o : Option A) → Good (or o (λ old. takes.lain_again wakes c who w old q) (takes.lain wakes c who w q))
           waking None = anew
           waking (Some old) =
               let q1 : Plain T A = record q { lying = map (λ l. cond (lies who l) (record l { waker = Some w }) l) q.lying } in
-              let_go_good tells tell_good old q1 (lasts.alike q q1 refl refl refl (copied_good w p good))
+              let_go_good tells tell_good old q1 (lasts.alike q q1 refl refl refl refl (copied_good w p good))
 
           by : (o : Option (Lying A))
               → Good
@@ -171,7 +171,7 @@ module _ {T A : Type 0} where
           by (Some l) = waking l.waker
 
       pub says : (a : Answer T) → Keeps Good (answers a)
-      says a p good = lasts.alike p (answers a p) refl refl refl good
+      says a p good = lasts.alike p (answers a p) refl refl refl refl good
 
       rests_good : (r : Refusal) (who : Who) (w : A) → Keeps Good (takes.rests wakes c r who w)
       rests_good Granted who w p good = says Pending (takes.lies_down wakes c who w p) (lies_good who w p good)
@@ -191,12 +191,8 @@ module _ {T A : Type 0} where
       gives_way_good k w p good =
           let q = runs (λ run. record run { taken = 0 }) k p in
           says Pending (or (wakes w) (λ f. wake wakes tells f q) (see (Calls w) q))
-          (or_good Good (wakes w) (see (Calls w) q) (λ f. wake wakes tells f q) (lasts.alike q (see (Calls w) q) refl refl refl good)
+          (or_good Good (wakes w) (see (Calls w) q) (λ f. wake wakes tells f q) (lasts.alike q (see (Calls w) q) refl refl refl refl good)
           (λ f. wake_good tells tell_good f q good))
-
-      -- the future of a taken one is seen and entered
-      pub dropping_good : (f : ℕ) (end : End T) (by : Taker A) → Keeps Good (takes.dropping wakes c f end by)
-      dropping_good f end by p good = lasts.alike p (takes.dropping wakes c f end by p) refl refl refl good
 
       pub freed_good : (f : ℕ) → Keeps Good (calls.freed wakes c f)
       freed_good f p good = release_good tells tell_good f (wake wakes tells f p) (wake_good tells tell_good f p good)

@@ -64,18 +64,23 @@ module _ {T A : Type 0} (wakes : A → Option ℕ) (c : Choice) (Good After : Pl
   MayCode (DropOwn k answer) = ways.MayGo k
   MayCode (Closing fs all) = ways.MayClose
 
-  abbrev pub MayInside : List (Code T A) → Type 0
-  MayInside [] = Unit {0}
-  MayInside (code ∷ rest) = MayCode code
+  -- a poll's end is none of a drop
+  abbrev pub MayStop : Code T A → Type 0
+  MayStop (DropOwn k answer) = Unit {0}
+  MayStop code = MayCode code
+
+  abbrev pub MayInside : (Code T A → Type 0) → List (Code T A) → Type 0
+  MayInside may [] = Unit {0}
+  MayInside may (code ∷ rest) = may code
 
   abbrev pub MayCall : Call T A → Plain T A → Type 0
   MayCall calls.TryTick p = ways.May Try
   MayCall (calls.PollTick t w) p = ways.May (Tick t w)
   MayCall (calls.PollRun k w) p = or (slice_get p.runs k) (λ run. run.is_over) true ≡ false → ways.MayEnter (PollOwn k w)
   MayCall calls.DropExecutor p = ways.MayClose
-  MayCall calls.Pends p = MayInside p.inside
-  MayCall (calls.EndsWith v) p = MayInside p.inside
-  MayCall calls.Ends p = MayInside p.inside
+  MayCall calls.Pends p = MayInside MayStop p.inside
+  MayCall (calls.EndsWith v) p = MayInside MayStop p.inside
+  MayCall calls.Ends p = MayInside MayCode p.inside
   MayCall _ p = Unit {0}
 
   abbrev Leads : (Plain T A → Plain T A) → Type 0
@@ -194,7 +199,7 @@ module _ {T A : Type 0} (wakes : A → Option ℕ) (c : Choice) (Good After : Pl
       next_so by may (becomes wakes tells_so f (abstract.end_pending (task f p)).task p)
       (becomes_good Good ways.lasts wakes tells_so (tell_good Good ways.lasts wakes c) (λ t. (abstract.end_pending t).task) refl f p good)
 
-  pends_so : (code : Code T A) → MayCode code → Leads (calls.pends wakes c code)
+  pends_so : (code : Code T A) → MayStop code → Leads (calls.pends wakes c code)
   pends_so (Poll f by) may p good = pending_so (abstract.pending_end (task f p)) f by may p good
   pends_so (PollOwn k w) may p good = ways.take (Run k w) may p good
   pends_so (Drop f end by) may p good = ways.stops p good
@@ -202,7 +207,7 @@ module _ {T A : Type 0} (wakes : A → Option ℕ) (c : Choice) (Good After : Pl
   pends_so (DropOwn k answer) may p good = ways.stops p good
   pends_so (Closing fs all) may p good = ways.stops p good
 
-  gives_so : (v : T) (code : Code T A) → MayCode code → Leads (calls.gives wakes c v code)
+  gives_so : (v : T) (code : Code T A) → MayStop code → Leads (calls.gives wakes c v code)
   gives_so v (Poll f by) may p good = dropping_so f (Gave v) by may p good
   gives_so v (PollOwn k w) may p good =
       ways.stops (enters (DropOwn k Ready) p) (ways.enter (DropOwn k Ready) (ways.drops_own k Ready) p good)
@@ -219,11 +224,11 @@ module _ {T A : Type 0} (wakes : A → Option ℕ) (c : Choice) (Good After : Pl
   ends_so (Poll f by) may p good = ways.stops p good
   ends_so (PollOwn k w) may p good = ways.stops p good
 
-  innermost_so : (end : Code T A → Plain T A → Plain T A) → ((code : Code T A) → MayCode code → Leads (end code))
-      → (codes : List (Code T A)) → (p : Plain T A) → p.inside ≡ codes → MayInside codes → Good p
+  innermost_so : (end : Code T A → Plain T A → Plain T A) (May : Code T A → Type 0) → ((code : Code T A) → May code → Leads (end code))
+      → (codes : List (Code T A)) → (p : Plain T A) → p.inside ≡ codes → MayInside May codes → Good p
       → After (calls.innermost wakes c codes end p)
-  innermost_so end leads [] p is may good = ways.stops p good
-  innermost_so end leads (code ∷ rest) p is may good = leads code may (record p { inside = rest }) (ways.pops code rest p is good)
+  innermost_so end May leads [] p is may good = ways.stops p good
+  innermost_so end May leads (code ∷ rest) p is may good = leads code may (record p { inside = rest }) (ways.pops code rest p is good)
 
   over_so : (k : ℕ) (a : Answer T) (code : Code T A) (p : Plain T A)
       → (or (slice_get p.runs k) (λ run. run.is_over) true ≡ false → ways.MayEnter code) → Good p
@@ -270,6 +275,6 @@ module _ {T A : Type 0} (wakes : A → Option ℕ) (c : Choice) (Good After : Pl
       (each_good Good (living_from 0 p.futures) (calls.freed wakes c) (freed_good Good ways.lasts wakes c) q
       (same_good p q refl refl refl refl good))
   call_so calls.DropExecutor p may good = ways.close may (living_from 0 p.futures) (living_from 0 p.futures) p good
-  call_so calls.Pends p may good = innermost_so (calls.pends wakes c) pends_so p.inside p refl may good
-  call_so (calls.EndsWith v) p may good = innermost_so (calls.gives wakes c v) (gives_so v) p.inside p refl may good
-  call_so calls.Ends p may good = innermost_so (calls.ends wakes c) ends_so p.inside p refl may good
+  call_so calls.Pends p may good = innermost_so (calls.pends wakes c) MayStop pends_so p.inside p refl may good
+  call_so (calls.EndsWith v) p may good = innermost_so (calls.gives wakes c v) MayStop (gives_so v) p.inside p refl may good
+  call_so calls.Ends p may good = innermost_so (calls.ends wakes c) MayCode ends_so p.inside p refl may good

@@ -14,6 +14,8 @@ use Rattle.plain_scheduler.specs.Calls as calls
 use Rattle.plain_scheduler.specs.Calls.{Call, course, does, new}
 use Rattle.plain_laws.specs.Order.{InOrder, IsAlone, came, came_with, count, innermost_leads_to, is_others, is_try_or, last_begun}
 use Rattle.plain_laws.specs.Order.{leaves_to, line, of_mark, taken, took_of, takes_alone}
+use Rattle.plain_laws.proofs.Calling.{MayBy, MayCall, MayCode, MayInside, MayNext, MayStop, Ways, call_so}
+use Rattle.plain_laws.proofs.Words.{same_number}
 use Rattle.plain_laws.proofs.Words.{at, below_next, both_true, each_found, find_nothing, nothing_behind, none_found, none_without}
 use Rattle.plain_laws.proofs.Words.{not_below_itself, not_below_zero}
 use Rattle.plain_laws.proofs.Lines.{line_common, line_own, none_due, none_kept_by, one_of}
@@ -21,7 +23,6 @@ use Rattle.plain_laws.proofs.Walk.{gives_way_good, if_so, nothing_good, put_good
 use Rattle.plain_laws.proofs.Marked.{IsMarked, Marked, are_marked, has_mark, mark_of, marked_without}
 use Rattle.plain_laws.proofs.Waits.{Begins, Waits, clash, pick, taken_of, two_so, untaken, waits_alike, waits_counts, waits_gone}
 use Rattle.plain_laws.proofs.Waits.{waits_kept, waits_lasts, with_one}
-use Rattle.plain_laws.proofs.Calling.{MayBy, MayCall, MayInside, MayNext, Ways, call_so}
 
 module _ {T A : Type 0} where
   -- so it stands behind a call: with what was taken by it
@@ -204,9 +205,6 @@ module _ {T A : Type 0} where
           (gives_way_good (Waits (untaken r base start 0)) (waits_lasts (untaken r base start 0)) wakes c r w p
           (waits_counts (untaken r base start n) (λ run. record run { taken = 0 }) 0 (λ x is. refl) p good))
 
-same_number : (a b : ℕ) → (a == b) ≡ true → a ≡ b
-same_number a b is = grind (arith, nat_tests, is)
-
 module _ (T A : Type 0) (r : ℕ) (base : Mark → List ℕ) (start : ℕ → Option Mark) (n : ℕ) (wakes : A → Option ℕ) (c : Choice) where
   abbrev Before : Plain T A → Type 0
   Before p = Waits (untaken r base start n) p
@@ -261,23 +259,38 @@ module _ (T A : Type 0) (r : ℕ) (base : Mark → List ℕ) (start : ℕ → Op
   may_by None is = tt
   may_by (Some by) is = may_next by is
 
-  may_inside : (inside : List (Code T A)) → innermost_leads_to r inside ≡ true → MayInside wakes c Before Behind its_ways inside
-  may_inside [] is = tt
-  may_inside (Poll f by ∷ rest) is = may_next by is
-  may_inside (Drop f end by ∷ rest) is = may_next by is
-  may_inside (Lose awaiter by ∷ rest) is = may_by by is
-  may_inside (PollOwn k w ∷ rest) is = is
-  may_inside (DropOwn k answer ∷ rest) is = is
-  may_inside (Closing fs all ∷ rest) is = never ⊥ is
+  abbrev Stops : Code T A → Type 0
+  Stops code = MayStop wakes c Before Behind its_ways code
+
+  abbrev EndsSo : Code T A → Type 0
+  EndsSo code = MayCode wakes c Before Behind its_ways code
+
+  may_end : (inside : List (Code T A)) → innermost_leads_to r inside ≡ true → MayInside wakes c Before Behind its_ways EndsSo inside
+  may_end [] is = tt
+  may_end (Poll f by ∷ rest) is = may_next by is
+  may_end (Drop f end by ∷ rest) is = may_next by is
+  may_end (Lose awaiter by ∷ rest) is = may_by by is
+  may_end (PollOwn k w ∷ rest) is = is
+  may_end (DropOwn k answer ∷ rest) is = is
+  may_end (Closing fs all ∷ rest) is = never ⊥ is
+
+  may_stop : (inside : List (Code T A)) → innermost_leads_to r inside ≡ true → MayInside wakes c Before Behind its_ways Stops inside
+  may_stop [] is = tt
+  may_stop (DropOwn k answer ∷ rest) is = tt
+  may_stop (Poll f by ∷ rest) is = may_next by is
+  may_stop (Drop f end by ∷ rest) is = may_next by is
+  may_stop (Lose awaiter by ∷ rest) is = may_by by is
+  may_stop (PollOwn k w ∷ rest) is = is
+  may_stop (Closing fs all ∷ rest) is = never ⊥ is
 
   may_call : (call : Call T A) (p : Plain T A) → leaves_to r call p.inside ≡ true → MayCall wakes c Before Behind its_ways call p
   may_call calls.TryTick p is = never ⊥ is
   may_call (calls.PollTick t w) p is = never ⊥ is
   may_call calls.DropExecutor p is = never ⊥ is
   may_call (calls.PollRun k w) p is = λ still. tt
-  may_call calls.Pends p is = may_inside p.inside is
-  may_call (calls.EndsWith v) p is = may_inside p.inside is
-  may_call calls.Ends p is = may_inside p.inside is
+  may_call calls.Pends p is = may_stop p.inside is
+  may_call (calls.EndsWith v) p is = may_stop p.inside is
+  may_call calls.Ends p is = may_end p.inside is
   may_call _ p is = tt
 
   one_call : (call : Call T A) (p : Plain T A) → leaves_to r call p.inside ≡ true → Before p → Behind (does wakes c call p)

@@ -7,3 +7,5 @@ pub mod Waits
 pub mod InOrder
 pub mod Altogether
 pub mod TakesDue
+pub mod Idle
+pub mod Over

@@ -12,10 +12,10 @@ use Rattle.plain_scheduler.specs.Moves.{runs, see, task, tell, up}
 use Rattle.plain_scheduler.specs.Takes as takes
 use Rattle.plain_scheduler.specs.Calls as calls
 use Rattle.plain_scheduler.specs.Calls.{Call, course, does, new}
+use Rattle.plain_laws.proofs.Calling.{MayBy, MayCall, MayCode, MayInside, MayNext, MayStop, Ways, call_so}
 use Rattle.plain_laws.proofs.Words.{Each, at, at_more, at_set, each_as, each_found, each_last, each_without}
 use Rattle.plain_laws.proofs.Walk.{Keeps, Lasts, closed_good, each_good, freed_good, gives_way_good, if_so, leaves_good, nothing_good}
 use Rattle.plain_laws.proofs.Walk.{on_good, or_good, put_good, repeat_good, says, tell_good, up_good}
-use Rattle.plain_laws.proofs.Calling.{MayBy, MayCall, MayInside, MayNext, Ways, call_so}
 
 module _ {T A : Type 0} where
   abbrev pub has_mark : Future T A → Mark
@@ -238,20 +238,38 @@ module _ (T A : Type 0) (wakes : A → Option ℕ) (c : Choice) where
   may_by None = tt
   may_by (Some by) = may_next by
 
-  may_inside : (inside : List (Code T A)) → MayInside wakes c IsGood IsGood all_ways inside
-  may_inside [] = tt
-  may_inside (Poll f by ∷ rest) = may_next by
-  may_inside (Drop f end by ∷ rest) = may_next by
-  may_inside (Lose awaiter by ∷ rest) = may_by by
-  may_inside (PollOwn k w ∷ rest) = tt
-  may_inside (DropOwn k answer ∷ rest) = tt
-  may_inside (Closing fs all ∷ rest) = tt
+  may_code : (code : Code T A) → MayCode wakes c IsGood IsGood all_ways code
+  may_code (Poll f by) = may_next by
+  may_code (Drop f end by) = may_next by
+  may_code (Lose awaiter by) = may_by by
+  may_code (PollOwn k w) = tt
+  may_code (DropOwn k answer) = tt
+  may_code (Closing fs all) = tt
+
+  may_stop : (code : Code T A) → MayStop wakes c IsGood IsGood all_ways code
+  may_stop (DropOwn k answer) = tt
+  may_stop (Poll f by) = may_next by
+  may_stop (Drop f end by) = may_next by
+  may_stop (Lose awaiter by) = may_by by
+  may_stop (PollOwn k w) = tt
+  may_stop (Closing fs all) = tt
+
+  may_inside : (May : Code T A → Type 0) → ((code : Code T A) → May code) → (inside : List (Code T A))
+      → MayInside wakes c IsGood IsGood all_ways May inside
+  may_inside May may [] = tt
+  may_inside May may (code ∷ rest) = may code
+
+  abbrev Stops : Code T A → Type 0
+  Stops code = MayStop wakes c IsGood IsGood all_ways code
+
+  abbrev EndsSo : Code T A → Type 0
+  EndsSo code = MayCode wakes c IsGood IsGood all_ways code
 
   may_call : (call : Call T A) (p : Plain T A) → MayCall wakes c IsGood IsGood all_ways call p
   may_call (calls.PollRun k w) p = λ is. tt
-  may_call calls.Pends p = may_inside p.inside
-  may_call (calls.EndsWith v) p = may_inside p.inside
-  may_call calls.Ends p = may_inside p.inside
+  may_call calls.Pends p = may_inside Stops may_stop p.inside
+  may_call (calls.EndsWith v) p = may_inside Stops may_stop p.inside
+  may_call calls.Ends p = may_inside EndsSo may_code p.inside
   may_call _ p = tt
 
   call_marked : (call : Call T A) → Keeps IsGood (does wakes c call)

@@ -11,6 +11,9 @@ use Rattle.plain_scheduler.specs.Lists.{any, or, without}
 pub is_itself : (n : ℕ) → (n == n) ≡ true
 is_itself n = grind (arith, nat_tests)
 
+pub same_number : (a b : ℕ) → (a == b) ≡ true → a ≡ b
+same_number a b is = grind (arith, nat_tests, is)
+
 pub not_below_itself : (n : ℕ) → nat_lt n n ≡ false
 not_below_itself n = grind (arith, nat_tests)
 

@@ -8,7 +8,7 @@ use Rattle.plain_scheduler.specs.State.{Due, Future, Taker, Try, Tick, Run, Code
 use Rattle.plain_scheduler.specs.State.{Drops, Choice, Plain}
 use Rattle.plain_scheduler.specs.Lists.{any, or}
 use Rattle.plain_scheduler.specs.Moves.{is_common, is_kept, mark}
-use Rattle.plain_scheduler.specs.Calls.{Call, TryTick, PollTick, DropExecutor, Pends, EndsWith, Ends, course, does}
+use Rattle.plain_scheduler.specs.Calls.{Call, TryTick, PollTick, PollRun, DropExecutor, Pends, EndsWith, Ends, course, does}
 
 -- the futures of a mark that wait for run r, in order: those that it keeps, and behind them those without a keeper
 abbrev pub is_kept_of : Mark → ℕ → Due → Bool
@@ -34,6 +34,11 @@ is_try_or r Try = true
 is_try_or r (Tick t w) = true
 is_try_or r (Run k w) = r == k
 
+abbrev pub is_taker : ℕ → {A : Type 0} → Taker A → Bool
+is_taker k Try = false
+is_taker k (Tick t w) = false
+is_taker k (Run j w) = k == j
+
 module _ {T A : Type 0} where
   -- where this code ends, none takes a future but run r; nor does run r go
   abbrev pub leads_to : ℕ → Code T A → Bool
@@ -57,6 +62,30 @@ module _ {T A : Type 0} where
   leaves_to r (EndsWith v) inside = innermost_leads_to r inside
   leaves_to r Ends inside = innermost_leads_to r inside
   leaves_to r call inside = true
+
+  -- a poll of run k
+  abbrev pub polls : ℕ → Call T A → Bool
+  polls k (PollRun j w) = k == j
+  polls k call = false
+
+  abbrev pub was_polled : ℕ → List (Choice × Call T A) → Bool
+  was_polled k cs = any (λ (c : Choice × Call T A). polls k c.1) cs
+
+  -- user code in a poll of run k
+  abbrev pub is_of_run : ℕ → Code T A → Bool
+  is_of_run k (Poll f by) = is_taker k by
+  is_of_run k (Drop f end by) = is_taker k by
+  is_of_run k (Lose awaiter by) = or by (is_taker k) false
+  is_of_run k (PollOwn j w) = k == j
+  is_of_run k code = false
+
+  -- the call doesn't end the drop of a run that is polled
+  abbrev pub goes_idle : Call T A → List (Code T A) → Bool
+  goes_idle Ends (DropOwn k answer ∷ rest) = not (any (is_of_run k) rest)
+  goes_idle call inside = true
+
+  abbrev pub is_over : ℕ → Plain T A → Bool
+  is_over k p = or (slice_get p.runs k) (λ run. run.is_over) true
 
   -- how many futures run r has taken since it last let others go first
   abbrev pub count : ℕ → Plain T A → ℕ
@@ -139,3 +168,12 @@ module _ {T A : Type 0} where
     abbrev pub TakesDue : Choice → ℕ → Plain T A → Type 0
     TakesDue c r p =
         (f : ℕ) × ((took r p (does wakes c Pends p) ≡ f ∷ []) × (any (λ (d : Due). f == d.future) p.due ≡ true))
+
+    -- in these calls no run goes while it is polled
+    abbrev pub all_go_idle : List (Choice × Call T A) → Plain T A → Bool
+    all_go_idle [] p = true
+    all_go_idle (c ∷ cs) p = goes_idle c.1 p.inside && all_go_idle cs (does wakes c.0 c.1 p)
+
+    -- of the runs that were polled in these calls, from p on, only r isn't over
+    abbrev pub IsOnlyBegun : ℕ → List (Choice × Call T A) → Plain T A → Type 0
+    IsOnlyBegun r cs p = (k : ℕ) → was_polled k cs ≡ true → is_over k (course wakes cs p) ≡ false → k ≡ r

@@ -9,3 +9,4 @@ pub mod Altogether
 pub mod TakesDue
 pub mod Idle
 pub mod Over
+pub mod Begun

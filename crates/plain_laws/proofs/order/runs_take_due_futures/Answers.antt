@@ -1,5 +1,3 @@
-use Rattle.plain_laws.proofs.Over.{call_on}
-use Rattle.plain_laws.proofs.Idle.{call_idle}
 use Rattle.plain_laws.proofs.TakesDue.{takes_due}
 use Rattle.plain_laws.proofs.order.runs_take_due_futures.Goals as goal
 

@@ -1,17 +1,17 @@
 -- Only a run that was polled and isn't over keeps futures.
-use Rattle.std.proofs.Common.{◌≡◌, ℕ, zero, suc, ◌+◌, fold, ◌==◌, ◌&&◌, not, is_some, count_by, cond, filter, Bool, true, false}
-use Rattle.std.proofs.Common.{List, [], ◌∷◌, ◌++◌, length, find, Option, Some, None, slice_get, slice_set, refl, sym, subst, ap, ◌∙◌, arith}
-use Rattle.plain_scheduler.specs.State.{ARun, Answer, Choice, Close as Closing, Code, Drop, DropOwn, Due, Future, Lose, Plain, Poll, PollOwn}
+use Rattle.std.proofs.Common.{◌≡◌, ℕ, zero, suc, ◌+◌, fold, ◌==◌, not, count_by, cond, filter, Bool, true, false, List, [], ◌∷◌, length}
+use Rattle.std.proofs.Common.{find, Option, Some, None, slice_get, slice_set, refl, sym, subst, ap, ◌∙◌, arith}
+use Rattle.plain_scheduler.specs.State.{ARun, Answer, Choice, Close as Closing, Code, Drop, DropOwn, Due, Lose, Plain, Poll, PollOwn}
 use Rattle.plain_scheduler.specs.State.{Running}
 use Rattle.plain_scheduler.specs.Lists.{any, on, or, repeat, without}
-use Rattle.plain_scheduler.specs.Moves.{answers, appended, changed, given_back, is_kept, mark, runs, tell}
+use Rattle.plain_scheduler.specs.Moves.{answers, appended, given_back, is_kept, mark, runs, tell}
 use Rattle.plain_scheduler.specs.Calls as calls
 use Rattle.plain_scheduler.specs.Calls.{Call, course, does, new}
 use Rattle.plain_laws.specs.Order.{IsOnlyBegun, all_go_idle, goes_idle, is_of_run, is_others, is_over, polls, was_polled}
-use Rattle.plain_laws.proofs.Words.{at, both_true, filter_both, filter_found, is_itself, nothing_behind, same_number}
-use Rattle.plain_laws.proofs.Walk.{Keeps, Lasts, leaves_good, on_good, says, tell_good}
-use Rattle.plain_laws.proofs.Idle.{Idle, call_idle, idle_alike, none_in}
-use Rattle.plain_laws.proofs.Over.{GoesOn, IsNoEnd, call_on, over_of}
+use Rattle.plain_laws.proofs.Words.{both_true, filter_both, filter_found, is_itself, nothing_behind, same_number}
+use Rattle.plain_laws.proofs.Walk.{Keeps, Lasts, leaves_good, on_good, tell_good}
+use Rattle.plain_laws.proofs.Idle.{Idle, call_idle, none_in}
+use Rattle.plain_laws.proofs.Over.{GoesOn, IsNoEnd, call_on}
 
 -- how many pass a test
 module _ {X : Type 0} (t : X → Bool) where
@@ -255,7 +255,8 @@ module _ {T A : Type 0} (wakes : A → Option ℕ) where
       is_r k away same =
           clash (r == r) (is_itself r) (subst (λ i. (r == i) ≡ false) same away)
 
-      over_too : (k : ℕ) → (r == k) ≡ false → was_polled k before ≡ true → (b : Bool) → is_over k (course wakes before (new limit is_static)) ≡ b
+      over_too : (k : ℕ) → (r == k) ≡ false → was_polled k before ≡ true → (b : Bool)
+          → is_over k (course wakes before (new limit is_static)) ≡ b
           → any (is_kept k) (course wakes before (new limit is_static)).due ≡ false
       over_too k away polled true so = (idle_over k before (new limit is_static) idle (λ over. fresh k) so).kept
       over_too k away polled false so = absurd (is_r k away (only k polled so))

@@ -13,9 +13,8 @@ use Rattle.plain_scheduler.specs.Takes as takes
 use Rattle.plain_scheduler.specs.Calls as calls
 use Rattle.plain_scheduler.specs.Calls.{Call, does, is_granted, living_from}
 use Rattle.plain_laws.proofs.Words.{last_there}
-use Rattle.plain_laws.proofs.Walk.{Lasts, becomes_good, calls_good, copied_good, each_good, freed_good, given_up_good}
-use Rattle.plain_laws.proofs.Walk.{goes_good, if_so, is_some_so, leaves_good, put_good, release_good, says, tell_good, used_good}
-use Rattle.plain_laws.proofs.Walk.{wake_good}
+use Rattle.plain_laws.proofs.Walk.{Lasts, becomes_good, calls_good, copied_good, each_good, freed_good, given_up_good, goes_good, if_so}
+use Rattle.plain_laws.proofs.Walk.{is_some_so, leaves_good, put_good, release_good, says, tell_good, used_good, wake_good}
 
 -- a try or tick that has taken one takes none behind that
 abbrev pub MayNextOf : {A : Type 0} → (Taker A → Type 0) → Taker A → Type 0

@@ -1,16 +1,16 @@
 -- A run that isn't polled and keeps nothing: so it stays while it isn't polled anew.
-use Rattle.std.proofs.Common.{◌≡◌, ℕ, zero, suc, ◌+◌, ◌==◌, ◌&&◌, not, is_some, nat_lt, count_by, cond, filter, Bool, true, false}
-use Rattle.std.proofs.Common.{List, [], ◌∷◌, ◌++◌, length, find, Option, Some, None, slice_get, slice_set, refl, sym, subst, ap, ◌∙◌}
+use Rattle.std.proofs.Common.{◌≡◌, ℕ, ◌+◌, ◌==◌, nat_lt, count_by, cond, filter, Bool, true, false, List, [], ◌∷◌, ◌++◌, find, Option}
+use Rattle.std.proofs.Common.{Some, None, slice_get, slice_set, refl, sym, subst, ap, ◌∙◌}
 use Rattle.executor_parts.specs.declared.mark.Mark.TheVariants.{Plain as PlainMark, Urgent}
 use Rattle.task_moves.specs.AbstractTask as abstract
-use Rattle.plain_scheduler.specs.State.{Answer, ARun, ATick, Choice, Close as Closing, Closed, Code, Done, Drop, DropOwn, Drops, Due, End}
-use Rattle.plain_scheduler.specs.State.{Future, Lose, Plain, Poll, PollOwn, Polls, Run, Running, Taker, Tick, Try}
-use Rattle.plain_scheduler.specs.Lists.{any, each, on, or, repeat, without}
-use Rattle.plain_scheduler.specs.Moves.{answers, appended, changed, chosen, enters, given_back, is_common, is_kept, keeps, leaves, looks, mark}
-use Rattle.plain_scheduler.specs.Moves.{moved, put, runs, see, task, tell, up}
+use Rattle.plain_scheduler.specs.State.{ARun, ATick, Choice, Close as Closing, Closed, Code, Done, Drop, DropOwn, Drops, Due, Future}
+use Rattle.plain_scheduler.specs.State.{Lose, Plain, Poll, PollOwn, Polls, Run, Running, Taker, Tick, Try}
+use Rattle.plain_scheduler.specs.Lists.{any, each, or, repeat, without}
+use Rattle.plain_scheduler.specs.Moves.{appended, changed, chosen, enters, given_back, is_common, is_kept, keeps, looks, mark, moved, put}
+use Rattle.plain_scheduler.specs.Moves.{runs, see, task, tell, up}
 use Rattle.plain_scheduler.specs.Takes as takes
 use Rattle.plain_scheduler.specs.Calls as calls
-use Rattle.plain_scheduler.specs.Calls.{Call, course, does}
+use Rattle.plain_scheduler.specs.Calls.{Call, does}
 use Rattle.plain_laws.specs.Order.{is_of_run, is_over, is_taker, polls}
 use Rattle.plain_laws.proofs.Words.{none_last, none_without, same_number}
 use Rattle.plain_laws.proofs.Walk.{Keeps, Lasts, closed_good, each_good, freed_good, gives_way_good, if_so, leaves_good, nothing_good}
@@ -89,7 +89,8 @@ module _ {T A : Type 0} where
         (λ d p good. record {
           codes = good.codes;
           kept =
-              none_last (is_kept k) (without test p.due) (record d { keeper = Some j }) (none_without (is_kept k) test p.due good.kept) away;
+              none_last (is_kept k) (without test p.due) (record d { keeper = Some j })
+              (none_without (is_kept k) test p.due good.kept) away;
         }) p good
 
     idle_keeps : (j : ℕ) → (k == j) ≡ false → (test : Due → Bool) → Keeps (Idle k) (keeps j test)

@@ -1,7 +1,6 @@
 -- A run that alone takes futures takes those of a mark in order.
 use Rattle.std.proofs.Common.{◌≡◌, ℕ, ◌+◌, ◌==◌, not, is_some, nat_lt, cond, Bool, true, false, List, [], ◌∷◌, ◌++◌, find, Option, Some}
-use Rattle.std.proofs.Common.{None, slice_get, refl, sym, subst, ap, ◌∙◌, arith}
-use Rattle.std.proofs.lemmas.Bool.Decides.{nat_tests}
+use Rattle.std.proofs.Common.{None, slice_get, refl, sym, subst, ap, ◌∙◌}
 use Rattle.executor_parts.specs.declared.mark.Mark.{Mark}
 use Rattle.executor_parts.specs.Marks.{other, same_mark}
 use Rattle.task_moves.specs.AbstractTask as abstract
@@ -15,9 +14,8 @@ use Rattle.plain_scheduler.specs.Calls.{Call, course, does, new}
 use Rattle.plain_laws.specs.Order.{InOrder, IsAlone, came, came_with, count, innermost_leads_to, is_others, is_try_or, last_begun}
 use Rattle.plain_laws.specs.Order.{leaves_to, line, of_mark, taken, took_of, takes_alone}
 use Rattle.plain_laws.proofs.Calling.{MayBy, MayCall, MayCode, MayInside, MayNext, MayStop, Ways, call_so}
-use Rattle.plain_laws.proofs.Words.{same_number}
-use Rattle.plain_laws.proofs.Words.{at, below_next, both_true, each_found, find_nothing, nothing_behind, none_found, none_without}
-use Rattle.plain_laws.proofs.Words.{not_below_itself, not_below_zero}
+use Rattle.plain_laws.proofs.Words.{same_number, at, below_next, both_true, each_found, find_nothing, nothing_behind, none_found}
+use Rattle.plain_laws.proofs.Words.{none_without, not_below_itself, not_below_zero}
 use Rattle.plain_laws.proofs.Lines.{line_common, line_own, none_due, none_kept_by, one_of}
 use Rattle.plain_laws.proofs.Walk.{gives_way_good, if_so, nothing_good, put_good, tell_good, up_good}
 use Rattle.plain_laws.proofs.Marked.{IsMarked, Marked, are_marked, has_mark, mark_of, marked_without}

@@ -1,13 +1,13 @@
 -- A run is over only behind the end of its drop.
-use Rattle.std.proofs.Common.{◌≡◌, ℕ, zero, suc, ◌+◌, ◌==◌, not, is_some, nat_lt, count_by, cond, filter, Bool, true, false}
-use Rattle.std.proofs.Common.{List, [], ◌∷◌, ◌++◌, length, find, Option, Some, None, slice_get, slice_set, refl, sym, subst, ap, ◌∙◌}
+use Rattle.std.proofs.Common.{◌≡◌, ℕ, zero, suc, ◌+◌, ◌==◌, nat_lt, count_by, cond, filter, Bool, true, false, List, [], ◌∷◌, ◌++◌, find}
+use Rattle.std.proofs.Common.{Option, Some, None, slice_get, slice_set, refl, subst, ap, ◌∙◌}
 use Rattle.executor_parts.specs.declared.mark.Mark.TheVariants.{Plain as PlainMark, Urgent}
 use Rattle.task_moves.specs.AbstractTask as abstract
-use Rattle.plain_scheduler.specs.State.{ARun, ATick, Choice, Close as Closing, Closed, Code, Done, Drop, DropOwn, Drops, Due}
-use Rattle.plain_scheduler.specs.State.{Lose, Plain, Poll, PollOwn, Polls, Run, Running, Taker, Tick, Try}
-use Rattle.plain_scheduler.specs.Lists.{any, each, on, or, repeat, without}
-use Rattle.plain_scheduler.specs.Moves.{appended, changed, chosen, enters, given_back, is_common, is_kept, keeps, leaves, looks}
-use Rattle.plain_scheduler.specs.Moves.{moved, put, runs, see, task, tell, up}
+use Rattle.plain_scheduler.specs.State.{ARun, ATick, Choice, Close as Closing, Closed, Code, Done, Drop, DropOwn, Due, Lose, Plain, Poll}
+use Rattle.plain_scheduler.specs.State.{PollOwn, Polls, Run, Running, Taker, Tick, Try}
+use Rattle.plain_scheduler.specs.Lists.{each, on, repeat, without}
+use Rattle.plain_scheduler.specs.Moves.{appended, chosen, enters, given_back, is_common, is_kept, keeps, looks, moved, put, runs, see}
+use Rattle.plain_scheduler.specs.Moves.{task, tell, up}
 use Rattle.plain_scheduler.specs.Takes as takes
 use Rattle.plain_scheduler.specs.Calls as calls
 use Rattle.plain_scheduler.specs.Calls.{Call, does}

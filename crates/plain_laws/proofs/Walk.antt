@@ -4,8 +4,8 @@ use Rattle.std.proofs.Common.{Option, Some, None, slice_get, slice_set, refl, ap
 use Rattle.task_moves.specs.AbstractTask as abstract
 use Rattle.task_moves.specs.AbstractTask.{AbstractTask}
 use Rattle.task_moves.specs.LocalTask.{info_of, told}
-use Rattle.plain_scheduler.specs.State.{Answer, ARun, ATick, AtOnce, Calls, Choice, End, Future, Granted, Later, Lying, No, NoMemory}
-use Rattle.plain_scheduler.specs.State.{Pending, Plain, Refusal, Run, Running, Taker, Tick, Try, Who}
+use Rattle.plain_scheduler.specs.State.{Answer, ARun, ATick, AtOnce, Calls, Choice, Future, Granted, Later, Lying, No, NoMemory, Pending}
+use Rattle.plain_scheduler.specs.State.{Plain, Refusal, Run, Running, Taker, Tick, Try, Who}
 use Rattle.plain_scheduler.specs.Lists.{any, each, on, or, repeat, without}
 use Rattle.plain_scheduler.specs.Moves.{answers, appended, becomes, called, changed, copied, is_called, leaves, let_go, lies, no_task}
 use Rattle.plain_scheduler.specs.Moves.{put, release, runs, see, task, tell, told_at, up, used, wake}
@@ -17,8 +17,8 @@ pub is_some_so : {X : Type 0} (o : Option X) (x : X) → o ≡ Some x → is_som
 is_some_so o x is = ap is_some is
 
 module _ {T A : Type 0} where
-  -- it lasts as long as futures, due ones, runs and the calls in progress are the same, and where a task changes, a future that is there is appended, one is
-  -- accepted, or a run is made
+  -- it lasts as long as futures, due ones, runs and the calls in progress are the same, and where a task changes, a future that is
+  -- there is appended, one is accepted, or a run is made
   pub record Lasts (Good : Plain T A → Type 0) : Type 0 where
     pub alike : (p q : Plain T A) → p.futures ≡ q.futures → p.due ≡ q.due → p.runs ≡ q.runs → p.inside ≡ q.inside → Good p → Good q
     pub changes : (h : Future T A → Future T A) → ((x : Future T A) → (h x).mark ≡ x.mark) → (f : ℕ) (p : Plain T A) → Good p

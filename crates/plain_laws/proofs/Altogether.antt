@@ -6,7 +6,7 @@ use Rattle.executor_parts.specs.declared.mark.Mark.TheVariants.{Plain as PlainMa
 use Rattle.executor_parts.specs.Marks.{same_mark}
 use Rattle.plain_scheduler.specs.State.{Choice, Due, Future, Plain}
 use Rattle.plain_scheduler.specs.Lists.{any, or}
-use Rattle.plain_scheduler.specs.Moves.{is_common, is_kept, mark}
+use Rattle.plain_scheduler.specs.Moves.{is_common, is_kept}
 use Rattle.plain_scheduler.specs.Calls.{Call, course, does, new}
 use Rattle.plain_laws.specs.Order.{InWholeOrder, IsAlone, all_came, all_came_with, all_taken, is_kept_of, is_others, is_unkept, is_urgent}
 use Rattle.plain_laws.specs.Order.{leaves_to, line, of_mark, takes_alone, took, whole_line}

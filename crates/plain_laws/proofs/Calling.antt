@@ -7,7 +7,7 @@ use Rattle.plain_scheduler.specs.State.{Answer, ATick, Cancelled, Choice, Close 
 use Rattle.plain_scheduler.specs.State.{Finished, Full, Future, Gave, Gives, Lose, Loses, Made, No, NoMemory, Pending, Plain, Poll}
 use Rattle.plain_scheduler.specs.State.{PollOwn, Ready, Run, Taker, Tick, Try, Yes}
 use Rattle.plain_scheduler.specs.Lists.{on, or}
-use Rattle.plain_scheduler.specs.Moves.{answers, appended, becomes, called, changed, copied, enters, leaves, let_go, put, release, runs}
+use Rattle.plain_scheduler.specs.Moves.{answers, appended, becomes, called, changed, copied, enters, leaves, let_go, put, release}
 use Rattle.plain_scheduler.specs.Moves.{see, task, tell, used, wake}
 use Rattle.plain_scheduler.specs.Takes as takes
 use Rattle.plain_scheduler.specs.Calls as calls

@@ -7,7 +7,7 @@ use Rattle.task_moves.specs.AbstractTask as abstract
 use Rattle.plain_scheduler.specs.State.{ARun, Choice, Close as Closing, Closed, Code, Drop, DropOwn, Drops, Due, Event, Lose, Plain, Poll}
 use Rattle.plain_scheduler.specs.State.{PollOwn, Polls, Run, Running, Taker, Tick, Try}
 use Rattle.plain_scheduler.specs.Lists.{any, on, or, repeat, without}
-use Rattle.plain_scheduler.specs.Moves.{enters, is_common, is_due, is_kept, keeps, mark, put, runs, see, task, tell, up}
+use Rattle.plain_scheduler.specs.Moves.{enters, is_common, is_due, is_kept, keeps, put, see, task, tell, up}
 use Rattle.plain_scheduler.specs.Takes as takes
 use Rattle.plain_scheduler.specs.Calls as calls
 use Rattle.plain_scheduler.specs.Calls.{Call, course, does, new}

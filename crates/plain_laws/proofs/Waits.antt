@@ -1,5 +1,5 @@
 -- What waits for a run, and what it took since some state: so it stands on whatever is done behind a take and before the next.
-use Rattle.std.proofs.Common.{◌≡◌, ℕ, ◌+◌, ◌==◌, not, is_some, nat_lt, count_by, cond, drop, Bool, true, false, List, [], ◌∷◌, ◌++◌}
+use Rattle.std.proofs.Common.{◌≡◌, ℕ, ◌==◌, not, is_some, nat_lt, count_by, cond, drop, Bool, true, false, List, [], ◌∷◌, ◌++◌}
 use Rattle.std.proofs.Common.{length, find, Option, Some, None, slice_get, slice_set, refl, sym, subst, ap, ◌∙◌}
 use Rattle.executor_parts.specs.declared.mark.Mark.{Mark}
 use Rattle.executor_parts.specs.declared.mark.Mark.TheVariants.{Plain as PlainMark}
@@ -9,7 +9,7 @@ use Rattle.plain_scheduler.specs.Lists.{any, on, or, repeat, without}
 use Rattle.plain_scheduler.specs.Moves.{appended, changed, chosen, given_back, is_common, is_kept, keeps, mark, moved, runs, tell}
 use Rattle.plain_scheduler.specs.Takes as takes
 use Rattle.plain_scheduler.specs.Calls as calls
-use Rattle.plain_laws.specs.Order.{is_others, line, taken}
+use Rattle.plain_laws.specs.Order.{is_others, line}
 use Rattle.plain_laws.proofs.Words.{assoc, at, at_more, at_set, drop_front, is_itself, none_as, none_counted, none_last, none_without}
 use Rattle.plain_laws.proofs.Words.{set_there}
 use Rattle.plain_laws.proofs.Lines.{kept_by_other, line_kept, line_last, one_of}

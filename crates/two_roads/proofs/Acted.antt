@@ -27,7 +27,7 @@ use Rattle.solo_laws.specs.Owner.{Owner, new_owner}
 use Rattle.solo_laws.specs.Road.{wakes}
 use Rattle.solo_laws.specs.Tabled.{Stands}
 use Rattle.solo_laws.proofs.Showing.Courses.{leads_alike, new_known}
-use Rattle.two_roads.specs.Acting.{AreActed, AreOfSteps, IsActed, acts_by, goes_on_in, is_runs, left_of, takes_for_run}
+use Rattle.two_roads.specs.Acting.{AreActed, AreOfSteps, IsActed, acts_by, goes_on_in, is_runs, left_of, looks_first, takes_for_run}
 use Rattle.two_roads.specs.Plainly.{are_plain, is_plain_call}
 use Rattle.two_roads.specs.Renaming.{AreBothDue, CallsAlike, GoesOnAlike, InnermostAlike, call_as, event_as, is_refusal, lying_as}
 use Rattle.two_roads.specs.Renaming.{renamed}
@@ -92,10 +92,11 @@ module _ {T X : Type 0} (number : X → ℕ) where
       → (is_take (call_as nothing (numbered number) call) ≡ true → d.first ≡ first_of s.world.urgent_turns) → CallsAlike c d p call
   chosen_alike s a p c d call are first = by call are.first are.step.runless first
     where
-      by : (call : Call T (SoloWaker X)) → (AreBothDue p.due → c.first ≡ first_of s.world.urgent_turns) → takes_for_run p call ≡ false
+      by : (call : Call T (SoloWaker X))
+          → (looks_first call ≡ true → AreBothDue p.due → c.first ≡ first_of s.world.urgent_turns) → takes_for_run p call ≡ false
           → (is_take (call_as nothing (numbered number) call) ≡ true → d.first ≡ first_of s.world.urgent_turns) → CallsAlike c d p call
-      by calls.TryTick looks alone takes = λ both. looks both ∙ sym (takes refl)
-      by (calls.PollTick t w) looks alone takes = λ both. looks both ∙ sym (takes refl)
+      by calls.TryTick looks alone takes = λ both. looks refl both ∙ sym (takes refl)
+      by (calls.PollTick t w) looks alone takes = λ both. looks refl both ∙ sym (takes refl)
       by calls.Pends looks alone takes = ends_alone c d p.inside alone
       by calls.Ends looks alone takes = ends_alone c d p.inside alone
       by (calls.Spawn m) looks alone takes = tt
@@ -200,6 +201,6 @@ module _ {T X : Type 0} (number : X → ℕ) where
   plainly_acted s (a ∷ acts) p [] plain are of = absurd of
   plainly_acted s (a ∷ acts) p (x ∷ xs) plain are of =
       let both = both_true (is_plain_call x.1) (are_plain xs) are in (
-        record { step = of.0; first = λ (two : AreBothDue p.due). absurd (never_two p plain two) },
+        record { step = of.0; first = λ looks (two : AreBothDue p.due). absurd (never_two p plain two) },
         plainly_acted a.left acts (does wakes x.0 x.1 p) xs (call_plain wakes x.0 x.1 both.0 p plain) both.1 of.1,
       )

@@ -11,3 +11,8 @@ pub mod InDrop
 pub mod Meant
 pub mod Acted
 pub mod ActedToEnd
+pub mod Seeking
+pub mod ActTurns
+pub mod SoloTurns
+pub mod InStep
+pub mod InStepToEnd

@@ -6,7 +6,7 @@ use Rattle.executor_model.specs.Steps.{Machine}
 use Rattle.solo.specs.declared.names.SoloWaker.{SoloWaker}
 use Rattle.plain_scheduler.specs.State.{Choice, Code, Drop, Granted, Lose, Plain, Poll, PollOwn, Run, Taker}
 use Rattle.plain_scheduler.specs.Lists.{any}
-use Rattle.plain_scheduler.specs.Calls.{Call, DropExecutor, Ends, Pends, does}
+use Rattle.plain_scheduler.specs.Calls.{Call, DropExecutor, Ends, Pends, PollTick, TryTick, does}
 use Rattle.machine_roads.specs.DropActs.{DropActAlike}
 use Rattle.machine_roads.specs.Seeing.{heard_in}
 use Rattle.machine_roads.specs.View.{Output}
@@ -47,6 +47,12 @@ takes_for_run p Pends = goes_on_in p.inside
 takes_for_run p Ends = goes_on_in p.inside
 takes_for_run p _ = false
 
+-- a try and a poll of a tick look first at the one mark or the other
+abbrev pub looks_first : {T A : Type 0} → Call T A → Bool
+looks_first TryTick = true
+looks_first (PollTick t w) = true
+looks_first _ = false
+
 module _ {T X : Type 0} (number : X → ℕ) where
   -- a call of an executor of one owner is what the machine's step begins or ends. Memory is refused to neither, and no run takes a future
   pub record IsOfStep (s : Machine) (a : Act) (p : Plain T (SoloWaker X)) (c : Choice) (call : Call T (SoloWaker X)) : Type 0 where
@@ -55,10 +61,11 @@ module _ {T X : Type 0} (number : X → ℕ) where
     pub unrefused : any is_refusal (heard_in a.left.world.trace) ≡ false
     pub runless : takes_for_run p call ≡ false
 
-  -- and where futures of both marks are due, the one looks first at the mark that the other's turn names
+  -- and where a try or a tick's poll looks for a future while futures of both marks are due, it looks first at the mark that the other's
+  -- turn names
   pub record IsActed (s : Machine) (a : Act) (p : Plain T (SoloWaker X)) (c : Choice) (call : Call T (SoloWaker X)) : Type 0 where
     pub step : IsOfStep s a p c call
-    pub first : AreBothDue p.due → c.first ≡ first_of s.world.urgent_turns
+    pub first : looks_first call ≡ true → AreBothDue p.due → c.first ≡ first_of s.world.urgent_turns
 
   abbrev pub AreOfSteps : Machine → List Act → Plain T (SoloWaker X) → List (Choice × Call T (SoloWaker X)) → Type 0
   AreOfSteps s [] p [] = Unit {0}

@@ -2,3 +2,4 @@ pub mod Renaming
 pub mod Plainly
 pub mod Together
 pub mod Acting
+pub mod Turns

@@ -27,6 +27,7 @@ ghost use Rattle.two_roads.specs.Acting.{AreActed, AreOfSteps, EndActed, EndOfSt
 ghost use Rattle.two_roads.specs.Plainly.{are_plain};
 ghost use Rattle.two_roads.specs.Renaming.{AreSame};
 ghost use Rattle.two_roads.specs.Together.{TellsOf, as_heard, left_by, made_by, nothing, numbered};
+ghost use Rattle.two_roads.specs.Turns.{poll_no_tick};
 
 /// A list of lone calls of a new machine is one of the plain scheduler's, and so is a list of calls of a new executor of one owner.
 /// Where these are the same calls, with the same ends of polls and drops and the same refusals, both then stand where one plain
@@ -110,6 +111,18 @@ pub fn unrefused_calls_show_alike<F, T, X>()
         × (heard_in (left_of (start limit kind parties) acts).world.trace ≡ as_heard number shown) }
 {}
 
+/// Where no tick is polled, nothing is asked of turns either: both take as many in each call.
+pub fn tickless_calls_show_alike<F, T, X>()
+    ensures { (its : ℕ → Lent) (number : X → ℕ) (limit : ℕ) (kind : MachineKind) (solo_kind : Kind) (parties : ℕ) (acts : List Act)
+        (calls : List (Choice × Call T (SoloWaker X))) (first last : Solo F T X) (shown : List (Event T (SoloWaker X)))
+        (before : Who → ℕ) (after : Owner) → AreActs (start limit kind parties) acts
+        → IsNew limit solo_kind first → counts solo_kind ≡ not (is_static_kind kind)
+        → Leads its calls (new_owner before) first (new limit (is_static_kind kind)) shown after last
+        → poll_no_tick calls ≡ true → AreOfSteps number (start limit kind parties) acts (new limit (is_static_kind kind)) calls
+        → Stands its last (course wakes calls (new limit (is_static_kind kind)))
+        × (heard_in (left_of (start limit kind parties) acts).world.trace ≡ as_heard number shown) }
+{}
+
 /// Where each future is spawned plain, nothing is asked of turns.
 pub fn plain_calls_show_alike<F, T, X>()
     ensures { (its : ℕ → Lent) (number : X → ℕ) (limit : ℕ) (kind : MachineKind) (solo_kind : Kind) (parties : ℕ) (acts : List Act)
@@ -136,6 +149,23 @@ pub fn unrefused_calls_end_alike<F, T, X>()
         → (course wakes calls (new limit (is_static_kind kind))).inside ≡ []
         → AreActed number (start limit kind parties) acts (new limit (is_static_kind kind)) calls
         → EndActed number a later (course wakes calls (new limit (is_static_kind kind))) ends
+        → IsClosed its last (course wakes (calls ++ ends) (new limit (is_static_kind kind)))
+        × (heard_in (left_of a.left later).world.trace ≡ as_heard number (shown ++ others)) }
+{}
+
+/// And so it is to the end where no tick is polled: from the executor's drop on no call looks for a future to take.
+pub fn tickless_calls_end_alike<F, T, X>()
+    ensures { (its : ℕ → Lent) (number : X → ℕ) (limit : ℕ) (kind : MachineKind) (solo_kind : Kind) (parties : ℕ) (acts : List Act)
+        (a : Act) (later : List Act) (calls ends : List (Choice × Call T (SoloWaker X))) (first middle last : Solo F T X)
+        (shown others : List (Event T (SoloWaker X))) (before : Who → ℕ) (after : Owner) → AreActs (start limit kind parties) acts
+        → IsQuiet (left_by_acts (start limit kind parties) acts).world.trace → IsAct (left_by_acts (start limit kind parties) acts) a
+        → a.first ≡ Begin a.party DropsExecutor → AreDropActs a.left later → IsNew limit solo_kind first
+        → counts solo_kind ≡ not (is_static_kind kind)
+        → Leads its calls (new_owner before) first (new limit (is_static_kind kind)) shown after middle
+        → LastCalls its middle (course wakes calls (new limit (is_static_kind kind))) ends others last
+        → (course wakes calls (new limit (is_static_kind kind))).inside ≡ [] → poll_no_tick calls ≡ true
+        → AreOfSteps number (start limit kind parties) acts (new limit (is_static_kind kind)) calls
+        → EndOfSteps number a later (course wakes calls (new limit (is_static_kind kind))) ends
         → IsClosed its last (course wakes (calls ++ ends) (new limit (is_static_kind kind)))
         × (heard_in (left_of a.left later).world.trace ≡ as_heard number (shown ++ others)) }
 {}

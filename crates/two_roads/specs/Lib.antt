@@ -1,4 +1,5 @@
 pub mod Renaming
 pub mod Plainly
 pub mod Together
+pub mod Refusing
 pub mod Acting

@@ -50,6 +50,7 @@ use Rattle.machine_roads.proofs.CourseBehind.{before_drop, drop_begun, still_gon
 use Rattle.machine_roads.proofs.InDrop.{call_so, calls_in_drop, comes_on, drop_goes_on, lose_so, loses_in_drop, loss_ends_in_drop}
 use Rattle.machine_roads.proofs.InDrop.{stays_inside}
 use Rattle.machine_roads.proofs.Inside.{ends_inside}
+use Rattle.machine_roads.proofs.LaterAnew.{off_anew}
 use Rattle.machine_roads.proofs.Lists.{apart_of, clash, length_set, same_of}
 use Rattle.machine_roads.proofs.LoneCalls.{each}
 use Rattle.machine_roads.proofs.LoneCloses.{Closing, IsAny, drop_leads_so, walks}
@@ -155,11 +156,18 @@ module _ (s : Machine) (reached : Reached s) (p : ℕ) (there : p < length s.par
   its = top (stack s p)
 
   acts : (c : Call) (x : plain.Call Output Waker) (r : Refusal) → IsCallIn (mine its) s.world c x
-      → ActsBy s p (Begin p c) q (does wakes (choice r) x q)
-  acts c x r is = record { choice = choice r; made = x; chosen = chosen_in s q r; is = begins_by c x is; so = refl }
+      → is_on_executor c ≡ false → ActsBy s p (Begin p c) q (does wakes (choice r) x q)
+  acts c x r is off = record {
+    choice = choice r;
+    made = x;
+    chosen = chosen_in s q r;
+    is = begins_by c x is;
+    so = refl;
+    anew = off_anew q (does wakes (choice r) x q) (mine its) s.world c r x is off;
+  }
 
   end_acts : ActsBy s p (Answer p IsDone) q (does wakes granted plain.Ends q)
-  end_acts = record { choice = granted; made = plain.Ends; chosen = (chosen_in s q Granted).tells; is = ends_by; so = refl }
+  end_acts = record { choice = granted; made = plain.Ends; chosen = (chosen_in s q Granted).tells; is = ends_by; so = refl; anew = tt }
 
   -- the executor's calls are refused
   no_executors : (c : Call) → refusal s (Begin p c) ≡ None → is_on_executor c ≡ true → ⊥
@@ -220,7 +228,7 @@ module _ (s : Machine) (reached : Reached s) (p : ℕ) (there : p < length s.par
                 let o = calls_in_drop p below s.world fs all [] q c x.made granted hints under is off x.is keeps all_has rests in
                 let z : Plain Output Waker = does wakes (choice o.0) x.made q in (
                   z,
-                  acts c x.made o.0 (is_in c x.made no_poll x.within_none),
+                  acts c x.made o.0 (is_in c x.made no_poll x.within_none) off,
                   drops f fs all (o.1 ∙ (next ∙ still_left f fs all s.world e.world q z is o.2)) o.2,
                 )
             by true goes all_has =
@@ -229,7 +237,7 @@ module _ (s : Machine) (reached : Reached s) (p : ℕ) (there : p < length s.par
                 let z : Plain Output Waker = does wakes granted x.made q in
                 let b : Plain Output Waker = record z { inside = q.inside } in (
                   z,
-                  acts c x.made Granted (is_in c x.made no_poll x.within_none),
+                  acts c x.made Granted (is_in c x.made no_poll x.within_none) off,
                   loses_inside o.0 f fs all b
                       (o.1
                       ∙ ap (λ os. op.User (user_op.DropOutput o.0) ∷ (left_of o.0 ++ os))
@@ -322,7 +330,7 @@ module _ (s : Machine) (reached : Reached s) (p : ℕ) (there : p < length s.par
                 let r : Refusal = k.so.0 in
                 let z : Plain Output Waker = does wakes (choice r) x.made q in (
                   z,
-                  acts c x.made r (is_in c x.made no_poll_behind x.within_none),
+                  acts c x.made r (is_in c x.made no_poll_behind x.within_none) off,
                   behind k.so.1 (stays_inside s.world c x.made (choice r) q off x.is keeps ∙ nowhere) k.so.2
                       (none_of e.world z k.so.2 k.none),
                 )
@@ -334,7 +342,7 @@ module _ (s : Machine) (reached : Reached s) (p : ℕ) (there : p < length s.par
                 (λ has. lose_so p [] refl s.world s.world.table q follows granted few c x.made off x.is goes hints has rests) in
                 let f : ℕ = k.so.0 in (
                   z,
-                  acts c x.made Granted (is_in c x.made no_poll_behind x.within_none),
+                  acts c x.made Granted (is_in c x.made no_poll_behind x.within_none) off,
                   loses_behind f q nowhere
                       (none_of (without_handle f e.world) z k.so.1.losing.follows
                       (handle_there f e.world k.so.1.losing.known k.none))

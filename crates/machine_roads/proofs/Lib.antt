@@ -91,6 +91,7 @@ pub mod OneCall
 pub mod CourseBehind
 pub mod InDrop
 pub mod OpenCalls
+pub mod LaterAnew
 pub mod DropActs
 pub mod FewTaken
 pub mod FewAfter

@@ -15,5 +15,6 @@ pub mod Lone
 pub mod Behind
 pub mod Course
 pub mod Closing
+pub mod Refused
 pub mod Within
 pub mod DropActs

@@ -96,10 +96,10 @@ pub fn nested_calls_end_alike<F, T, X>()
         × (heard_in (left_of a.left later).world.trace ≡ as_heard number (shown ++ others)) }
 {}
 
-/// And so, where memory is refused to neither, and no run takes a future, each list of such acts of a new machine tells of what a list of
-/// calls of a new executor of one owner shows, where each of these calls is what the machine's step begins, or the answer of a poll or
-/// the end of a drop that the step has; and where futures of both marks are due, the executor looks first at the mark that the machine's
-/// turn names.
+/// And so, where no run takes a future, each list of such acts of a new machine tells of what a list of calls of a new executor of one
+/// owner shows, where each of these calls is what the machine's step begins, or the answer of a poll or the end of a drop that the step
+/// has; where a call that asks for memory is refused it as the machine's trace and world say of the act; and where futures of both marks
+/// are due, the executor looks first at the mark that the machine's turn names.
 pub fn unrefused_calls_show_alike<F, T, X>()
     ensures { (its : ℕ → Lent) (number : X → ℕ) (limit : ℕ) (kind : MachineKind) (solo_kind : Kind) (parties : ℕ) (acts : List Act)
         (calls : List (Choice × Call T (SoloWaker X))) (first last : Solo F T X) (shown : List (Event T (SoloWaker X)))

@@ -1,5 +1,5 @@
 -- What the machine's own trace and world say of the memory that is refused in an act.
-use Rattle.std.specs.Prelude.{ℕ, nat_lt, Bool, true, false, List, [], ◌∷◌, length}
+use Rattle.std.specs.Prelude.{nat_lt, Bool, true, false, List, [], ◌∷◌, length}
 use Rattle.executor_model.specs.Steps.{Machine}
 use Rattle.plain_scheduler.specs.State.{AtOnce, Event, Granted, Later, Refusal}
 use Rattle.plain_scheduler.specs.Calls.{Call, Copy, NewRun, NewTick, PollHandle, PollTick, Spawn}

@@ -91,7 +91,7 @@ tells_at w q d (Answer p u) chosen = chosen
 module _ {T X : Type 0} (number : X → ℕ) where
   -- what has to be the same of what is chosen
   chosen_alike : (s : Machine) (p : Plain T (SoloWaker X)) (c d : Choice) (call : Call T (SoloWaker X))
-      → (AreBothDue p.due → c.first ≡ first_of s.world.urgent_turns) → takes_for_run p call ≡ false
+      → (looks_first call ≡ true → AreBothDue p.due → c.first ≡ first_of s.world.urgent_turns) → takes_for_run p call ≡ false
       → (is_take (call_as nothing (numbered number) call) ≡ true → d.first ≡ first_of s.world.urgent_turns) → CallsAlike c d p call
   chosen_alike s p c d call = by call
     where

@@ -39,6 +39,7 @@ use Rattle.two_roads.specs.Acting.{AreActed, AreOfSteps, IsActed, goes_on_in, is
 use Rattle.two_roads.specs.Renaming.{call_as, code_as, renamed, taker_as}
 use Rattle.two_roads.specs.Together.{as_heard, nothing, numbered}
 use Rattle.two_roads.specs.Turns.{poll_no_tick, polls_tick, turned, turned_in, turns_of}
+use Rattle.two_roads.proofs.Refusing.{lie_in}
 use Rattle.two_roads.proofs.ActTurns.{act_turns}
 use Rattle.two_roads.proofs.Acted.{one_same, unrefused_together}
 use Rattle.two_roads.proofs.Inner.{seen_in}
@@ -162,7 +163,9 @@ module _ {F T X : Type 0} (its : ℕ → Lent) (number : X → ℕ) where
       ∙ (ap (λ n. turned (turns_of call) s.world.urgent_turns + n % 8) its_own
       ∙ still_in_step (turns_of call) s.world.urgent_turns t.lines.turn step) in
       let acted : IsActed number s a p c call = record { step = of.0; first = λ look two. looks look } in
-      let one = one_same number s a q go.0 go.1 (seen_in (standing a.left a.party) go.0 go.2) p c call is acted tells in (
+      let one =
+      one_same number s a q go.0 go.1 (lie_in (standing s a.party) q here) (seen_in (standing a.left a.party) go.0 go.2)
+      (lie_in (standing a.left a.party) go.0 go.2) p c call is acted tells in (
         acted,
         in_step acts a.left (reached-more (a.first ∷ a.steps) s a.left reached it.made) a.party
             (goes_rest a.steps (after_step s a.first) a.left a.party it.rests k.1 (rest_still a.party s a.first it.its it.others)) go.0 go.2

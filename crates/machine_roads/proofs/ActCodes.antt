@@ -58,6 +58,7 @@ use Rattle.machine_roads.proofs.Counting.{taken_in}
 use Rattle.machine_roads.proofs.Forgetting.{forgets_by, forgotten_by}
 use Rattle.machine_roads.proofs.Having.{same_self}
 use Rattle.machine_roads.proofs.Inmost.{IsDropOf, is_going, is_taken, rests_in}
+use Rattle.machine_roads.proofs.LaterAnew.{ends_anew}
 use Rattle.machine_roads.proofs.Lists.{clash, same_of}
 use Rattle.machine_roads.proofs.LoneRuns.{passed}
 use Rattle.machine_roads.proofs.OwnGoes.{own_went}
@@ -108,7 +109,14 @@ module _ (s : Machine) (reached : Reached s) (p : ℕ) (there : p < length s.par
       → d.tells ≡ c1.tells → StandsSo e (does wakes d x q) → Comes u e
   came_by u x is e d tells so = (
     does wakes d x q,
-    record { choice = d; made = x; chosen = subst (λ n. length q.lying < n) (sym tells) room; is = is; so = refl },
+    record {
+      choice = d;
+      made = x;
+      chosen = subst (λ n. length q.lying < n) (sym tells) room;
+      is = is;
+      so = refl;
+      anew = ends_anew q (does wakes d x q) s p (Answer p u) d.refusal x refl is;
+    },
     so,
   )
 

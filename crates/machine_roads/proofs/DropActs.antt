@@ -51,6 +51,7 @@ use Rattle.machine_roads.proofs.LossInDrop.{call_ends, call_loses, drop_ends_so}
 use Rattle.machine_roads.proofs.Unseen.{stands_in}
 use Rattle.machine_roads.proofs.InDrop.{stays_inside}
 use Rattle.machine_roads.proofs.Inside.{ends_inside}
+use Rattle.machine_roads.proofs.LaterAnew.{off_anew}
 use Rattle.machine_roads.proofs.Lists.{clash}
 use Rattle.machine_roads.proofs.LoneCalls.{each}
 use Rattle.machine_roads.proofs.LoneCloses.{Closing, IsAny, drop_leads_so, walks}
@@ -79,11 +80,18 @@ module _ (s : Machine) (reached : Reached s) (p : ℕ) (there : p < length s.par
   its = top (stack s p)
 
   acts : (c : Call) (x : plain.Call Output Waker) (r : Refusal) → IsCallIn (mine its) s.world c x
-      → ActsBy s p (Begin p c) q (does wakes (choice r) x q)
-  acts c x r is = record { choice = choice r; made = x; chosen = chosen_in s q r; is = begins_by c x is; so = refl }
+      → is_on_executor c ≡ false → ActsBy s p (Begin p c) q (does wakes (choice r) x q)
+  acts c x r is off = record {
+    choice = choice r;
+    made = x;
+    chosen = chosen_in s q r;
+    is = begins_by c x is;
+    so = refl;
+    anew = off_anew q (does wakes (choice r) x q) (mine its) s.world c r x is off;
+  }
 
   end_acts : ActsBy s p (Answer p IsDone) q (does wakes granted plain.Ends q)
-  end_acts = record { choice = granted; made = plain.Ends; chosen = (chosen_in s q Granted).tells; is = ends_by; so = refl }
+  end_acts = record { choice = granted; made = plain.Ends; chosen = (chosen_in s q Granted).tells; is = ends_by; so = refl; anew = tt }
 
   -- the executor's calls are refused
   no_executors : (c : Call) → refusal s (Begin p c) ≡ None → is_on_executor c ≡ true → ⊥
@@ -164,7 +172,7 @@ module _ (s : Machine) (reached : Reached s) (p : ℕ) (there : p < length s.par
                 let o = call_ends p gs below s.world fs all q granted hints under is c x.made it all_has rests keeps in
                 let z : Plain Output Waker = does wakes (choice o.0) x.made q in (
                   z,
-                  acts c x.made o.0 (is_in c x.made no_poll x.within_none),
+                  acts c x.made o.0 (is_in c x.made no_poll x.within_none) off,
                   stands_still gs e z (o.1 ∙ next) o.2,
                 )
             by true goes all_has =
@@ -173,7 +181,7 @@ module _ (s : Machine) (reached : Reached s) (p : ℕ) (there : p < length s.par
                 let g : ℕ = o.0 in
                 let z : Plain Output Waker = does wakes granted x.made q in (
                   z,
-                  acts c x.made Granted (is_in c x.made no_poll x.within_none),
+                  acts c x.made Granted (is_in c x.made no_poll x.within_none) off,
                   stands_still (g ∷ gs) e z (o.1 ∙ ap (λ os. op.User (user_op.DropOutput g) ∷ (left_of g ++ os)) next) o.2,
                 )
 
@@ -282,7 +290,7 @@ module _ (s : Machine) (reached : Reached s) (p : ℕ) (there : p < length s.par
                 let r : Refusal = k.so.0 in
                 let z : Plain Output Waker = does wakes (choice r) x.made q in (
                   z,
-                  acts c x.made r (is_in c x.made unpolled x.within_none),
+                  acts c x.made r (is_in c x.made unpolled x.within_none) it.off,
                   stands_behind gs (alone p hints (upon owed (begins p None c s.world))) z k.so.1
                       (stays_inside s.world c x.made (choice r) q it.off x.is keeps ∙ stops.inside) k.so.2 k.none,
                 )
@@ -295,7 +303,7 @@ module _ (s : Machine) (reached : Reached s) (p : ℕ) (there : p < length s.par
                 (λ has. loses_in_loss p gs owed s.world q granted hints c x.made under_behind stops.losing it goes has rests) in
                 let f : ℕ = k.so.0 in (
                   z,
-                  acts c x.made Granted (is_in c x.made unpolled x.within_none),
+                  acts c x.made Granted (is_in c x.made unpolled x.within_none) it.off,
                   stands_behind (f ∷ gs) (alone p hints (upon owed (begins p None c s.world))) z k.so.1
                       (k.so.2 ∙ ap (λ codes. Lose None None ∷ codes) stops.inside) k.so.3 k.none,
                 )

@@ -98,6 +98,7 @@ pub mod OpenCalls
 pub mod Named
 pub mod LossInDrop
 pub mod DropPlaces
+pub mod LaterAnew
 pub mod DropActs
 pub mod FewTaken
 pub mod FewAfter

@@ -16,5 +16,6 @@ pub mod Behind
 pub mod Course
 pub mod Closing
 pub mod InLoss
+pub mod Refused
 pub mod Within
 pub mod DropActs

@@ -39,6 +39,7 @@ use Rattle.machine_roads.specs.Course.{IsChosen}
 use Rattle.machine_roads.specs.Dropped.{Drops}
 use Rattle.machine_roads.specs.Forgotten.{StopsForgetting}
 use Rattle.machine_roads.specs.InLoss.{AreLosing, StopsInLoss, loss_codes, loss_ops}
+use Rattle.machine_roads.specs.Refused.{IsLaterAnew}
 use Rattle.machine_roads.specs.Searching.{goes_on_by}
 use Rattle.machine_roads.specs.Stopped.{Stopped}
 
@@ -151,6 +152,7 @@ pub record ActsBy (s : Machine) (p : ℕ) (t : Step) (q r : Plain Output Waker) 
   pub chosen : IsChosenAt t s.world q choice
   pub is : IsMade s p t made
   pub so : does wakes choice made q ≡ r
+  pub anew : IsLaterAnew choice.refusal made q r
 
 -- how a call that takes goes on behind what it took: a try and a tick's poll are answered, and a run searches on, or after its 200th
 -- calls its own waker

@@ -20,6 +20,7 @@ use Rattle.machine_roads.specs.View.{Output, wakes as wakes_in}
 use Rattle.solo_laws.specs.Closing.{IsClosed}
 use Rattle.solo_laws.specs.Courses.{Leads}
 use Rattle.solo_laws.specs.LastCalls.{LastCalls}
+use Rattle.solo_laws.specs.Owner.{Owner, new_owner}
 use Rattle.solo_laws.specs.Road.{wakes}
 use Rattle.solo_laws.specs.Tabled.{Stands}
 use Rattle.solo_laws.proofs.Showing.AllThere.{none_lost}
@@ -30,7 +31,7 @@ use Rattle.two_roads.specs.Together.{TellsOf, as_heard, as_machines, ends_by, le
 use Rattle.two_roads.proofs.Calling.{courses_same}
 
 module _ {T A : Type 0} (wakes_of : A → Option ℕ) where
-  course_of_both : (xs ys : List (Choice × Call T A)) (q : Plain T A)
+  pub course_of_both : (xs ys : List (Choice × Call T A)) (q : Plain T A)
       → course wakes_of (xs ++ ys) q ≡ course wakes_of ys (course wakes_of xs q)
   course_of_both [] ys q = refl
   course_of_both (x ∷ xs) ys q = course_of_both xs ys (does wakes_of x.0 x.1 q)
@@ -52,11 +53,11 @@ leaves_so s q (l ∷ ls) go =
     (leaves_so l.left go.1.0 ls go.1.2)
 
 module _ {X : Type 0} (number : X → ℕ) where
-  wakes_so : (w : SoloWaker X) → wakes_in (numbered number w) ≡ wakes w
+  pub wakes_so : (w : SoloWaker X) → wakes_in (numbered number w) ≡ wakes w
   wakes_so (OfTask task) = refl
   wakes_so (Outside waker) = refl
 
-map_twice : {A B C : Type 0} (f : A → B) (g : B → C) (xs : List A) → map g (map f xs) ≡ map (λ x. g (f x)) xs
+pub map_twice : {A B C : Type 0} (f : A → B) (g : B → C) (xs : List A) → map g (map f xs) ≡ map (λ x. g (f x)) xs
 map_twice f g [] = refl
 map_twice f g (x ∷ xs) = ap (λ ys. g (f x) ∷ ys) (map_twice f g xs)
 
@@ -85,21 +86,22 @@ module _ {T X : Type 0} (number : X → ℕ) (limit : ℕ) (kind : MachineKind) 
 
   module _ {F : Type 0} (its : ℕ → Lent) (solo_kind : Kind) (first last : Solo F T X) (is_new : IsNew limit solo_kind first)
       (counted : counts solo_kind ≡ not (is_static_kind kind)) (calls : List (Choice × Call T (SoloWaker X)))
-      (before after : Who → ℕ) where
-    pub together : (shown : List (Event T (SoloWaker X))) → Leads its calls before first (new limit (is_static_kind kind)) shown after last
+      (before : Who → ℕ) (after : Owner) where
+    pub together : (shown : List (Event T (SoloWaker X)))
+        → Leads its calls (new_owner before) first (new limit (is_static_kind kind)) shown after last
         → AreSame nothing (numbered number) wakes calls (new limit (is_static_kind kind))
         (made_by (start limit kind parties) (new limit (is_static_kind kind)) ls go)
         → Stands its last (course wakes calls (new limit (is_static_kind kind)))
         × TellsOf number (left_by (start limit kind parties) ls) (course wakes calls (new limit (is_static_kind kind))) shown
     together shown led are =
         let both =
-        leads_alike its calls before after first last (new limit (is_static_kind kind)) shown
+        leads_alike its calls (new_owner before) after first last (new limit (is_static_kind kind)) shown
         (new_known its before limit solo_kind (is_static_kind kind) first is_new counted) led in
         (both.0.stands, tells_of calls shown are both.1)
 
     -- and so with the executor's drop behind them
     pub end_together : (ends : List (Choice × Call T (SoloWaker X))) (shown others : List (Event T (SoloWaker X))) (middle : Solo F T X)
-        → Leads its calls before first (new limit (is_static_kind kind)) shown after middle
+        → Leads its calls (new_owner before) first (new limit (is_static_kind kind)) shown after middle
         → LastCalls its middle (course wakes calls (new limit (is_static_kind kind))) ends others last
         → AreSame nothing (numbered number) wakes (calls ++ ends) (new limit (is_static_kind kind))
         (made_by (start limit kind parties) (new limit (is_static_kind kind)) ls go)
@@ -109,11 +111,11 @@ module _ {T X : Type 0} (number : X → ℕ) (limit : ℕ) (kind : MachineKind) 
     end_together ends shown others middle led then_so are =
         let p : Plain T (SoloWaker X) = course wakes calls (new limit (is_static_kind kind)) in
         let both =
-        leads_alike its calls before after first middle (new limit (is_static_kind kind)) shown
+        leads_alike its calls (new_owner before) after first middle (new limit (is_static_kind kind)) shown
         (new_known its before limit solo_kind (is_static_kind kind) first is_new counted) led in
         let it =
         last_calls_alike its ends middle last p others both.0.stands
-        (none_lost its limit (is_static_kind kind) calls before after first middle shown led) then_so in
+        (none_lost its limit (is_static_kind kind) calls (new_owner before) after first middle shown led) then_so in
         let on = course_of_both wakes calls ends (new limit (is_static_kind kind)) in (
           subst (λ z. IsClosed its last z) (sym on) it.0,
           tells_of (calls ++ ends) (shown ++ others) are

@@ -1,12 +1,14 @@
 -- And so it is with each call, and with lists of them.
-use Rattle.std.proofs.Common.{◌≡◌, ℕ, suc, ◌≤◌, ◌++◌, nat_lt, count_by, cond, filter, Bool, true, false, List, [], ◌∷◌, length, map}
+use Rattle.std.proofs.Common.{◌≡◌, ℕ, suc, ◌≤◌, ◌++◌, nat_lt, count_by, cond, filter, Bool, true, false, List, [], ◌∷◌}
+use Rattle.std.proofs.Common.{length, map}
 use Rattle.std.proofs.Common.{Option, None, slice_get, refl, sym, ap, subst, ◌∙◌, arith}
 use Rattle.std.specs.Option.{option_map}
 use Rattle.executor_parts.specs.declared.mark.Mark.{Mark}
 use Rattle.executor_parts.specs.declared.mark.Mark.TheVariants.{Plain as PlainMark, Urgent}
 use Rattle.task_moves.specs.AbstractTask as abstract
 use Rattle.task_moves.specs.AbstractTask.{AbstractTask}
-use Rattle.plain_scheduler.specs.State.{Answer, ARun, ATick, Cancelled, Choice, Close as Closing, Closed, Code, Done, Drop, DropOwn, Drops}
+use Rattle.plain_scheduler.specs.State.{Answer, ARun, ATick, Cancelled, Choice, Close as Closing, Closed, Code, Done, Drop, DropOwn}
+use Rattle.plain_scheduler.specs.State.{Drops}
 use Rattle.plain_scheduler.specs.State.{Finished, Full, Future, Gave, Gives, Lose, Made, No, NoMemory, Pending, Plain, Poll, PollOwn}
 use Rattle.plain_scheduler.specs.State.{Ready, Run, Taker, Tick, Try, Yes}
 use Rattle.plain_scheduler.specs.Lists.{each, on, or}
@@ -24,7 +26,8 @@ use Rattle.two_roads.proofs.Moving.{Alike, Few, Goes, Setting, andthen, appended
 use Rattle.two_roads.proofs.Moving.{copied_alike, each_alike, enters_alike, given_back_alike, goes_alike, its_task, leaves_alike}
 use Rattle.two_roads.proofs.Moving.{now, on_alike, put_alike, put_so, release_alike, repeat_alike, runs_alike, see_alike, stays}
 use Rattle.two_roads.proofs.Moving.{task_alike, tell_alike, used_alike, wake_alike}
-use Rattle.two_roads.proofs.Taking.{Same, answers_same, dropped_same, dropping_alike, ended_same, if_same, into, left, lost_same, next_same}
+use Rattle.two_roads.proofs.Taking.{Same, stays_same, answers_same, dropped_same, dropping_alike, ended_same}
+use Rattle.two_roads.proofs.Taking.{if_same, into, left, lost_same, next_same}
 use Rattle.two_roads.proofs.Taking.{take_same, taker, tells, tells_as}
 
 module _ {T U A B : Type 0} (k : Setting T U A B) where
@@ -55,7 +58,7 @@ module _ {T U A B : Type 0} (k : Setting T U A B) where
       subst
       (λ r. Same k (cond (is_granted c.refusal) x (answers NoMemory p)) (cond (is_granted r) y (answers NoMemory (now k p)))) k.refusal
       (if_same k (is_granted c.refusal) x (answers NoMemory p) y (answers NoMemory (now k p)) one
-      (answers_same k NoMemory p (now k p) refl))
+      (answers_same k NoMemory p (now k p) (stays_same k p)))
 
   -- spawns
   entered_alike : (mark : Mark) → Goes k (calls.entered k.wakes c mark) (calls.entered k.wakes_as d mark)
@@ -93,7 +96,7 @@ module _ {T U A B : Type 0} (k : Setting T U A B) where
       (andthen k (appended (length p.futures)) (appended (length p.futures)) (entered_alike mark p few)
       (appended_alike k (length p.futures)))
       (tell_alike k))))
-      (answers_same k Full p (now k p) refl)))
+      (answers_same k Full p (now k p) (stays_same k p))))
     where
       made : ℕ → Plain T A → Plain T A
       made n p = tells k (appended n (calls.entered k.wakes c mark p))
@@ -144,7 +147,7 @@ module _ {T U A B : Type 0} (k : Setting T U A B) where
       by (abstract.Polled.Output v) =
           says (Gives v) (put f (abstract.poll w (task f p)).task p) (put f (abstract.poll (k.waker w) (task f (now k p))).task (now k p))
           (put_so k f (abstract.poll w (task f p)).task (abstract.poll (k.waker w) (task f (now k p))).task its p few)
-      by abstract.Polled.Cancelled = answers_same k Cancelled p (now k p) refl
+      by abstract.Polled.Cancelled = answers_same k Cancelled p (now k p) (stays_same k p)
       by abstract.Polled.Waits =
           granted_same (calls.registered k.wakes c f w (copied k.wakes w p))
           (calls.registered k.wakes_as d f (k.waker w) (copied k.wakes_as (k.waker w) (now k p))) p
@@ -292,19 +295,19 @@ module _ {T U A B : Type 0} (k : Setting T U A B) where
       (calls.pending_by k.wakes_as d (abstract.pending_end t) f (taker k by) (now k p)))
       (task_alike k f p) (pending_same (abstract.pending_end (task f p)) f by alike p few)
   pends_same (PollOwn r w) alike p few = take_same k (Run r w) p alike few
-  pends_same (Drop f end by) alike p few = refl
-  pends_same (Lose awaiter by) alike p few = refl
-  pends_same (DropOwn r answer) alike p few = refl
-  pends_same (Closing fs all) alike p few = refl
+  pends_same (Drop f end by) alike p few = stays_same k p
+  pends_same (Lose awaiter by) alike p few = stays_same k p
+  pends_same (DropOwn r answer) alike p few = stays_same k p
+  pends_same (Closing fs all) alike p few = stays_same k p
 
   gives_same : (v : T) (code : Code T A) (p : Plain T A) → Few k p
       → Same k (calls.gives k.wakes c v code p) (calls.gives k.wakes_as d (k.output v) (code_so code) (now k p))
   gives_same v (Poll f by) p few = (dropping_alike k f (Gave v) by p few).same
   gives_same v (PollOwn r w) p few = (enters_alike k (DropOwn r Ready) p few).same
-  gives_same v (Drop f end by) p few = refl
-  gives_same v (Lose awaiter by) p few = refl
-  gives_same v (DropOwn r answer) p few = refl
-  gives_same v (Closing fs all) p few = refl
+  gives_same v (Drop f end by) p few = stays_same k p
+  gives_same v (Lose awaiter by) p few = stays_same k p
+  gives_same v (DropOwn r answer) p few = stays_same k p
+  gives_same v (Closing fs all) p few = stays_same k p
 
   ends_same : (code : Code T A) → EndsAlike c d code → (p : Plain T A) → Few k p
       → Same k (calls.ends k.wakes c code p) (calls.ends k.wakes_as d (code_so code) (now k p))
@@ -313,20 +316,20 @@ module _ {T U A B : Type 0} (k : Setting T U A B) where
   ends_same (DropOwn r answer) alike p few =
       says answer (calls.gone k.wakes c r p) (calls.gone k.wakes_as d r (now k p)) (gone_alike r p few)
   ends_same (Closing fs all) alike p few = close_same fs all p few
-  ends_same (Poll f by) alike p few = refl
-  ends_same (PollOwn r w) alike p few = refl
+  ends_same (Poll f by) alike p few = stays_same k p
+  ends_same (PollOwn r w) alike p few = stays_same k p
 
   innermost_same : (end : Code T A → Plain T A → Plain T A) (end_as : Code U B → Plain U B → Plain U B)
       → ((code : Code T A) → EndsAlike c d code → (p : Plain T A) → Few k p → Same k (end code p) (end_as (code_so code) (now k p)))
       → (codes : List (Code T A)) → InnermostAlike c d codes → (p : Plain T A) → Few k p
       → Same k (calls.innermost k.wakes c codes end p) (calls.innermost k.wakes_as d (map code_so codes) end_as (now k p))
-  innermost_same end end_as both [] alike p few = refl
+  innermost_same end end_as both [] alike p few = stays_same k p
   innermost_same end end_as both (code ∷ rest) alike p few = both code alike (record p { inside = rest }) few
 
   gives_innermost : (v : T) (codes : List (Code T A)) (p : Plain T A) → Few k p
       → Same k (calls.innermost k.wakes c codes (calls.gives k.wakes c v) p)
       (calls.innermost k.wakes_as d (map code_so codes) (calls.gives k.wakes_as d (k.output v)) (now k p))
-  gives_innermost v [] p few = refl
+  gives_innermost v [] p few = stays_same k p
   gives_innermost v (code ∷ rest) p few = gives_same v code (record p { inside = rest }) few
 
   over_same : (r : ℕ) (a : Answer T) (code : Code T A) (p : Plain T A) → Few k p
@@ -335,7 +338,8 @@ module _ {T U A B : Type 0} (k : Setting T U A B) where
       (enters (code_so code) (now k p)))
   over_same r a code p few =
       if_same k (or (slice_get p.runs r) (λ run. run.is_over) true) (answers a p) (enters code p)
-      (answers (answer_as k.output a) (now k p)) (enters (code_so code) (now k p)) (answers_same k a p (now k p) refl) refl
+      (answers (answer_as k.output a) (now k p)) (enters (code_so code) (now k p)) (answers_same k a p (now k p) (stays_same k p))
+      refl
 
   -- each call
   call_same : (call : Call T A) (p : Plain T A) → CallsAlike c d p call → Few k p
@@ -343,10 +347,9 @@ module _ {T U A B : Type 0} (k : Setting T U A B) where
   call_same (calls.Spawn mark) p alike few = spawn_same mark p few
   call_same calls.TryTick p alike few = take_same k Try p alike few
   call_same calls.IsEmpty p alike few =
-      answers_same k (cond (is_none (living_from 0 p.futures)) Yes No) p (now k p) refl
-      ∙ ap (λ (a : Answer U). answers a (now k p))
-      (by (is_none (living_from 0 p.futures))
-      ∙ ap (λ ns. cond (is_none ns) Yes No) (sym (living_so 0 p.futures)))
+      subst (λ a. Same k (answers (cond (is_none (living_from 0 p.futures)) Yes No) p) (answers a (now k p)))
+      (by (is_none (living_from 0 p.futures)) ∙ ap (λ ns. cond (is_none ns) Yes No) (sym (living_so 0 p.futures)))
+      (answers_same k (cond (is_none (living_from 0 p.futures)) Yes No) p (now k p) (stays_same k p))
     where
       by : (b : Bool) → answer_as k.output (cond b Yes No) ≡ cond b Yes No
       by true = refl
@@ -372,13 +375,13 @@ module _ {T U A B : Type 0} (k : Setting T U A B) where
   call_same (calls.DropHandle f) p alike few =
       into k (calls.detach k.wakes c f) (calls.detach k.wakes_as d f) (cancel_alike f p few) (detach_same f)
   call_same calls.NewTick p alike few =
-      granted_same (answers Made p) (answers Made (now k p)) p (answers_same k Made p (now k p) refl)
+      granted_same (answers Made p) (answers Made (now k p)) p (answers_same k Made p (now k p) (stays_same k p))
   call_same (calls.PollTick t w) p alike few = take_same k (Tick t w) p alike few
   call_same (calls.DropTick t) p alike few =
       says Done (leaves k.wakes c (ATick t) p) (leaves k.wakes_as d (ATick t) (now k p)) (leaves_alike k (ATick t) p few)
   call_same calls.NewRun p alike few =
       let more : Plain T A = record p { runs = p.runs ++ record { taken = 0; is_over = false } ∷ [] } in
-      granted_same (answers Made more) (answers Made (now k more)) p (answers_same k Made more (now k more) refl)
+      granted_same (answers Made more) (answers Made (now k more)) p (answers_same k Made more (now k more) (stays_same k more))
   call_same (calls.PollRun r w) p alike few = over_same r Finished (PollOwn r w) p few
   call_same (calls.DropRun r) p alike few = over_same r Done (DropOwn r Done) p few
   call_same calls.Leak p alike few = says Done (calls.leak k.wakes c p) (calls.leak k.wakes_as d (now k p)) (leak_alike p few)
@@ -393,27 +396,29 @@ module _ {T U A B : Type 0} (k : Setting T U A B) where
 
 module _ {T U A B : Type 0} (output : T → U) (waker : A → B) (wakes : A → Option ℕ) (wakes_as : B → Option ℕ)
     (same : (a : A) → wakes_as (waker a) ≡ wakes a) where
-  calls_same : (c d : Choice) (call : Call T A) (p : Plain T A) → ChooseAlike c d p call
+  abbrev setting : (c d : Choice) (p : Plain T A) → length p.lying ≤ c.tells → length p.lying ≤ d.tells
+      → c.refusal ≡ d.refusal → Setting T U A B
+  setting c d p tells tells_so refusal = record {
+    output = output;
+    waker = waker;
+    wakes = wakes;
+    wakes_as = wakes_as;
+    same = same;
+    choice = c;
+    other = d;
+    many = length p.lying;
+    low = tells;
+    low_as = tells_so;
+    refusal = refusal;
+  }
+
+  least : (n : ℕ) → n ≤ n
+  least n = omega arith
+
+  pub calls_same : (c d : Choice) (call : Call T A) (p : Plain T A) → ChooseAlike c d p call
       → renamed output waker (does wakes c call p) ≡ does wakes_as d (call_as output waker call) (renamed output waker p)
   calls_same c d call p alike =
-      call_same
-      (record {
-        output = output;
-        waker = waker;
-        wakes = wakes;
-        wakes_as = wakes_as;
-        same = same;
-        choice = c;
-        other = d;
-        many = length p.lying;
-        low = alike.tells;
-        low_as = alike.tells_so;
-        refusal = alike.refusal;
-      })
-      call p alike.takes (least (length p.lying))
-    where
-      least : (n : ℕ) → n ≤ n
-      least n = omega arith
+      call_same (setting c d p alike.tells alike.tells_so alike.refusal) call p alike.takes (least (length p.lying))
 
   pub courses_same : (cs : List (Choice × Call T A)) (p : Plain T A) (ds : List (Choice × Call U B)) → AreSame output waker wakes cs p ds
       → renamed output waker (course wakes cs p) ≡ course wakes_as ds (renamed output waker p)

@@ -6,3 +6,14 @@ pub mod Calling
 pub mod Plainly
 pub mod PlainCalls
 pub mod Both
+pub mod Inner
+pub mod InDrop
+pub mod Refusing
+pub mod Meant
+pub mod Acted
+pub mod ActedToEnd
+pub mod Seeking
+pub mod ActTurns
+pub mod SoloTurns
+pub mod InStep
+pub mod InStepToEnd

@@ -157,7 +157,7 @@ module _ {T A : Type 0} (wakes : A → Option ℕ) (c : Choice) where
       if_plain (or (slice_get p.runs r) (λ run. run.is_over) true) (answers a p) (enters code p) (says wakes c a p plain)
       (same_plain p (enters code p) refl refl plain)
 
-  call_plain : (call : Call T A) → is_plain_call call ≡ true → Keeps (does wakes c call)
+  pub call_plain : (call : Call T A) → is_plain_call call ≡ true → Keeps (does wakes c call)
   call_plain (calls.Spawn PlainMark) is p plain = spawn_plain p plain
   call_plain (calls.Spawn Urgent) is p plain = absurd cc
   call_plain calls.TryTick is p plain = take_plain wakes c Try p plain
@@ -194,18 +194,21 @@ module _ {T A : Type 0} (wakes : A → Option ℕ) (c : Choice) where
   call_plain (calls.EndsWith v) is p plain = innermost_plain (calls.gives wakes c v) (gives_plain v) p.inside p plain
   call_plain calls.Ends is p plain = innermost_plain (calls.ends wakes c) ends_plain p.inside p plain
 
+-- futures of both marks are not due then
+module _ {T A : Type 0} where
+  pub never_two : (p : Plain T A) → IsPlain p → ¬ AreBothDue p.due
+  never_two p plain both = apart (sym (none_urgent p.due plain.due) ∙ both.urgent)
+    where
+      apart : false ≡ true → ⊥
+      apart is = cc
+
 module _ {T A : Type 0} (wakes : A → Option ℕ) where
-  course_plain : (cs : List (Choice × Call T A)) → are_plain cs ≡ true → (p : Plain T A) → IsPlain p → IsPlain (course wakes cs p)
+  pub course_plain : (cs : List (Choice × Call T A)) → are_plain cs ≡ true → (p : Plain T A) → IsPlain p → IsPlain (course wakes cs p)
   course_plain [] are p plain = plain
   course_plain ((c, call) ∷ cs) are p plain =
       let both = both_true (is_plain_call call) (are_plain cs) are in
       course_plain cs both.1 (does wakes c call p) (call_plain wakes c call both.0 p plain)
 
-  -- so futures of both marks are never due
   pub never_both : (cs : List (Choice × Call T A)) (p : Plain T A) → IsPlain p → are_plain cs ≡ true
       → ¬ AreBothDue (course wakes cs p).due
-  never_both cs p plain are both =
-      apart (sym (none_urgent (course wakes cs p).due (course_plain cs are p plain).due) ∙ both.urgent)
-    where
-      apart : false ≡ true → ⊥
-      apart is = cc
+  never_both cs p plain are = never_two (course wakes cs p) (course_plain cs are p plain)

@@ -1,5 +1,6 @@
 -- And so it is with a future that is taken, with what becomes of it, and with what then goes on.
-use Rattle.std.proofs.Common.{◌≡◌, ℕ, suc, ◌+◌, ◌==◌, ◌≤◌, nat_lt, cond, Bool, true, false, List, [], ◌∷◌, ◌++◌, length, map, find}
+use Rattle.std.proofs.Common.{◌≡◌, ℕ, suc, ◌+◌, ◌==◌, ◌≤◌, nat_lt, cond, Bool, true, false, List, [], ◌∷◌, ◌++◌, length}
+use Rattle.std.proofs.Common.{map, find}
 use Rattle.std.proofs.Common.{Option, Some, None, slice_get, refl, sym, ap, subst, ◌∙◌}
 use Rattle.std.specs.Option.{option_map}
 use Rattle.executor_parts.specs.declared.mark.Mark.{Mark}
@@ -9,7 +10,8 @@ use Rattle.task_moves.specs.AbstractTask as abstract
 use Rattle.task_moves.specs.AbstractTask.{AbstractTask, Left}
 use Rattle.plain_scheduler.specs.State.{Answer, Answers, ARun, ATick, AtOnce, Calls, Choice, Closed, Done, Drop, Drops, Due, End, Event}
 use Rattle.plain_scheduler.specs.State.{Gave}
-use Rattle.plain_scheduler.specs.State.{Granted, Later, Lose, Loses, Lying, No, NoMemory, Pending, Plain, Poll, Polls, Ready, Refusal, Run}
+use Rattle.plain_scheduler.specs.State.{Granted, Later, Lose, Loses, Lying, No, NoMemory, Pending, Plain, Poll, Polls, Ready, Refusal}
+use Rattle.plain_scheduler.specs.State.{Run}
 use Rattle.plain_scheduler.specs.State.{Taker, Tick, Try, Who, Yes}
 use Rattle.plain_scheduler.specs.Lists.{any, each, on, or, repeat, without}
 use Rattle.plain_scheduler.specs.Moves.{answers, called, chosen, copied, enters, is_common, is_due, is_kept, keeps, let_go, lies, looks}
@@ -20,9 +22,11 @@ use Rattle.two_roads.specs.Renaming.{AreBothDue, GoesOnAlike, GoesOnIf, RunsAlik
 use Rattle.two_roads.specs.Renaming.{answer_as, end_as, event_as, lying_as, taker_as}
 use Rattle.two_roads.proofs.Words.{find_map, map_append, without_map}
 use Rattle.two_roads.proofs.Tasks.{begins_so, finishes_so, left_as, ready_so}
-use Rattle.two_roads.proofs.Moving.{Alike, Few, Goes, Setting, andthen, called_alike, changed_alike, copied_alike, each_alike, enters_alike}
+use Rattle.two_roads.proofs.Moving.{Alike, Few, Goes, Setting, andthen, called_alike, changed_alike, copied_alike, each_alike}
+use Rattle.two_roads.proofs.Moving.{enters_alike}
 use Rattle.two_roads.proofs.Moving.{goes_alike, if_alike, its_task, keeps_alike, now, on_alike, on_here, put_alike, put_so}
-use Rattle.two_roads.proofs.Moving.{release_alike, repeat_alike, runs_alike, see_alike, stays, task_alike, tell_alike, up_alike, wake_alike}
+use Rattle.two_roads.proofs.Moving.{release_alike, repeat_alike, runs_alike, see_alike, stays, task_alike, tell_alike, up_alike}
+use Rattle.two_roads.proofs.Moving.{wake_alike}
 
 -- at which mark is looked first is nothing where futures of one alone are due
 in_either_order : (due : List Due) → ¬ AreBothDue due
@@ -72,6 +76,9 @@ module _ {T U A B : Type 0} (k : Setting T U A B) where
   -- at the end of a call one more may lie
   abbrev pub Same : Plain T A → Plain U B → Type 0
   Same x y = now k x ≡ y
+
+  pub stays_same : (p : Plain T A) → Same p (now k p)
+  stays_same p = refl
 
   pub into : {x : Plain T A} {y : Plain U B} (f : Plain T A → Plain T A) (g : Plain U B → Plain U B) → Alike k x y
       → ((p : Plain T A) → Few k p → Same (f p) (g (now k p))) → Same (f x) (g y)
@@ -186,8 +193,7 @@ module _ {T U A B : Type 0} (k : Setting T U A B) where
   lies_down_same : (who : Who) (w : A) (p : Plain T A) → Few k p
       → Same (takes.lies_down k.wakes c who w p) (takes.lies_down k.wakes_as d who (k.waker w) (now k p))
   lies_down_same who w p few =
-      ap (now k) refl
-      ∙ subst
+      subst
       (λ o. Same (takes.lies_down k.wakes c who w p)
       (or o (λ l. or l.waker (λ old. takes.lain_again k.wakes_as d who (k.waker w) old q_as) (takes.lain k.wakes_as d who (k.waker w) q_as))
       (takes.lain k.wakes_as d who (k.waker w) q_as)))
@@ -229,7 +235,7 @@ module _ {T U A B : Type 0} (k : Setting T U A B) where
   rests_same Granted who w p few =
       answers_same Pending (takes.lies_down k.wakes c who w p) (takes.lies_down k.wakes_as d who (k.waker w) (now k p))
       (lies_down_same who w p few)
-  rests_same AtOnce who w p few = answers_same NoMemory p (now k p) refl
+  rests_same AtOnce who w p few = answers_same NoMemory p (now k p) (stays_same p)
   rests_same Later who w p few =
       answers_same NoMemory (takes.lies_down k.wakes c who w p) (takes.lies_down k.wakes_as d who (k.waker w) (now k p))
       (lies_down_same who w p few)
@@ -242,7 +248,7 @@ module _ {T U A B : Type 0} (k : Setting T U A B) where
 
   nothing_same : (by : Taker A) (p : Plain T A) → Few k p
       → Same (takes.nothing k.wakes c by p) (takes.nothing k.wakes_as d (taker by) (now k p))
-  nothing_same Try p few = answers_same No p (now k p) refl
+  nothing_same Try p few = answers_same No p (now k p) (stays_same p)
   nothing_same (Tick t w) p few = rests_so (ATick t) w p few
   nothing_same (Run r w) p few = rests_so (ARun r) w p few
 
@@ -310,8 +316,8 @@ module _ {T U A B : Type 0} (k : Setting T U A B) where
 
   pub next_same : (by : Taker A) → GoesOnAlike c d by → (p : Plain T A) → Few k p
       → Same (takes.next k.wakes c by p) (takes.next k.wakes_as d (taker by) (now k p))
-  next_same Try on p few = answers_same Yes p (now k p) refl
-  next_same (Tick t w) on p few = answers_same Ready p (now k p) refl
+  next_same Try on p few = answers_same Yes p (now k p) (stays_same p)
+  next_same (Tick t w) on p few = answers_same Ready p (now k p) (stays_same p)
   next_same (Run r w) on p few =
       if_same (nat_lt (or (slice_get p.runs r) (λ run. run.taken) 0) 200) (takes.take k.wakes c (Run r w) p)
       (takes.gives_way k.wakes c r w p) (takes.take k.wakes_as d (Run r (k.waker w)) (now k p))
@@ -334,7 +340,7 @@ module _ {T U A B : Type 0} (k : Setting T U A B) where
 
       next_if : (by : Option (Taker A)) → GoesOnIf c d by → (p : Plain T A) → Few k p
           → Same (goes_on by p) (goes_as (option_map (taker_as k.waker) by) (now k p))
-      next_if None on_so p few = answers_same Done p (now k p) refl
+      next_if None on_so p few = answers_same Done p (now k p) (stays_same p)
       next_if (Some by) on_so p few = next_same by on_so p few
 
   -- what goes out of a task

@@ -1,5 +1,5 @@
 -- The plain scheduler with other outputs and other wakers in the place of its own.
-use Rattle.std.specs.Prelude.{◌≡◌, ℕ, ◌≤◌, true, List, [], ◌∷◌, map, length, Option, Some, None}
+use Rattle.std.specs.Prelude.{◌≡◌, ℕ, ◌≤◌, Bool, true, false, List, [], ◌∷◌, map, length, Option, Some, None}
 use Rattle.std.specs.Option.{option_map}
 use Rattle.executor_parts.specs.declared.mark.Mark.TheVariants.{Plain as PlainMark, Urgent}
 use Rattle.task_moves.specs.AbstractTask.{AbstractTask}
@@ -107,6 +107,11 @@ module _ {T U A B : Type 0} (output : T → U) (waker : A → B) where
   call_as Pends = Pends
   call_as (EndsWith v) = EndsWith (output v)
   call_as Ends = Ends
+
+-- memory is refused
+abbrev pub is_refusal : {T A : Type 0} → Event T A → Bool
+is_refusal (Answers NoMemory) = true
+is_refusal _ = false
 
 -- futures of both marks are due that no run keeps
 pub record AreBothDue (due : List Due) : Type 0 where

@@ -4,3 +4,4 @@
 
 pub mod names;
 pub mod together;
+pub mod turns;

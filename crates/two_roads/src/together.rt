@@ -1,9 +1,16 @@
 //! By the same calls the step machine, one party at a time alone, and the executor of one owner give the same.
-ghost use Rattle.std.specs.Prelude.{◌≡◌, ℕ, ◌++◌, List, not};
+ghost use Rattle.std.specs.Prelude.{◌≡◌, ℕ, ◌++◌, [], ◌∷◌, List, not, true};
+ghost use Rattle.executor_model.specs.Quiet.{IsQuiet};
 ghost use Rattle.executor_model.specs.Steps.{is_static_kind, start};
+ghost use Rattle.executor_model.specs.declared.call.Call.TheVariants.{DropExecutor as DropsExecutor};
+ghost use Rattle.executor_model.specs.declared.step.Step.TheVariants.{Begin};
 ghost use Rattle.executor_model.specs.declared.kind.Kind.{Kind as MachineKind};
 ghost use Rattle.machine_roads.specs.Course.{GoAlike, Lone};
-ghost use Rattle.plain_scheduler.specs.Calls.{Call, course, new};
+ghost use Rattle.machine_roads.specs.DropActs.{AreDropActs, DropActAlike, StandsDropping, left_by as left_by_acts, plain_behind};
+ghost use Rattle.machine_roads.specs.Seeing.{heard_in};
+ghost use Rattle.machine_roads.specs.View.{wakes as wakes_in};
+ghost use Rattle.machine_roads.specs.Within.{Act, ActAlike, AreActs, IsAct, standing};
+ghost use Rattle.plain_scheduler.specs.Calls.{Call, DropExecutor, course, does, new};
 ghost use Rattle.plain_scheduler.specs.State.{Choice, Event, Who};
 ghost use Rattle.solo.specs.Solo.{IsNew, counts};
 ghost use Rattle.solo.specs.declared.names.Kind.{Kind};
@@ -13,10 +20,14 @@ ghost use Rattle.solo.specs.declared.solo.Solo.{Solo};
 ghost use Rattle.solo_laws.specs.Closing.{IsClosed};
 ghost use Rattle.solo_laws.specs.Courses.{Leads};
 ghost use Rattle.solo_laws.specs.LastCalls.{LastCalls};
+ghost use Rattle.solo_laws.specs.Owner.{Owner, new_owner};
 ghost use Rattle.solo_laws.specs.Road.{wakes};
 ghost use Rattle.solo_laws.specs.Tabled.{Stands};
+ghost use Rattle.two_roads.specs.Acting.{AreActed, AreOfSteps, EndActed, EndOfSteps, acts_by, drop_acts_by, left_of};
+ghost use Rattle.two_roads.specs.Plainly.{are_plain};
 ghost use Rattle.two_roads.specs.Renaming.{AreSame};
-ghost use Rattle.two_roads.specs.Together.{TellsOf, left_by, made_by, nothing, numbered};
+ghost use Rattle.two_roads.specs.Together.{TellsOf, as_heard, left_by, made_by, nothing, numbered};
+ghost use Rattle.two_roads.specs.Turns.{poll_no_tick};
 
 /// A list of lone calls of a new machine is one of the plain scheduler's, and so is a list of calls of a new executor of one owner.
 /// Where these are the same calls, with the same ends of polls and drops and the same refusals, both then stand where one plain
@@ -24,8 +35,9 @@ ghost use Rattle.two_roads.specs.Together.{TellsOf, left_by, made_by, nothing, n
 pub fn both_show_alike<F, T, X>()
     ensures { (its : ℕ → Lent) (number : X → ℕ) (limit : ℕ) (kind : MachineKind) (solo_kind : Kind) (parties : ℕ) (ls : List Lone)
         (go : GoAlike (start limit kind parties) (new limit (is_static_kind kind)) ls) (calls : List (Choice × Call T (SoloWaker X)))
-        (first last : Solo F T X) (shown : List (Event T (SoloWaker X))) (before after : Who → ℕ) → IsNew limit solo_kind first
-        → counts solo_kind ≡ not (is_static_kind kind) → Leads its calls before first (new limit (is_static_kind kind)) shown after last
+        (first last : Solo F T X) (shown : List (Event T (SoloWaker X))) (before : Who → ℕ) (after : Owner) → IsNew limit solo_kind first
+        → counts solo_kind ≡ not (is_static_kind kind)
+        → Leads its calls (new_owner before) first (new limit (is_static_kind kind)) shown after last
         → AreSame nothing (numbered number) wakes calls (new limit (is_static_kind kind))
         (made_by (start limit kind parties) (new limit (is_static_kind kind)) ls go)
         → let p = course wakes calls (new limit (is_static_kind kind)) in
@@ -37,12 +49,140 @@ pub fn both_end_alike<F, T, X>()
     ensures { (its : ℕ → Lent) (number : X → ℕ) (limit : ℕ) (kind : MachineKind) (solo_kind : Kind) (parties : ℕ) (ls : List Lone)
         (go : GoAlike (start limit kind parties) (new limit (is_static_kind kind)) ls)
         (calls ends : List (Choice × Call T (SoloWaker X))) (first middle last : Solo F T X)
-        (shown others : List (Event T (SoloWaker X))) (before after : Who → ℕ) → IsNew limit solo_kind first
+        (shown others : List (Event T (SoloWaker X))) (before : Who → ℕ) (after : Owner) → IsNew limit solo_kind first
         → counts solo_kind ≡ not (is_static_kind kind)
-        → Leads its calls before first (new limit (is_static_kind kind)) shown after middle
+        → Leads its calls (new_owner before) first (new limit (is_static_kind kind)) shown after middle
         → LastCalls its middle (course wakes calls (new limit (is_static_kind kind))) ends others last
         → AreSame nothing (numbered number) wakes (calls ++ ends) (new limit (is_static_kind kind))
         (made_by (start limit kind parties) (new limit (is_static_kind kind)) ls go)
         → let p = course wakes (calls ++ ends) (new limit (is_static_kind kind)) in
         IsClosed its last p × TellsOf number (left_by (start limit kind parties) ls) p (shown ++ others) }
+{}
+
+/// So it is with calls one inside another, as a poll makes them: where the calls that the machine's parties begin, and the answers of
+/// polls and ends of drops that its steps have, are those of a list of calls of an executor of one owner, the machine's trace tells of
+/// what that shows, wherever a party rests.
+pub fn nested_calls_show_alike<F, T, X>()
+    ensures { (its : ℕ → Lent) (number : X → ℕ) (limit : ℕ) (kind : MachineKind) (solo_kind : Kind) (parties : ℕ) (acts : List Act)
+        (go : ActAlike (start limit kind parties) (new limit (is_static_kind kind)) acts) (calls : List (Choice × Call T (SoloWaker X)))
+        (first last : Solo F T X) (shown : List (Event T (SoloWaker X))) (before : Who → ℕ) (after : Owner)
+        → IsNew limit solo_kind first → counts solo_kind ≡ not (is_static_kind kind)
+        → Leads its calls (new_owner before) first (new limit (is_static_kind kind)) shown after last
+        → AreSame nothing (numbered number) wakes calls (new limit (is_static_kind kind))
+        (acts_by (start limit kind parties) (new limit (is_static_kind kind)) acts go)
+        → Stands its last (course wakes calls (new limit (is_static_kind kind)))
+        × (heard_in (left_of (start limit kind parties) acts).world.trace ≡ as_heard number shown) }
+{}
+
+/// And so it is to the end: from the executor's drop on, once no call is in progress any more, with the calls made in the drops of its
+/// futures and behind it.
+pub fn nested_calls_end_alike<F, T, X>()
+    ensures { (its : ℕ → Lent) (number : X → ℕ) (limit : ℕ) (kind : MachineKind) (solo_kind : Kind) (parties : ℕ) (acts : List Act)
+        (go : ActAlike (start limit kind parties) (new limit (is_static_kind kind)) acts) (a : Act) (d : Choice) (later : List Act)
+        (stands : StandsDropping (standing a.left a.party)
+        (does wakes_in d DropExecutor (plain_behind acts (start limit kind parties) (new limit (is_static_kind kind)) go)))
+        (on : DropActAlike a.left
+        (does wakes_in d DropExecutor (plain_behind acts (start limit kind parties) (new limit (is_static_kind kind)) go)) later)
+        (calls ends : List (Choice × Call T (SoloWaker X))) (first middle last : Solo F T X)
+        (shown others : List (Event T (SoloWaker X))) (before : Who → ℕ) (after : Owner) → IsNew limit solo_kind first
+        → counts solo_kind ≡ not (is_static_kind kind)
+        → Leads its calls (new_owner before) first (new limit (is_static_kind kind)) shown after middle
+        → LastCalls its middle (course wakes calls (new limit (is_static_kind kind))) ends others last
+        → AreSame nothing (numbered number) wakes (calls ++ ends) (new limit (is_static_kind kind))
+        (acts_by (start limit kind parties) (new limit (is_static_kind kind)) acts go
+        ++ (d, DropExecutor) ∷ drop_acts_by a.left
+        (does wakes_in d DropExecutor (plain_behind acts (start limit kind parties) (new limit (is_static_kind kind)) go)) later on)
+        → IsClosed its last (course wakes (calls ++ ends) (new limit (is_static_kind kind)))
+        × (heard_in (left_of a.left later).world.trace ≡ as_heard number (shown ++ others)) }
+{}
+
+/// And so, where no run takes a future, each list of such acts of a new machine tells of what a list of calls of a new executor of one
+/// owner shows, where each of these calls is what the machine's step begins, or the answer of a poll or the end of a drop that the step
+/// has; where a call that asks for memory is refused it as the machine's trace and world say of the act; and where futures of both marks
+/// are due, the executor looks first at the mark that the machine's turn names.
+pub fn unrefused_calls_show_alike<F, T, X>()
+    ensures { (its : ℕ → Lent) (number : X → ℕ) (limit : ℕ) (kind : MachineKind) (solo_kind : Kind) (parties : ℕ) (acts : List Act)
+        (calls : List (Choice × Call T (SoloWaker X))) (first last : Solo F T X) (shown : List (Event T (SoloWaker X)))
+        (before : Who → ℕ) (after : Owner) → AreActs (start limit kind parties) acts
+        → IsNew limit solo_kind first → counts solo_kind ≡ not (is_static_kind kind)
+        → Leads its calls (new_owner before) first (new limit (is_static_kind kind)) shown after last
+        → AreActed number (start limit kind parties) acts (new limit (is_static_kind kind)) calls
+        → Stands its last (course wakes calls (new limit (is_static_kind kind)))
+        × (heard_in (left_of (start limit kind parties) acts).world.trace ≡ as_heard number shown) }
+{}
+
+/// Where no tick is polled, nothing is asked of turns either: both take as many in each call.
+pub fn tickless_calls_show_alike<F, T, X>()
+    ensures { (its : ℕ → Lent) (number : X → ℕ) (limit : ℕ) (kind : MachineKind) (solo_kind : Kind) (parties : ℕ) (acts : List Act)
+        (calls : List (Choice × Call T (SoloWaker X))) (first last : Solo F T X) (shown : List (Event T (SoloWaker X)))
+        (before : Who → ℕ) (after : Owner) → AreActs (start limit kind parties) acts
+        → IsNew limit solo_kind first → counts solo_kind ≡ not (is_static_kind kind)
+        → Leads its calls (new_owner before) first (new limit (is_static_kind kind)) shown after last
+        → poll_no_tick calls ≡ true → AreOfSteps number (start limit kind parties) acts (new limit (is_static_kind kind)) calls
+        → Stands its last (course wakes calls (new limit (is_static_kind kind)))
+        × (heard_in (left_of (start limit kind parties) acts).world.trace ≡ as_heard number shown) }
+{}
+
+/// Where each future is spawned plain, nothing is asked of turns.
+pub fn plain_calls_show_alike<F, T, X>()
+    ensures { (its : ℕ → Lent) (number : X → ℕ) (limit : ℕ) (kind : MachineKind) (solo_kind : Kind) (parties : ℕ) (acts : List Act)
+        (calls : List (Choice × Call T (SoloWaker X))) (first last : Solo F T X) (shown : List (Event T (SoloWaker X)))
+        (before : Who → ℕ) (after : Owner) → AreActs (start limit kind parties) acts
+        → IsNew limit solo_kind first → counts solo_kind ≡ not (is_static_kind kind)
+        → Leads its calls (new_owner before) first (new limit (is_static_kind kind)) shown after last
+        → are_plain calls ≡ true → AreOfSteps number (start limit kind parties) acts (new limit (is_static_kind kind)) calls
+        → Stands its last (course wakes calls (new limit (is_static_kind kind)))
+        × (heard_in (left_of (start limit kind parties) acts).world.trace ≡ as_heard number shown) }
+{}
+
+/// And so to the end: from the executor's drop on, once no call is in progress any more, with the calls made in the drops of its futures
+/// and behind it.
+pub fn unrefused_calls_end_alike<F, T, X>()
+    ensures { (its : ℕ → Lent) (number : X → ℕ) (limit : ℕ) (kind : MachineKind) (solo_kind : Kind) (parties : ℕ) (acts : List Act)
+        (a : Act) (later : List Act) (calls ends : List (Choice × Call T (SoloWaker X))) (first middle last : Solo F T X)
+        (shown others : List (Event T (SoloWaker X))) (before : Who → ℕ) (after : Owner) → AreActs (start limit kind parties) acts
+        → IsQuiet (left_by_acts (start limit kind parties) acts).world.trace → IsAct (left_by_acts (start limit kind parties) acts) a
+        → a.first ≡ Begin a.party DropsExecutor → AreDropActs a.left later → IsNew limit solo_kind first
+        → counts solo_kind ≡ not (is_static_kind kind)
+        → Leads its calls (new_owner before) first (new limit (is_static_kind kind)) shown after middle
+        → LastCalls its middle (course wakes calls (new limit (is_static_kind kind))) ends others last
+        → (course wakes calls (new limit (is_static_kind kind))).inside ≡ []
+        → AreActed number (start limit kind parties) acts (new limit (is_static_kind kind)) calls
+        → EndActed number a later (course wakes calls (new limit (is_static_kind kind))) ends
+        → IsClosed its last (course wakes (calls ++ ends) (new limit (is_static_kind kind)))
+        × (heard_in (left_of a.left later).world.trace ≡ as_heard number (shown ++ others)) }
+{}
+
+/// And so it is to the end where no tick is polled: from the executor's drop on no call looks for a future to take.
+pub fn tickless_calls_end_alike<F, T, X>()
+    ensures { (its : ℕ → Lent) (number : X → ℕ) (limit : ℕ) (kind : MachineKind) (solo_kind : Kind) (parties : ℕ) (acts : List Act)
+        (a : Act) (later : List Act) (calls ends : List (Choice × Call T (SoloWaker X))) (first middle last : Solo F T X)
+        (shown others : List (Event T (SoloWaker X))) (before : Who → ℕ) (after : Owner) → AreActs (start limit kind parties) acts
+        → IsQuiet (left_by_acts (start limit kind parties) acts).world.trace → IsAct (left_by_acts (start limit kind parties) acts) a
+        → a.first ≡ Begin a.party DropsExecutor → AreDropActs a.left later → IsNew limit solo_kind first
+        → counts solo_kind ≡ not (is_static_kind kind)
+        → Leads its calls (new_owner before) first (new limit (is_static_kind kind)) shown after middle
+        → LastCalls its middle (course wakes calls (new limit (is_static_kind kind))) ends others last
+        → (course wakes calls (new limit (is_static_kind kind))).inside ≡ [] → poll_no_tick calls ≡ true
+        → AreOfSteps number (start limit kind parties) acts (new limit (is_static_kind kind)) calls
+        → EndOfSteps number a later (course wakes calls (new limit (is_static_kind kind))) ends
+        → IsClosed its last (course wakes (calls ++ ends) (new limit (is_static_kind kind)))
+        × (heard_in (left_of a.left later).world.trace ≡ as_heard number (shown ++ others)) }
+{}
+
+/// And so it is to the end where each future is spawned plain.
+pub fn plain_calls_end_alike<F, T, X>()
+    ensures { (its : ℕ → Lent) (number : X → ℕ) (limit : ℕ) (kind : MachineKind) (solo_kind : Kind) (parties : ℕ) (acts : List Act)
+        (a : Act) (later : List Act) (calls ends : List (Choice × Call T (SoloWaker X))) (first middle last : Solo F T X)
+        (shown others : List (Event T (SoloWaker X))) (before : Who → ℕ) (after : Owner) → AreActs (start limit kind parties) acts
+        → IsQuiet (left_by_acts (start limit kind parties) acts).world.trace → IsAct (left_by_acts (start limit kind parties) acts) a
+        → a.first ≡ Begin a.party DropsExecutor → AreDropActs a.left later → IsNew limit solo_kind first
+        → counts solo_kind ≡ not (is_static_kind kind)
+        → Leads its calls (new_owner before) first (new limit (is_static_kind kind)) shown after middle
+        → LastCalls its middle (course wakes calls (new limit (is_static_kind kind))) ends others last
+        → (course wakes calls (new limit (is_static_kind kind))).inside ≡ [] → are_plain calls ≡ true → are_plain ends ≡ true
+        → AreOfSteps number (start limit kind parties) acts (new limit (is_static_kind kind)) calls
+        → EndOfSteps number a later (course wakes calls (new limit (is_static_kind kind))) ends
+        → IsClosed its last (course wakes (calls ++ ends) (new limit (is_static_kind kind)))
+        × (heard_in (left_of a.left later).world.trace ≡ as_heard number (shown ++ others)) }
 {}

@@ -181,6 +181,15 @@ wakers_through : (fs : List ℕ) (w : World) → (without_handles fs w).wakers �
 wakers_through [] w = refl
 wakers_through (f ∷ fs) w = wakers_through fs w
 
+-- the trace and who sleeps are as they were
+pub trace_through : (fs : List ℕ) (w : World) → (without_handles fs w).trace ≡ w.trace
+trace_through [] w = refl
+trace_through (f ∷ fs) w = trace_through fs w
+
+pub sleepers_through : (fs : List ℕ) (w : World) → (without_handles fs w).sleepers ≡ w.sleepers
+sleepers_through [] w = refl
+sleepers_through (f ∷ fs) w = sleepers_through fs w
+
 pub closed_through : (fs : List ℕ) (g : ℕ) (w : World) → AreShut w fs → (task (without_handles fs w) g).closed ≡ (task w g).closed
 closed_through [] g w shut = refl
 closed_through (f ∷ fs) g w shut =

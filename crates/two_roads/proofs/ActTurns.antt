@@ -36,6 +36,7 @@ use Rattle.plain_scheduler.specs.Calls as plain
 use Rattle.machine_roads.specs.Alike.{begins as begins_alike, upon}
 use Rattle.machine_roads.specs.Alone.{alone, is_resting}
 use Rattle.machine_roads.specs.Dropped.{answered as drop_answered, loses, rest_of}
+use Rattle.machine_roads.specs.InLoss.{loss_ops}
 use Rattle.machine_roads.specs.Losing.{left_of}
 use Rattle.machine_roads.specs.Stopped.{Stopped, answered, drops, drops_given, drops_polled, polls}
 use Rattle.machine_roads.specs.View.{Output}
@@ -43,6 +44,7 @@ use Rattle.machine_roads.specs.Within as within
 use Rattle.machine_roads.specs.Within.{Act, GoesOnBy, IsAct, IsCallIn, IsLeaving, IsMade, Nested, StandsAlike, rests_after, standing}
 use Rattle.machine_roads.specs.Within.{alike, by_run, by_tick, by_try, dropping, drops_own, forgetting, going, listed, losing, nowhere}
 use Rattle.machine_roads.specs.Within.{polls_own, takes, unlisted}
+use Rattle.machine_roads.proofs.DropPlaces.{loss_rests}
 use Rattle.machine_roads.proofs.Inmost.{rests_in}
 use Rattle.machine_roads.proofs.LoneRuns.{Walks, passed, within as is_within}
 use Rattle.machine_roads.proofs.Tying.{top_of}
@@ -63,8 +65,9 @@ walks = record {
 -- where both stand alike the party rests
 rests_alike : (e : Done) (q : Plain Output Waker) → StandsAlike e q → is_resting e.next ≡ true
 rests_alike e q (alike nested follows) = rests_in e.next q.inside nested
-rests_alike e q (losing f below b nested stops) = ap (λ os. is_resting os) stops.left
-rests_alike e q (going r below b nested stops) = ap (λ os. is_resting os) stops.left
+rests_alike e q (losing f fs below codes nested stops) = ap (λ os. is_resting os) stops.left
+rests_alike e q (going r fs below codes nested stops) =
+    ap (λ os. is_resting os) stops.left ∙ loss_rests fs (op.User (user_op.DropOwn r) ∷ stops.rest ∷ below) refl
 rests_alike e q (dropping taker final below f b it nested (drop_answered next inside follows)) =
     ap (λ os. is_resting os) next ∙ rests_in below b.inside nested
 rests_alike e q (dropping taker final below f b it nested (loses awaiter next inside ending)) = ap (λ os. is_resting os) next
@@ -152,11 +155,16 @@ leaving_none r o listed = refl
 
 alike_rests : (e : Done) (q : Plain Output Waker) → StandsAlike e q → Rests q.inside e.next
 alike_rests e q (alike nested follows) = nested_rests e.next q.inside nested
-alike_rests e q (losing f below b nested stops) =
-    subst (λ os. Rests q.inside os) (sym stops.left) (behind_lost f below (due_in below b.inside nested) q.inside)
-alike_rests e q (going r below b nested stops) =
+alike_rests e q (losing f fs below codes nested stops) =
     subst (λ os. Rests q.inside os) (sym stops.left)
-    (behind_owns_drop r stops.rest (leaving_none r stops.rest stops.leaving) below (due_in below b.inside nested) q.inside)
+    (behind_lost f (loss_ops fs below) (due_resting (loss_ops fs below) (loss_rests fs below (rests_in below codes nested))) q.inside)
+alike_rests e q (going r [] below codes nested stops) =
+    subst (λ os. Rests q.inside os) (sym stops.left)
+    (behind_owns_drop r stops.rest (leaving_none r stops.rest stops.leaving) below (due_in below codes nested) q.inside)
+alike_rests e q (going r (f ∷ fs) below codes nested stops) =
+    let os = op.User (user_op.DropOwn r) ∷ stops.rest ∷ below in
+    subst (λ os. Rests q.inside os) (sym stops.left)
+    (behind_lost f (loss_ops fs os) (due_resting (loss_ops fs os) (loss_rests fs os refl)) q.inside)
 alike_rests e q (dropping taker final below f b it nested (drop_answered next inside follows)) =
     subst (λ os. Rests q.inside os) (sym next)
     (subst (λ codes. Rests codes below) (sym inside) (nested_rests below b.inside nested))

@@ -14,14 +14,17 @@ use Rattle.plain_scheduler.specs.Moves as moves
 use Rattle.plain_scheduler.specs.Takes as takes
 use Rattle.plain_scheduler.specs.Calls as calls
 use Rattle.plain_scheduler.specs.Calls.{Call, does, is_granted, living_from}
+use Rattle.executor_parts.specs.Sleepers.{Sleepers}
+use Rattle.executor_model.specs.declared.op.Sleeping.{Sleeping}
 use Rattle.machine_roads.specs.Dropped.{answered, loses, without_run}
-use Rattle.machine_roads.specs.DropActs.{StandsDropping, behind, drops, loses_behind, loses_inside}
+use Rattle.machine_roads.specs.DropActs.{StandsDropping, behind, drops}
 use Rattle.machine_roads.specs.Forgotten.{unawaited, without_awaiter}
-use Rattle.machine_roads.specs.Losing.{without_handle}
+use Rattle.machine_roads.specs.InLoss.{without_handles}
 use Rattle.machine_roads.specs.Refused.{IsLaterAnew, OneMoreLies}
 use Rattle.machine_roads.specs.Road.{Follows, sleeper, uncalled}
 use Rattle.machine_roads.specs.View.{Output, wakes as wakes_in}
 use Rattle.machine_roads.specs.Within.{StandsAlike, alike, dropping, forgetting, going, losing}
+use Rattle.machine_roads.proofs.InLoss.{sleepers_through}
 use Rattle.machine_roads.proofs.Puts.{put_by}
 use Rattle.two_roads.specs.Acting.{goes_on_in, is_runs, takes_for_run}
 use Rattle.two_roads.specs.Refusing.{asks_memory, ends_refused, refused_so}
@@ -272,11 +275,15 @@ runs_lie h r q = by (slice_get q.runs r)
     by None = refl
     by (Some run) = refl
 
+lie_without : (fs : List ℕ) (w : World) (q : Plain Output Waker) → Follows (without_handles fs w) q → Lie w q
+lie_without fs w q follows =
+    ap (λ (ss : Sleepers Sleeping). length ss.wakers) (sym (sleepers_through fs w)) ∙ lie_of (without_handles fs w) q follows
+
 pub lie_in : (e : Done) (q : Plain Output Waker) → StandsAlike e q → Lie e.world q
 lie_in e q (alike nested follows) = lie_of e.world q follows
-lie_in e q (losing f below b nested stops) = lie_of (without_handle f e.world) q stops.losing.follows
-lie_in e q (going r below b nested stops) =
-    lie_of e.world (runs (λ run. record run { is_over = true }) r q) stops.follows
+lie_in e q (losing f fs below codes nested stops) = lie_without (f ∷ fs) e.world q stops.losing.follows
+lie_in e q (going r fs below codes nested stops) =
+    lie_without fs e.world (runs (λ run. record run { is_over = true }) r q) stops.losing.follows
     ∙ ap (λ ls. length (uncalled ls)) (runs_lie (λ run. record run { is_over = true }) r q)
 lie_in e q (dropping taker final below f b it nested (answered next inside follows)) = lie_of e.world q follows
 lie_in e q (dropping taker final below f b it nested (loses awaiter next inside ending)) = lie_of (without_run f e.world) q ending.follows
@@ -285,9 +292,7 @@ lie_in e q (forgetting taker final below f b it nested stops) =
     ∙ put_by (λ p. length (uncalled p.lying)) f (record (task f q) { awaiter = None }) q (λ fs. refl)
 
 pub lie_in_drop : (e : Done) (q : Plain Output Waker) → StandsDropping e q → Lie e.world q
-lie_in_drop e q (drops f fs all next stands) = lie_of (record e.world { table = fs }) q stands.follows
-lie_in_drop e q (loses_inside g f fs all b next is stands) =
-    lie_of (record (without_handle g e.world) { table = fs }) b stands.left.follows
-    ∙ ap (λ (z : Plain Output Waker). length (uncalled z.lying)) (sym is)
-lie_in_drop e q (behind next inside follows waits) = lie_of e.world q follows
-lie_in_drop e q (loses_behind g b inside waits stops) = lie_of (without_handle g e.world) q stops.losing.follows
+lie_in_drop e q (drops gs f fs all next stands) =
+    ap (λ (ss : Sleepers Sleeping). length ss.wakers) (sym (sleepers_through gs e.world))
+    ∙ lie_of (record (without_handles gs e.world) { table = fs }) q stands.left.follows
+lie_in_drop e q (behind gs waits stops) = lie_without gs e.world q stops.losing.follows

@@ -36,6 +36,7 @@ use Rattle.machine_roads.specs.Alone.{alone, is_resting}
 use Rattle.machine_roads.specs.Alike.{begins, refused_first, refuses_first, refuses_second, upon, LeavesAlike}
 use Rattle.machine_roads.specs.Course.{IsChosen}
 use Rattle.machine_roads.specs.Losing.{StopsLosing, left_of}
+use Rattle.machine_roads.specs.Refused.{IsLaterAnew}
 use Rattle.machine_roads.specs.Stopped.{Stops}
 use Rattle.machine_roads.specs.Within.{ActsBy, GoesOnBy, IsCallIn, Nested, alike, by_tick, by_try, begins as begins_by, losing, may_stand_in, takes}
 use Rattle.machine_roads.specs.Within.{IsLeaving, going, listed, unlisted, drop_run}
@@ -50,6 +51,7 @@ use Rattle.machine_roads.proofs.Exchanging.{loudly}
 use Rattle.machine_roads.proofs.Inmost.{rests_in, wakes_none}
 use Rattle.machine_roads.proofs.Inside.{cancel_inside, copy_inside, detach_inside, drop_inside, handle_inside, poll_inside}
 use Rattle.machine_roads.proofs.Inside.{release_inside, run_inside, spawn_inside, tick_inside, use_inside, wake_inside}
+use Rattle.machine_roads.proofs.LaterAnew.{granted_anew}
 use Rattle.machine_roads.proofs.Leaking.{leak_inside, leaks}
 use Rattle.machine_roads.proofs.Lists.{same_of}
 use Rattle.machine_roads.proofs.LoneRuns.{both_true, not_true}
@@ -128,17 +130,18 @@ module _ (s : Machine) (reached : Reached s) (p : ℕ) (q : Plain Output Waker) 
   Leads c = LeadsSo p (upon below (begins p here c s.world)) (Comes c)
 
   acts : (c : Call) (x : plain_calls.Call Output Waker) (r : Refusal) → IsCallIn here s.world c x
-      → ActsBy s p (Begin p c) q (does wakes (choice r) x q)
-  acts c x r is = record { choice = choice r; made = x; chosen = chosen_in s q r; is = begins_by c x is; so = refl }
+      → IsLaterAnew r x q (does wakes (choice r) x q) → ActsBy s p (Begin p c) q (does wakes (choice r) x q)
+  acts c x r is anew =
+      record { choice = choice r; made = x; chosen = chosen_in s q r; is = begins_by c x is; so = refl; anew = anew }
 
   -- a call that comes to no user code
   quick : (c : Call) (x : plain_calls.Call Output Waker) (r : Refusal) → IsCallIn here s.world c x
-      → (does wakes (choice r) x q).inside ≡ q.inside → Counted below (does wakes (choice r) x q).runs → (e : Done) → e.next ≡ below
+      → IsLaterAnew r x q (does wakes (choice r) x q) → (does wakes (choice r) x q).inside ≡ q.inside → Counted below (does wakes (choice r) x q).runs → (e : Done) → e.next ≡ below
       → Follows e.world (does wakes (choice r) x q) → Comes c e
-  quick c x r is inside count e at leaves =
+  quick c x r is anew inside count e at leaves =
       let z : Plain Output Waker = does wakes (choice r) x q in (
         z,
-        acts c x r is,
+        acts c x r is anew,
         record {
           alike = alike (subst (λ os. Nested os z.inside) (sym at) (subst (λ codes. Nested below codes) (sym inside) nested)) leaves;
           counted = subst (λ os. Counted os z.runs) (sym at) count;
@@ -154,16 +157,17 @@ module _ (s : Machine) (reached : Reached s) (p : ℕ) (q : Plain Output Waker) 
       → LeavesAlike p below (begins p here c s.world) (does wakes (choice Granted) x q) → Leads c
   plainly c x is inside runs leaves hints all rests =
       let e = leaves hints tt all rests in
-      quick c x Granted is inside (stays (does wakes (choice Granted) x q) runs) (alone p hints (upon below (begins p here c s.world))) e.0 e.1
+      quick c x Granted is (granted_anew q (does wakes (choice Granted) x q) x) inside (stays (does wakes (choice Granted) x q) runs) (alone p hints (upon below (begins p here c s.world))) e.0 e.1
 
   -- one that takes a future
-  take : (c : Call) (x : plain_calls.Call Output Waker) (r : Refusal) → IsCallIn here s.world c x → (taker : Taker Waker) (final : Op)
+  take : (c : Call) (x : plain_calls.Call Output Waker) (r : Refusal) → IsCallIn here s.world c x
+      → IsLaterAnew r x q (does wakes (choice r) x q) → (taker : Taker Waker) (final : Op)
       → GoesOnBy taker final → Alike below (final ∷ below) → (e : Done) → (does wakes (choice r) x q).runs ≡ q.runs
       → Stops taker final below q e (does wakes (choice r) x q) → Comes c e
-  take c x r is taker final it same e runs stops =
+  take c x r is anew taker final it same e runs stops =
       let z : Plain Output Waker = does wakes (choice r) x q in (
         z,
-        acts c x r is,
+        acts c x r is anew,
         record {
           alike = alike (takes taker final below e.next q.inside z.inside it nested stops.stopped) stops.follows;
           counted = by (comes taker final below q.inside e.next z.inside stops.stopped);
@@ -193,7 +197,14 @@ module _ (s : Machine) (reached : Reached s) (p : ℕ) (q : Plain Output Waker) 
   -- in the drop of an output
   lossy : (f : ℕ) (e : Done) (z : Plain Output Waker) → z.runs ≡ q.runs → StopsLosing f below q e z → StandsSo e z
   lossy f e z runs stops = record {
-    alike = losing f below q nested stops;
+    alike = losing f [] below q.inside nested (record {
+      left = stops.left;
+      inside = stops.inside;
+      losing = record {
+        shut = (record { known = stops.losing.known; closed = stops.losing.closed }, refl, tt);
+        follows = stops.losing.follows;
+      };
+    });
     counted =
         above (op.User (user_op.DropOutput f) ∷ (left_of f ++ below)) e stops.left (record { last = λ r. refl; left = λ r. refl }) z runs;
   }
@@ -221,7 +232,7 @@ module _ (s : Machine) (reached : Reached s) (p : ℕ) (q : Plain Output Waker) 
   detached f (Some v) some = λ hints all rests.
       let x : plain_calls.Call Output Waker = plain_calls.Detach f in (
         does wakes (choice Granted) x q,
-        acts (call.Detach f) x Granted (detach f),
+        acts (call.Detach f) x Granted (detach f) tt,
         lossy f (alone p hints (upon below (begins p here (call.Detach f) s.world))) (does wakes (choice Granted) x q)
             (detach_runs (choice Granted) q f)
             (detaches_to_lose p here below s.world q under follows (choice Granted) f (ap (λ o. is_there o) some) hints all rests),
@@ -235,7 +246,7 @@ module _ (s : Machine) (reached : Reached s) (p : ℕ) (q : Plain Output Waker) 
   gone f (Some v) some = λ hints all rests.
       let x : plain_calls.Call Output Waker = plain_calls.DropHandle f in (
         does wakes (choice Granted) x q,
-        acts (call.DropHandle f) x Granted (drop_handle f),
+        acts (call.DropHandle f) x Granted (drop_handle f) tt,
         lossy f (alone p hints (upon below (begins p here (call.DropHandle f) s.world))) (does wakes (choice Granted) x q)
             (handle_runs (choice Granted) q f)
             (goes_to_lose p here below s.world q under follows (choice Granted) f (ap (λ o. is_there o) some) hints all rests),
@@ -247,12 +258,12 @@ module _ (s : Machine) (reached : Reached s) (p : ℕ) (q : Plain Output Waker) 
       let b = refused_first hints in
       let r = refused_as b in
       let e = spawns p below under here s.world q follows (choice r) m many hints (granted_as b) all rests in
-      quick (call.Spawn m) (plain_calls.Spawn m) r (spawn m) (spawn_inside (choice r) q m) (stays (does wakes (choice r) (plain_calls.Spawn m) q) (spawn_runs (choice r) q m))
+      quick (call.Spawn m) (plain_calls.Spawn m) r (spawn m) tt (spawn_inside (choice r) q m) (stays (does wakes (choice r) (plain_calls.Spawn m) q) (spawn_runs (choice r) q m))
       (alone p hints (upon below (begins p here (call.Spawn m) s.world))) e.0 e.1
   one_begins call.TryTick on may = λ hints all rests.
       let e = alone p hints (upon below (begins p here call.TryTick s.world)) in
       let x : plain_calls.Call Output Waker = plain_calls.TryTick in
-      take call.TryTick x Granted try_tick Try yes by_try (record { last = λ r. refl; left = λ r. refl }) e (try_runs (choice Granted) q)
+      take call.TryTick x Granted try_tick tt Try yes by_try (record { last = λ r. refl; left = λ r. refl }) e (try_runs (choice Granted) q)
       (stops_so Try yes below q e (does wakes (choice Granted) x q)
       (tries_so p below s.world q under follows (choice Granted) refl many hints all rests))
   one_begins call.IsEmpty on may =
@@ -270,7 +281,7 @@ module _ (s : Machine) (reached : Reached s) (p : ℕ) (q : Plain Output Waker) 
       let b = refuses_first hints (task s.world f.0) in
       let r = refused_as b in
       let e = copies_kept p below under here s.world q follows (choice r) k f.0 f.1 hints (granted_as b) all rests in
-      quick (call.Copy k) (plain_calls.Copy f.0) r (copy k f.0 f.1) (copy_inside (choice r) q f.0) (stays (does wakes (choice r) (plain_calls.Copy f.0) q) (copy_runs (choice r) q f.0))
+      quick (call.Copy k) (plain_calls.Copy f.0) r (copy k f.0 f.1) tt (copy_inside (choice r) q f.0) (stays (does wakes (choice r) (plain_calls.Copy f.0) q) (copy_runs (choice r) q f.0))
       (alone p hints (upon below (begins p here (call.Copy k) s.world))) e.0 e.1
   one_begins (call.DropWaker k) on may =
       let f = kept_one k (there (call.DropWaker k) may) in
@@ -281,7 +292,7 @@ module _ (s : Machine) (reached : Reached s) (p : ℕ) (q : Plain Output Waker) 
       let b = refuses_first hints (task s.world f.0) in
       let r = refused_as b in
       let e = keeps_own p below under here s.world q follows (choice r) f.0 f.1 hints (granted_as b) all rests in
-      quick call.Keep (plain_calls.Copy f.0) r (keep f.0 f.1) (copy_inside (choice r) q f.0) (stays (does wakes (choice r) (plain_calls.Copy f.0) q) (copy_runs (choice r) q f.0))
+      quick call.Keep (plain_calls.Copy f.0) r (keep f.0 f.1) tt (copy_inside (choice r) q f.0) (stays (does wakes (choice r) (plain_calls.Copy f.0) q) (copy_runs (choice r) q f.0))
       (alone p hints (upon below (begins p here call.Keep s.world))) e.0 e.1
   one_begins call.WakeSelf on may =
       let f = some_kept (future_of here) (there call.WakeSelf may) in
@@ -292,7 +303,7 @@ module _ (s : Machine) (reached : Reached s) (p : ℕ) (q : Plain Output Waker) 
       let x = refuses_second hints s.world a in
       let r = refused_as x in
       let e = polls p here below s.world q under follows (choice r) f b many hints (λ waits. granted_as x) all rests in
-      quick (call.PollHandle f b) (plain_calls.PollHandle f a) r (poll_handle f b) (poll_inside (choice r) q f a) (stays (does wakes (choice r) (plain_calls.PollHandle f a) q) (poll_runs (choice r) q f a))
+      quick (call.PollHandle f b) (plain_calls.PollHandle f a) r (poll_handle f b) tt (poll_inside (choice r) q f a) (stays (does wakes (choice r) (plain_calls.PollHandle f a) q) (poll_runs (choice r) q f a))
       (alone p hints (upon below (begins p here (call.PollHandle f b) s.world))) e.0 e.1
   one_begins (call.Cancel f) on may =
       plainly (call.Cancel f) (plain_calls.Cancel f) (cancel f) (cancel_inside (choice Granted) q f) (cancel_runs (choice Granted) q f)
@@ -303,7 +314,7 @@ module _ (s : Machine) (reached : Reached s) (p : ℕ) (q : Plain Output Waker) 
       let b = refused_first hints in
       let r = refused_as b in
       let e = makes_tick p here below s.world q under follows (choice r) hints (granted_as b) all rests in
-      quick call.NewTick plain_calls.NewTick r new_tick (tick_inside (choice r) q) (stays (does wakes (choice r) (plain_calls.NewTick) q) (tick_runs (choice r) q))
+      quick call.NewTick plain_calls.NewTick r new_tick tt (tick_inside (choice r) q) (stays (does wakes (choice r) (plain_calls.NewTick) q) (tick_runs (choice r) q))
       (alone p hints (upon below (begins p here call.NewTick s.world))) e.0 e.1
   one_begins (call.PollTick t b) on may = λ hints all rests.
       let a = waker_of here b in
@@ -313,7 +324,7 @@ module _ (s : Machine) (reached : Reached s) (p : ℕ) (q : Plain Output Waker) 
       let so =
       polls_tick_so p here below s.world q under follows (choice Granted) t b refl (more_by_one (length q.lying))
       (can_poll s reached p t b may) hints all rests in
-      take (call.PollTick t b) x so.0 (poll_tick t b) (Tick t a) final (by_tick t a) (record { last = λ r. refl; left = λ r. refl }) e
+      take (call.PollTick t b) x so.0 (poll_tick t b) so.2 (Tick t a) final (by_tick t a) (record { last = λ r. refl; left = λ r. refl }) e
       (poll_tick_runs (choice so.0) q t a)
       (stops_so (Tick t a) final below q e (does wakes (choice so.0) x q) so.1)
   one_begins (call.DropTick t) on may =
@@ -321,7 +332,7 @@ module _ (s : Machine) (reached : Reached s) (p : ℕ) (q : Plain Output Waker) 
       (tick_goes p here below s.world q under follows (choice Granted) t many)
   one_begins call.NewRun on may = λ hints all rests.
       let e = makes_run p here below s.world q under follows (choice Granted) hints all rests in
-      quick call.NewRun plain_calls.NewRun e.0 new_run (run_inside (choice e.0) q) (makes_counted below (choice e.0) q counted)
+      quick call.NewRun plain_calls.NewRun e.0 new_run tt (run_inside (choice e.0) q) (makes_counted below (choice e.0) q counted)
       (alone p hints (upon below (begins p here call.NewRun s.world))) e.1 e.2
   one_begins (call.PollRun r b) on may = λ hints all rests.
       let a = waker_of here b in
@@ -344,12 +355,12 @@ module _ (s : Machine) (reached : Reached s) (p : ℕ) (q : Plain Output Waker) 
 
       by : (r : ℕ) (b : By) (e : Done) → Polls p here below under s.world q follows (choice Granted) r b e → Comes (call.PollRun r b) e
       by r b e (at_once next inside leaves) =
-          quick (call.PollRun r b) (plain_calls.PollRun r (waker_of here b)) Granted (poll_run r b) inside (stays (does wakes (choice Granted) (plain_calls.PollRun r (waker_of here b)) q) (polled_runs r (waker_of here b))) e next leaves
+          quick (call.PollRun r b) (plain_calls.PollRun r (waker_of here b)) Granted (poll_run r b) tt inside (stays (does wakes (choice Granted) (plain_calls.PollRun r (waker_of here b)) q) (polled_runs r (waker_of here b))) e next leaves
       by r b e (in_own next inside leaves) =
           let x : plain_calls.Call Output Waker = plain_calls.PollRun r (waker_of here b) in
           let z : Plain Output Waker = does wakes (choice Granted) x q in (
             z,
-            acts (call.PollRun r b) x Granted (poll_run r b),
+            acts (call.PollRun r b) x Granted (poll_run r b) tt,
             record {
               alike = alike
                   (subst (λ os. Nested os z.inside) (sym next)
@@ -376,13 +387,13 @@ module _ (s : Machine) (reached : Reached s) (p : ℕ) (q : Plain Output Waker) 
           → Drops p here below under s.world q follows (choice Granted) many r unended awake e → Comes (call.DropRun r) e
       by r unended awake e (goes_at_once next inside runs leaves) =
           let z : Plain Output Waker = does wakes (choice Granted) (plain_calls.DropRun r) q in
-          quick (call.DropRun r) (plain_calls.DropRun r) Granted (drop_run r) inside (stays z runs) e next leaves
+          quick (call.DropRun r) (plain_calls.DropRun r) Granted (drop_run r) tt inside (stays z runs) e next leaves
       by r unended awake e (in_drop unover runs stops) =
           let x : plain_calls.Call Output Waker = plain_calls.DropRun r in
           let z : Plain Output Waker = does wakes (choice Granted) x q in (
             z,
-            acts (call.DropRun r) x Granted (drop_run r),
-            record { alike = going r below q nested stops; counted = in_going r stops.rest stops.leaving e stops.left z runs unover },
+            acts (call.DropRun r) x Granted (drop_run r) tt,
+            record { alike = going r [] below q.inside nested stops; counted = in_going r stops.rest stops.leaving e stops.left z runs unover },
           )
   one_begins call.Leak on may =
       plainly call.Leak plain_calls.Leak leak (leak_inside (choice Granted) q) (leak_runs (choice Granted) q)

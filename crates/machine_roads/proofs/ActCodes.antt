@@ -25,7 +25,7 @@ use Rattle.executor_model.specs.Acts.{is_last_waker}
 use Rattle.executor_model.specs.ActsOfRuns.{asleep}
 use Rattle.executor_model.specs.Rows.{running_of}
 use Rattle.executor_model.specs.Steps.{Machine, accepts, answer_refusal, react, refusal, stack}
-use Rattle.executor_model.specs.World.{Done, World, done, run_of, task}
+use Rattle.executor_model.specs.World.{Done, World, done, task}
 use Rattle.executor_model.specs.Weights.{weigh}
 use Rattle.executor_model.proofs.OwnQueues.Using.{emptying_of, polling_of}
 use Rattle.executor_model.proofs.Steps.Reached.{Reached}
@@ -44,7 +44,6 @@ use Rattle.machine_roads.specs.Road.{Follows, futures_in, waking_in}
 use Rattle.machine_roads.specs.Alone.{alone, is_resting}
 use Rattle.machine_roads.specs.Dropped.{Drops, IsEnding, rest_of, without_run}
 use Rattle.machine_roads.specs.Forgotten.{IsForgotten, IsLastPoll, unawaited, without_awaiter}
-use Rattle.machine_roads.specs.Losing.{IsLosing, left_of, without_handle}
 use Rattle.machine_roads.specs.Searching.{goes_on_by}
 use Rattle.machine_roads.specs.Stopped.{IsInPoll, given, pended}
 use Rattle.machine_roads.specs.Within.{IsLeaving, listed, unlisted}
@@ -59,8 +58,7 @@ use Rattle.machine_roads.proofs.Counting.{taken_in}
 use Rattle.machine_roads.proofs.Forgetting.{forgets_by, forgotten_by}
 use Rattle.machine_roads.proofs.Having.{same_self}
 use Rattle.machine_roads.proofs.Inmost.{IsDropOf, is_going, is_taken, rests_in}
-use Rattle.machine_roads.proofs.Inside.{ends_inside}
-use Rattle.machine_roads.proofs.Losing.{loses_alike}
+use Rattle.machine_roads.proofs.LaterAnew.{ends_anew}
 use Rattle.machine_roads.proofs.Lists.{clash, same_of}
 use Rattle.machine_roads.proofs.LoneRuns.{passed}
 use Rattle.machine_roads.proofs.OwnGoes.{own_went}
@@ -111,7 +109,14 @@ module _ (s : Machine) (reached : Reached s) (p : ℕ) (there : p < length s.par
       → d.tells ≡ c1.tells → StandsSo e (does wakes d x q) → Comes u e
   came_by u x is e d tells so = (
     does wakes d x q,
-    record { choice = d; made = x; chosen = subst (λ n. length q.lying < n) (sym tells) room; is = is; so = refl },
+    record {
+      choice = d;
+      made = x;
+      chosen = subst (λ n. length q.lying < n) (sym tells) room;
+      is = is;
+      so = refl;
+      anew = ends_anew q (does wakes d x q) s p (Answer p u) d.refusal x refl is;
+    },
     so,
   )
 
@@ -336,23 +341,6 @@ module _ (s : Machine) (reached : Reached s) (p : ℕ) (there : p < length s.par
           (forgotten_by taker final p f below s.world r0 c1 forgotten0 many hints all rests))
       from_forgotten f at it_is u ok = absurd cc
 
-    -- the drop of an output whose handle goes
-    pub from_losing : (f : ℕ) → reverse (stack s p) ≡ op.User (user_op.DropOutput f) ∷ (left_of f ++ below) → q.inside ≡ Lose None None ∷ inside
-        → IsLosing s.world f q → (u : UserEnd) → accepts (op.User (user_op.DropOutput f)) u ≡ true
-        → Leads u (op.User (user_op.DropOutput f)) (left_of f ++ below)
-    from_losing f is at lost end.Done ok = λ hints all rests.
-        let lost0 : IsLosing s.world f r0 =
-        record {
-          known = lost.known;
-          closed = lost.closed;
-          follows = follows0 (Lose None None) at refl (without_handle f s.world) lost.follows;
-        } in
-        let e = alone p hints (done s.world (left_of f ++ below)) in
-        let so = loses_alike p f below s.world r0 c1 under lost0 hints tt all rests in
-        back end.Done Ends ends (Lose None None) at e so.0 (ends_inside c1 (r1 (Lose None None)) inside refl)
-        (count_at (op.User (user_op.DropOutput f) ∷ (left_of f ++ below)) below is (record { last = λ r. refl; left = λ r. refl })) so.1
-    from_losing f is at lost u ok = absurd cc
-
     -- the poll of a run's own future: with an output, or without
     pub from_own_poll : (x : RunPoll) → reverse (stack s p) ≡ op.User (user_op.PollOwn x) ∷ below → q.inside ≡ PollOwn x.run x.waker ∷ inside
         → Follows s.world q → (u : UserEnd) → accepts (op.User (user_op.PollOwn x)) u ≡ true
@@ -459,12 +447,12 @@ module _ (s : Machine) (reached : Reached s) (p : ℕ) (there : p < length s.par
 
     -- so is that of a run that goes
     pub from_going : (r : ℕ) (rest : Op) → IsLeaving r rest → reverse (stack s p) ≡ op.User (user_op.DropOwn r) ∷ rest ∷ below
-        → q.inside ≡ DropOwn r DoneAnswer ∷ inside → (run_of s.world r).dropped ≡ true → Follows s.world (plain.runs ended_run r q)
+        → q.inside ≡ DropOwn r DoneAnswer ∷ inside → Follows s.world (plain.runs ended_run r q)
         → (u : UserEnd) → accepts (op.User (user_op.DropOwn r)) u ≡ true → Leads u (op.User (user_op.DropOwn r)) (rest ∷ below)
-    from_going r rest leaving is at dropped follows end.Done ok = λ hints all rests.
+    from_going r rest leaving is at follows end.Done ok = λ hints all rests.
         let e = alone p hints (done s.world (rest ∷ below)) in
         let so =
-        own_went p below under s.world r0 r rest leaving dropped
+        own_went p below under s.world r0 r rest leaving
         (stands_in inside s.world (record q { runs = changed ended_run r q.runs }) (subst (Follows s.world) (runs_is ended_run r q) follows)
         (sym (ap (λ codes. waking_in codes) at))) c1 many hints all rests in
         back end.Done Ends ends (DropOwn r DoneAnswer) at e so.0 so.2 (by rest leaving is) so.1
@@ -481,4 +469,4 @@ module _ (s : Machine) (reached : Reached s) (p : ℕ) (there : p < length s.par
             let counted0 : Counted xs q.runs = subst (λ os. Counted os q.runs) is counted in
             gone_count r (omega (arith, used_once s reached p there xs is r, same_self r)) counted0.taken
             (λ k apart is_left. counted0.going k (ap (λ b. b || some_op (leaves k) below) apart ∙ is_left))
-    from_going r rest leaving is at dropped follows u ok = absurd cc
+    from_going r rest leaving is at follows u ok = absurd cc

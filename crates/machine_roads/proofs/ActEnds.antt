@@ -1,5 +1,5 @@
 -- User code that ends where a party stands in code of calls one inside another: where its call rests next, both stand alike.
-use Rattle.std.proofs.Common.{◌≡◌, ℕ, ◌<◌, ◌++◌, Bool, true, false, List, ◌∷◌, length, None}
+use Rattle.std.proofs.Common.{◌≡◌, ℕ, ◌<◌, ◌++◌, Bool, true, false, List, [], ◌∷◌, length, None}
 use Rattle.std.proofs.Common.{refl, arith}
 use Rattle.std.specs.Prelude.{reverse}
 use Rattle.task_moves.specs.declared.moves.owed.Move.{Move}
@@ -22,10 +22,12 @@ use Rattle.plain_scheduler.specs.State.{Code, End, Plain}
 use Rattle.machine_roads.specs.View.{Output}
 use Rattle.machine_roads.specs.Road.{Follows}
 use Rattle.machine_roads.specs.Dropped.{answered, loses, rest_of}
+use Rattle.machine_roads.specs.InLoss.{loss_ops}
 use Rattle.machine_roads.specs.Losing.{left_of}
 use Rattle.machine_roads.specs.Within.{going}
 use Rattle.machine_roads.specs.Within.{StandsAlike, alike, dropping, forgetting, losing, standing}
-use Rattle.machine_roads.proofs.ActCodes.{EndsSo, from_going, accepted, from_drop, from_forgotten, from_losing, from_loss, from_own_drop, from_own_poll, from_poll}
+use Rattle.machine_roads.proofs.ActCodes.{EndsSo, from_going, accepted, from_drop, from_forgotten, from_loss, from_own_drop, from_own_poll, from_poll}
+use Rattle.machine_roads.proofs.ActLosses.{ends_in_going, ends_in_loss}
 use Rattle.machine_roads.proofs.Counting.{Counted}
 use Rattle.machine_roads.proofs.Inmost.{Inmost, IsDropOf, drop, inmost, none, of_given, of_polled, of_queued, own_drop, own_poll, poll}
 use Rattle.machine_roads.proofs.RunHere.{Above}
@@ -118,25 +120,35 @@ module _ (s : Machine) (reached : Reached s) (p : ℕ) (there : p < length s.par
   pub code_ends : StandsAlike (standing s p) q → (u : UserEnd) → refusal s (Answer p u) ≡ None → EndsSo s reached p there open_still others q counted u
   code_ends (alike nested follows) u may =
       from_alike (reverse (stack s p)) q.inside (inmost (reverse (stack s p)) q.inside nested) refl refl follows u may
-  code_ends (losing f below b nested stops) u may =
-      let xs = left_of f ++ below in
+  code_ends (losing f fs below codes nested stops) u may =
+      let xs = left_of f ++ loss_ops fs below in
       record {
         first = op.User (user_op.DropOutput f);
         rest = xs;
         is = stops.left;
         leads =
-            from_losing s reached p there open_still others q counted below b.inside nested f stops.left stops.inside stops.losing u
+            ends_in_loss s p q f fs below codes nested stops counted u
             (accepted s reached p there open_still others q counted u (op.User (user_op.DropOutput f)) xs may stops.left);
       }
-  code_ends (going r below b nested stops) u may = record {
+  code_ends (going r [] below codes nested stops) u may = record {
     first = op.User (user_op.DropOwn r);
     rest = stops.rest ∷ below;
     is = stops.left;
     leads =
-        from_going s reached p there open_still others q counted below b.inside nested r stops.rest stops.leaving stops.left stops.inside
-        stops.dropped stops.follows u
+        from_going s reached p there open_still others q counted below codes nested r stops.rest stops.leaving stops.left stops.inside
+        stops.losing.follows u
         (accepted s reached p there open_still others q counted u (op.User (user_op.DropOwn r)) (stops.rest ∷ below) may stops.left);
   }
+  code_ends (going r (f ∷ fs) below codes nested stops) u may =
+      let xs = left_of f ++ loss_ops fs (op.User (user_op.DropOwn r) ∷ stops.rest ∷ below) in
+      record {
+        first = op.User (user_op.DropOutput f);
+        rest = xs;
+        is = stops.left;
+        leads =
+            ends_in_going s p q r f fs below codes nested stops counted u
+            (accepted s reached p there open_still others q counted u (op.User (user_op.DropOutput f)) xs may stops.left);
+      }
   code_ends (dropping taker final below f b it nested (answered next inside follows)) u may =
       from_alike below b.inside (inmost below b.inside nested) next inside follows u may
   code_ends (dropping taker final below f b it nested (loses awaiter next inside ending)) u may =

@@ -14,10 +14,11 @@ use Rattle.executor_model.specs.declared.step.Step.{Step}
 use Rattle.executor_model.specs.declared.step.Step.TheVariants.{Answer, Begin, Go}
 use Rattle.executor_model.specs.declared.step.StepError.TheVariants.{NoSuch, Waits, WrongAnswer}
 use Rattle.executor_model.specs.Executions.{run_all}
-use Rattle.executor_model.specs.Steps.{Machine, after, begun, end_of, go_refusal, is_locked_out, is_static_kind, mine, part_refusal}
+use Rattle.executor_model.specs.Steps.{Machine, after, begun, end_of, go_refusal, is_locked_out, is_on_executor, is_static_kind, mine, part_refusal}
 use Rattle.executor_model.specs.Steps.{party_of, refusal, stack, start, top, unless, waits}
 use Rattle.executor_model.specs.Trace.{is_drop_begun}
 use Rattle.executor_model.specs.World.{Done, done, log}
+use Rattle.executor_model.specs.World as world
 use Rattle.executor_model.proofs.Quiet.Resting.{rests}
 use Rattle.executor_model.proofs.Steps.Hushed.{HushesCall, hushed-called}
 use Rattle.executor_model.proofs.Steps.Reached.{Reached, deep-here, reached-more, run-first}
@@ -29,12 +30,14 @@ use Rattle.plain_scheduler.specs.Calls.{new as new_plain}
 use Rattle.machine_roads.specs.View.{Output}
 use Rattle.machine_roads.specs.Road.{Follows}
 use Rattle.machine_roads.specs.Alone.{is_outside, is_resting}
-use Rattle.machine_roads.specs.Dropped.{answered, loses}
+use Rattle.machine_roads.specs.Dropped.{answered, loses, rest_of}
+use Rattle.machine_roads.specs.InLoss.{loss_ops}
 use Rattle.machine_roads.specs.Within.{IsLeaving, going, listed, unlisted}
 use Rattle.machine_roads.specs.Within.{Act, ActAlike, ActsBy, AreActs, ListsActAlike, Nested, StandsAlike, alike, calls_outside}
-use Rattle.machine_roads.specs.Within.{dropping, forgetting, goes_on, is_on_way, losing, may_stand_in, nowhere, owes, rests_after, standing}
+use Rattle.machine_roads.specs.Within.{dropping, forgetting, goes_on, is_on_way, losing, may_begin_in, may_stand_in, nowhere, rests_after, standing}
 use Rattle.machine_roads.proofs.ActBegins.{one_begins}
 use Rattle.machine_roads.proofs.ActEnds.{code_ends}
+use Rattle.machine_roads.proofs.ActLosses.{begins_in_going, begins_in_loss}
 use Rattle.machine_roads.proofs.Calling.{begin_alike}
 use Rattle.machine_roads.proofs.Counting.{StandsSo}
 use Rattle.machine_roads.proofs.Inmost.{rests_in}
@@ -77,7 +80,7 @@ act_open : (s new : Machine) (p : ℕ) (t : Step) (ts : List Step) → is_on_way
     → rests_after p ts (after s t) ≡ true → run_all ts (after s t) ≡ Ok new → IsOpen s.world → IsOpen new.world
 act_open s new p (Begin q c) ts on its rests made open_now =
     goes_open ts (after s (Begin q c)) new p rests made
-    (begins_open s q c (both_true (may_stand_in c) (not (owes (reverse (stack s p)))) on).0 open_now)
+    (begins_open s q c (both_true (may_stand_in c) (may_begin_in (reverse (stack s p)) c) on).0 open_now)
 act_open s new p (Go q h) ts on its rests made open_now =
     goes_open ts (after s (Go q h)) new p rests made (step_open s q (Go q h) (own_test q) open_now)
 act_open s new p (Answer q e) ts on its rests made open_now =
@@ -100,8 +103,9 @@ goes_rest (t ∷ ts) s new p rests made others =
 -- where both stand alike the party rests
 rests_alike : (e : Done) (q : Plain Output Waker) → StandsAlike e q → is_resting e.next ≡ true
 rests_alike e q (alike nested follows) = rests_in e.next q.inside nested
-rests_alike e q (losing f below b nested stops) = ap (λ os. is_resting os) stops.left
-rests_alike e q (going r below b nested stops) = ap (λ os. is_resting os) stops.left
+rests_alike e q (losing f fs below codes nested stops) = ap (λ os. is_resting os) stops.left
+rests_alike e q (going r [] below codes nested stops) = ap (λ os. is_resting os) stops.left
+rests_alike e q (going r (f ∷ fs) below codes nested stops) = ap (λ os. is_resting os) stops.left
 rests_alike e q (dropping taker final below f b it nested (answered next inside follows)) =
     ap (λ os. is_resting os) next ∙ rests_in below b.inside nested
 rests_alike e q (dropping taker final below f b it nested (loses awaiter next inside ending)) = ap (λ os. is_resting os) next
@@ -119,16 +123,23 @@ no_go_resting s p there h (o ∷ os) is resting may =
     (not_true (waits o) (passed (not (waits o)) WrongAnswer (unless (not (is_locked_out s.world.lock o)) Waits None) goes))
     (both_true (waits o) (not (is_outside o)) resting).0
 
-owes_going : (r : ℕ) (rest : Op) → IsLeaving r rest → (below : List Op) → owes (op.User (user_op.DropOwn r) ∷ rest ∷ below) ≡ true
-owes_going r rest unlisted below = refl
-owes_going r rest listed below = refl
+going_off : (fs : List ℕ) (r : ℕ) (rest : Op) → IsLeaving r rest → (below : List Op) (c : Call)
+    → may_begin_in (loss_ops fs (op.User (user_op.DropOwn r) ∷ rest ∷ below)) c ≡ true → is_on_executor c ≡ false
+going_off [] r rest unlisted below c on = not_true (is_on_executor c) on
+going_off [] r rest listed below c on = not_true (is_on_executor c) on
+going_off (f ∷ fs) r rest leaving below c on = not_true (is_on_executor c) on
+
+none_losing : (b : Bool) (f : ℕ) (final : Op) (below : List Op) (c : Call)
+    → may_begin_in (op.User (user_op.DropOutput f) ∷ (rest_of b f final ++ below)) c ≡ false
+none_losing true f final below c = refl
+none_losing false f final below c = refl
 
 module _ (s : Machine) (reached : Reached s) (p : ℕ) (q : Plain Output Waker) (stands : StandsSo (standing s p) q) (new : Machine)
     (later : new.world.gone ≡ false) (open_still : s.world.gone ≡ false) (others : OthersRest p s) (there : p < length s.parties) where
   abbrev Comes : Step → Type 0
   Comes t = (r : Plain Output Waker) × ActsBy s p t q r × StandsSo (standing new p) r
 
-  call_begins : (c : Call) (ts : List Step) → may_stand_in c ≡ true → owes (reverse (stack s p)) ≡ false
+  call_begins : (c : Call) (ts : List Step) → may_stand_in c ≡ true → may_begin_in (reverse (stack s p)) c ≡ true
       → rests_after p ts (after s (Begin p c)) ≡ true → run_all (Begin p c ∷ ts) s ≡ Ok new → Comes (Begin p c)
   call_begins c ts on even rests made = by stands.alike
     where
@@ -139,20 +150,34 @@ module _ (s : Machine) (reached : Reached s) (p : ℕ) (q : Plain Output Waker) 
 
       by : StandsAlike (standing s p) q → Comes (Begin p c)
       by (alike nested follows) = begins nested follows
-      by (losing f below b nested stops) = absurd (clash even (ap (λ os. owes os) stops.left))
-      by (going r below b nested stops) =
-          absurd (clash even (ap (λ os. owes os) stops.left ∙ owes_going r stops.rest stops.leaving below))
+      by (losing f fs below codes nested stops) =
+          let off : is_on_executor c ≡ false =
+          not_true (is_on_executor c) (sym (ap (λ os. may_begin_in os c) stops.left) ∙ even) in
+          begun_leads p (λ e. (r : Plain Output Waker) × ActsBy s p (Begin p c) q r × StandsSo e r) new later c ts s reached there
+          (begins_in_loss s reached p there q f fs below codes nested stops stands.counted c off
+          (may_begin s p c (run-first (Begin p c) ts s new made).0))
+          rests made
+      by (going r fs below codes nested stops) =
+          let off =
+          going_off fs r stops.rest stops.leaving below c (sym (ap (λ os. may_begin_in os c) stops.left) ∙ even) in
+          begun_leads p (λ e. (r : Plain Output Waker) × ActsBy s p (Begin p c) q r × StandsSo e r) new later c ts s reached there
+          (begins_in_going s reached p there q r fs below codes nested stops stands.counted c off
+          (may_begin s p c (run-first (Begin p c) ts s new made).0))
+          rests made
       by (dropping taker final below f b it nested (answered next inside follows)) =
           begins (subst (λ os. Nested os q.inside) (sym next) (subst (λ codes. Nested below codes) (sym inside) nested)) follows
-      by (dropping taker final below f b it nested (loses awaiter next inside ending)) = absurd (clash even (ap (λ os. owes os) next))
-      by (forgetting taker final below f b it nested stops) = absurd (clash even (ap (λ os. owes os) stops.left))
+      by (dropping taker final below f b it nested (loses awaiter next inside ending)) =
+          absurd
+          (clash (ap (λ os. may_begin_in os c) next ∙ none_losing (world.task s.world f).awaiter f final below c) even)
+      by (forgetting taker final below f b it nested stops) =
+          absurd (clash (ap (λ os. may_begin_in os c) stops.left) even)
 
   one_act : (t : Step) (ts : List Step) → party_of t ≡ p → is_on_way (reverse (stack s p)) t ≡ true
       → rests_after p ts (after s t) ≡ true → run_all (t ∷ ts) s ≡ Ok new → Comes t
   one_act (Begin r c) ts its on rests made =
-      let two = both_true (may_stand_in c) (not (owes (reverse (stack s p)))) on in
+      let two = both_true (may_stand_in c) (may_begin_in (reverse (stack s p)) c) on in
       subst (λ n. Comes (Begin n c)) (sym its)
-      (call_begins c ts two.0 (not_true (owes (reverse (stack s p))) two.1)
+      (call_begins c ts two.0 two.1
       (subst (λ n. rests_after p ts (after s (Begin n c)) ≡ true) its rests)
       (subst (λ n. run_all (Begin n c ∷ ts) s ≡ Ok new) its made))
   one_act (Go r h) ts its on rests made =

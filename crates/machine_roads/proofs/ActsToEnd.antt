@@ -40,8 +40,9 @@ pub record AtRest (s : Machine) (q : Plain Output Waker) : Type 0 where
 
 rests_alike : (e : Done) (q : Plain Output Waker) → StandsAlike e q → e.next ≡ [] → Follows e.world q × (q.inside ≡ [])
 rests_alike e q (alike nested follows) is = (follows, nested_nowhere e.next q.inside nested is)
-rests_alike e q (losing f below b nested stops) is = absurd (filled (sym stops.left ∙ is))
-rests_alike e q (going r below b nested stops) is = absurd (filled (sym stops.left ∙ is))
+rests_alike e q (losing f fs below codes nested stops) is = absurd (filled (sym stops.left ∙ is))
+rests_alike e q (going r [] below codes nested stops) is = absurd (filled (sym stops.left ∙ is))
+rests_alike e q (going r (f ∷ fs) below codes nested stops) is = absurd (filled (sym stops.left ∙ is))
 rests_alike e q (dropping taker final below f b it nested (answered next inside follows)) is =
     (follows, inside ∙ nested_nowhere below b.inside nested (sym next ∙ is))
 rests_alike e q (dropping taker final below f b it nested (loses awaiter next inside ending)) is = absurd (filled (sym next ∙ is))

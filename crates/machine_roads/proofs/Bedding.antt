@@ -29,7 +29,7 @@ use Rattle.machine_roads.proofs.Lain.{left, lies_anew, long}
 use Rattle.machine_roads.proofs.Lain.{none_found, found, one_lies, place_called, place_uncalled, room_called, split_uncalled}
 use Rattle.machine_roads.proofs.Lain.{uncalled_append}
 use Rattle.machine_roads.proofs.Leaving.{sleeper_goes_so}
-use Rattle.machine_roads.proofs.Lists.{get_last, length_last, map_append}
+use Rattle.machine_roads.proofs.Lists.{get_last, length_last, length_map, map_append}
 use Rattle.machine_roads.proofs.Numbers.{Another, It, IsNamed, Rests, Which, asleep_set, count, count_append, count_one, down, itself}
 use Rattle.machine_roads.proofs.Numbers.{numbered_append, numbered_first, numbered_rest, numbered_still, one_if, place_apart, rests_if}
 use Rattle.machine_roads.proofs.Numbers.{same_who, up as is_up, which}
@@ -46,6 +46,7 @@ use Rattle.plain_scheduler.specs.State.{Answer, Answers, AtOnce, Choice, Due, Gr
 use Rattle.plain_scheduler.specs.Moves.{answers, is_who, let_go, lies, tell}
 use Rattle.machine_roads.specs.Seeing.{answer_of, shown}
 use Rattle.machine_roads.specs.Alone.{is_resting, CanCopy, CanLie, RunCanLie}
+use Rattle.machine_roads.specs.Refused.{OneMoreLies}
 use Rattle.machine_roads.proofs.Calling.{ends}
 use Rattle.machine_roads.proofs.Copying.{HasOne, copied_due, copied_has}
 use Rattle.machine_roads.proofs.Replacing.{last_again, lengths, none_without, one_changed, position_last, replaced, set_at}
@@ -107,8 +108,16 @@ module _ (p : ℕ) (below : List Op) (under : is_resting below ≡ true) (end : 
     pub wakers : world.sleepers.wakers ≡ w.sleepers.wakers
     pub way : Way p end world (op.Tick (tick_op.CopyWaker s) ∷ below)
 
+  -- and it is refused memory once it lies only where it lies anew
   abbrev pub Result : Plain Output Waker → Type 0
-  Result q = (r : Refusal) × Goes q (plain_takes.rests wakes c r who a q)
+  Result q =
+      (r : Refusal) × Goes q (plain_takes.rests wakes c r who a q) × (r ≡ Later → OneMoreLies q (plain_takes.rests wakes c r who a q))
+
+  not_granted : Granted ≡ Later → ⊥
+  not_granted is = cc
+
+  not_at_once : AtOnce ≡ Later → ⊥
+  not_at_once is = cc
 
   abbrev new_one : Lying Waker
   new_one = record { who = who; waker = Some a }
@@ -124,20 +133,31 @@ module _ (p : ℕ) (below : List Op) (under : is_resting below ≡ true) (end : 
       (finds_none : (w : World) (z : Plain Output Waker) → Follows w z → Quiet z.due → Way p end w (op.Tick (tick_op.Search s) ∷ below)
       → Idles w z) where
     -- it searches once more, and its copy is replaced by another one
-    again : (w : World) (q z : Plain Output Waker) → Follows w z → fits z → z.inside ≡ q.inside → IsBedded w → HasOne a z
-        → Quiet z.due → plain_takes.lies_down wakes c who a q ≡ z
+    again : (w : World) (q z : Plain Output Waker) → Follows w z → fits z → z.inside ≡ q.inside → (bed : IsBedded w)
+        → map sleeper bed.before ≡ uncalled q.lying → HasOne a z → Quiet z.due → plain_takes.lies_down wakes c who a q ≡ z
         → Way p end w (op.Tick (tick_op.Search s) ∷ below) → Result q
-    again w q z follows fit inside bed one quiet lies_is way =
+    again w q z follows fit inside bed others one quiet lies_is way =
         let one_more = finds_none w z follows quiet way in
         let step = next p end rests (op.Tick (tick_op.CopyWaker s)) one_more.world below refl one_more.way in
         by one_more (is_copy_refused step.hint one_more.world a) step.has step.way
       where
+        more_lie : OneMoreLies q (plain_takes.lies_down wakes c who a q)
+        more_lie =
+            let few : length bed.before ≡ length (uncalled q.lying) =
+            sym (length_map sleeper bed.before) ∙ ap (λ ls. length ls) others in
+            let many : suc (length bed.before) ≡ length (uncalled z.lying) =
+            sym (length_last bed.before (bed.number, s))
+            ∙ (ap (λ ws. length ws) (sym bed.last)
+            ∙ (sym (length_map sleeper w.sleepers.wakers) ∙ ap (λ ls. length ls) follows.wakers)) in
+            subst (λ (x : Plain Output Waker). OneMoreLies q x) (sym lies_is) (omega (arith, few, many))
+
         by : (i : Idles w z) (b : Bool) → CanCopy i.world a
             → Way p end (copy_sleeper_by b i.world s).world ((copy_sleeper_by b i.world s).next ++ below) → Result q
         by i true can way = (
           Later,
           subst (λ z. Goes q (answers NoMemory z)) (sym lies_is)
               (answers_so i.world q z reply.NoMemory NoMemory refl inside i.follows way),
+          λ is. more_lie,
         )
         by i false can way =
             let v = i.world in
@@ -175,6 +195,7 @@ module _ (p : ℕ) (below : List Op) (under : is_resting below ≡ true) (end : 
               subst (λ z. Goes q (answers Pending z)) (back ∙ sym lies_is)
                   (answers_so g.world q (let_go wakes (tell wakes c) a q4) reply.Pending Pending
                   refl (ap (λ (q : Plain Output Waker). q.inside) back ∙ inside) g.follows g.way),
+              λ is. absurd (not_granted is),
             )
 
     -- with a copy of its waker, in a world that is this
@@ -245,7 +266,8 @@ module _ (p : ℕ) (below : List Op) (under : is_resting below ≡ true) (end : 
           } in
           again w2 q lain follows2
           (omega (arith, room, ap (λ (ls : List (Lying Waker)). length ls) as_it_was, length_last (without (lies who) q1.lying) new_one))
-          (copied_inside a q) bed (lain_has a q1 lain.lying (copied_has a w q follows can_copy)) quiet1
+          (copied_inside a q) bed (ap (λ ws. map sleeper ws) (copied_wakers a w) ∙ follows.wakers)
+          (lain_has a q1 lain.lying (copied_has a w q follows can_copy)) quiet1
           (lies_by None (none_found (lies who) q1.lying none)) now
         where
           one_more : (n : ℕ) → n + 1 ≡ suc n
@@ -302,7 +324,8 @@ module _ (p : ℕ) (below : List Op) (under : is_resting below ≡ true) (end : 
             let bed : IsBedded w2 = record { number = n; before = w1.sleepers.wakers; place = is; last = refl } in
             again w2 q lain follows2
             (omega (arith, fit1, many, length_last (without (lies who) q1.lying) new_one))
-            (copied_inside a q) bed (lain_has a q1 lain.lying (copied_has a w q follows can_copy)) quiet1
+            (copied_inside a q) bed (ap (λ ws. map sleeper ws) (copied_wakers a w) ∙ follows.wakers)
+            (lain_has a q1 lain.lying (copied_has a w q follows can_copy)) quiet1
             (lies_by (Some l.one) (found n who w1 q1 follows1 named l)
             ∙ ap (λ (o : Option Waker). or o (λ old. plain_takes.lain_again wakes c who a old q1) lain) called) now
           where
@@ -372,6 +395,7 @@ module _ (p : ℕ) (below : List Op) (under : is_resting below ≡ true) (end : 
               subst (λ z. Goes q (answers Pending z)) (sym lies_is)
                   (answers_so g.world q (let_go wakes more sp.one.1.waker q2) reply.Pending
                   Pending refl (goes_inside c (Some sp.one.1.waker) q2 ∙ copied_inside a q) g.follows g.way),
+              λ is. absurd (not_granted is),
             )
 
       falls_asleep : length q.lying < c.tells → Rests w1 q1 it → CanLie w1 it
@@ -406,6 +430,7 @@ module _ (p : ℕ) (below : List Op) (under : is_resting below ≡ true) (end : 
         by true can_copy way = (
           AtOnce,
           answers_so w q q reply.NoMemory NoMemory refl refl follows way,
+          λ is. absurd (not_at_once is),
         )
         by false can_copy way =
             let two = next p end rests (op.Tick (tick_op.FallAsleep s)) (copied w a) below refl way in

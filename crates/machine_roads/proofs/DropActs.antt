@@ -1,8 +1,7 @@
 -- Acts from the executor's drop on leave both alike at each moment at which a party rests.
-use Rattle.std.proofs.Common.{◌≡◌, ℕ, suc, ◌≤◌, ◌<◌, ◌==◌, ◌++◌, ◌&&◌, nat_lt, Bool, true, false, List, [], ◌∷◌, length}
-use Rattle.std.proofs.Common.{Option, Some, None, Ok, refl, sym, ap, subst, ◌∙◌, get_or-set_same, get_or-set_other}
+use Rattle.std.proofs.Common.{◌≡◌, ℕ, ◌<◌, ◌==◌, ◌++◌, nat_lt, Bool, true, false, List, [], ◌∷◌, length}
+use Rattle.std.proofs.Common.{Option, Some, None, Ok, refl, sym, ap, subst, ◌∙◌}
 use Rattle.std.specs.Prelude.{reverse}
-use Rattle.task_moves.specs.declared.moves.state.State.{State}
 use Rattle.executor_model.specs.declared.call.Call.{Call}
 use Rattle.executor_model.specs.declared.call.Call.TheVariants as call
 use Rattle.executor_model.specs.declared.event.Event.TheVariants as event
@@ -16,129 +15,55 @@ use Rattle.executor_model.specs.declared.step.StepError.TheVariants.{NoSuch, Wro
 use Rattle.executor_model.specs.declared.step.UserEnd.{UserEnd}
 use Rattle.executor_model.specs.declared.step.UserEnd.TheVariants.{Done as IsDone, Polled}
 use Rattle.executor_model.specs.Executions.{run_all}
+use Rattle.executor_model.specs.Queues.{queue_in}
 use Rattle.executor_model.specs.Quiet.{IsQuiet}
-use Rattle.executor_model.specs.Rows.{lending_of}
-use Rattle.executor_model.specs.Steps.{Machine, accepts, after, answer_refusal, future_of, has_all, is_on_executor, is_some, is_unused}
-use Rattle.executor_model.specs.Steps.{kept, mine, part_refusal, party_of, refusal, stack, top, waker_of}
-use Rattle.executor_model.specs.World.{Done, World, blank, done, log, put}
-use Rattle.executor_model.specs.World as world
+use Rattle.executor_model.specs.Steps.{Machine, accepts, after, answer_refusal, is_on_executor}
+use Rattle.executor_model.specs.Steps.{mine, part_refusal, party_of, refusal, stack, top}
+use Rattle.executor_model.specs.World.{Done, done, log}
 use Rattle.executor_model.proofs.Quiet.Resting.{rests}
 use Rattle.executor_model.proofs.Steps.Reached.{Reached, deep-here, reached-more, run-first}
 use Rattle.executor_model.proofs.Steps.Stepping.{refusal-there}
 use Rattle.executor_laws.proofs.Termination.LoneEnds.{OthersRest, still-rest}
-use Rattle.plain_scheduler.specs.State.{Choice, Close, Granted, Lose, Plain, Refusal}
+use Rattle.plain_scheduler.specs.State.{Choice, Code, Granted, Lose, Plain, Refusal}
 use Rattle.plain_scheduler.specs.Calls as plain
 use Rattle.plain_scheduler.specs.Calls.{close, does}
 use Rattle.machine_roads.specs.View.{Output, wakes}
 use Rattle.machine_roads.specs.Road.{Follows, waking_in}
 use Rattle.machine_roads.specs.Alone.{alone, is_resting, HasAll, HasIn}
 use Rattle.machine_roads.specs.Alike.{begins, upon}
-use Rattle.machine_roads.specs.Closing.{ComesOn, IsInDrop, IsLosingInDrop, loses}
+use Rattle.machine_roads.specs.Closing.{ComesOn, IsInDrop, loses}
 use Rattle.machine_roads.specs.Course.{IsCall}
-use Rattle.machine_roads.specs.Course as course
-use Rattle.machine_roads.specs.Losing.{StopsLosing, left_of, without_handle}
+use Rattle.machine_roads.specs.InLoss.{AreLosing, IsCallInLoss, StopsInLoss, loss_codes, loss_ops, without_handles}
+use Rattle.machine_roads.specs.Losing.{left_of}
 use Rattle.machine_roads.specs.Lone.{EachLoneAlike, NoneWaits}
-use Rattle.machine_roads.specs.Within.{Act, ActsBy, IsCallIn, begins as begins_by, ends as ends_by, owes, rests_after, standing}
-use Rattle.machine_roads.specs.Within as within_it
-use Rattle.machine_roads.specs.DropActs.{AreDropActs, DropActAlike, DropActsAlike, StandsDropping, behind, drops, left_to_close}
-use Rattle.machine_roads.specs.DropActs.{loses_behind, loses_inside, may_act}
+use Rattle.machine_roads.specs.Within.{Act, ActsBy, IsCallIn, begins as begins_by, ends as ends_by, rests_after, standing}
+use Rattle.machine_roads.specs.DropActs.{AreDropActs, AreLosingInDrop, DropActAlike, DropActsAlike, StandsDropping, behind, drops}
+use Rattle.machine_roads.specs.DropActs.{left_to_close}
 use Rattle.machine_roads.proofs.ActBegins.{choice_in, chosen_in, enough}
 use Rattle.machine_roads.proofs.Acts.{goes_rest, no_go_resting, taken_over}
 use Rattle.machine_roads.proofs.Beside.{begins_does, go_append, rest_goes}
 use Rattle.machine_roads.proofs.CallsBehind.{Still, none_in, none_of, of_tasks, still_at}
 use Rattle.machine_roads.proofs.CourseBehind.{before_drop, drop_begun, still_gone}
-use Rattle.machine_roads.proofs.InDrop.{call_so, calls_in_drop, comes_on, drop_goes_on, lose_so, loses_in_drop, loss_ends_in_drop}
+use Rattle.machine_roads.proofs.ActLosses.{spares_all}
+use Rattle.machine_roads.proofs.InDrop.{comes_on, drop_goes_on}
+use Rattle.machine_roads.proofs.InLoss.{calls_in_loss, loses_in_loss, loss_ends_in_loss}
+use Rattle.machine_roads.proofs.LossInDrop.{call_ends, call_loses, drop_ends_so}
+use Rattle.machine_roads.proofs.Unseen.{stands_in}
 use Rattle.machine_roads.proofs.InDrop.{stays_inside}
 use Rattle.machine_roads.proofs.Inside.{ends_inside}
-use Rattle.machine_roads.proofs.Lists.{apart_of, clash, length_set, same_of}
+use Rattle.machine_roads.proofs.LaterAnew.{off_anew}
+use Rattle.machine_roads.proofs.Lists.{clash}
 use Rattle.machine_roads.proofs.LoneCalls.{each}
 use Rattle.machine_roads.proofs.LoneCloses.{Closing, IsAny, drop_leads_so, walks}
-use Rattle.machine_roads.proofs.LoneLosing.{loss_leads}
-use Rattle.machine_roads.proofs.LoneRuns.{both_true, not_true, passed, within}
+use Rattle.machine_roads.proofs.LoneRuns.{passed, within}
 use Rattle.machine_roads.proofs.LoneTicks.{may_begin, there_all}
-use Rattle.machine_roads.proofs.OneCall.{some_kept}
-use Rattle.machine_roads.proofs.OpenCalls.{HasOpen, of_calls, open_all}
+use Rattle.machine_roads.proofs.DropPlaces.{are_losses, handles_back, handles_there, loss_rests, queues_through, rests_so, stands_on}
+use Rattle.machine_roads.proofs.DropPlaces.{still_left}
+use Rattle.machine_roads.proofs.Named.{Named, named}
+use Rattle.machine_roads.proofs.OpenCalls.{AreOpen, HasOpen, of_calls, open_all}
 use Rattle.machine_roads.proofs.Tying.{LeadsSoOf, none_of as none_left, top_of}
-use Rattle.machine_roads.proofs.Waits.{HasOfTasks, NoTaskWaits, are_append, begins_calmly, put_stays, waits_in}
+use Rattle.machine_roads.proofs.Waits.{HasOfTasks, NoTaskWaits, are_append, begins_calmly}
 use Rattle.machine_roads.proofs.Walked.{answer_leads_of, begun_leads_of, no_answer}
-
--- which call of the plain scheduler it is, where no poll is around it
-record Named (w : World) (c : Call) : Type 0 where
-  made : plain.Call Output Waker
-  is : IsCall w c made
-  within_none : IsCallIn None w c made
-
-module _ (w : World) (ss : List (List Op)) (o : Option Op) (none : mine o ≡ None) where
-  kept_one : (k : ℕ) → (is_some (kept w k) && is_unused (lending_of k) ss) ≡ true → (f : ℕ) × (kept w k ≡ Some f)
-  kept_one k is = some_kept (kept w k) (both_true (is_some (kept w k)) (is_unused (lending_of k) ss) is).0
-
-  named : (c : Call) → is_on_executor c ≡ false → has_all w ss o c ≡ true → Named w c
-  named (call.Wake k) off has =
-      let f = kept_one k has in
-      record { made = plain.Use f.0; is = course.use_waker k f.0 f.1; within_none = within_it.use_waker k f.0 f.1 }
-  named (call.WakeByRef k) off has =
-      let f = some_kept (kept w k) has in
-      record { made = plain.Wake f.0; is = course.wake k f.0 f.1; within_none = within_it.wake k f.0 f.1 }
-  named (call.Copy k) off has =
-      let f = some_kept (kept w k) has in
-      record { made = plain.Copy f.0; is = course.copy k f.0 f.1; within_none = within_it.copy k f.0 f.1 }
-  named (call.DropWaker k) off has =
-      let f = kept_one k has in
-      record { made = plain.Release f.0; is = course.release k f.0 f.1; within_none = within_it.release k f.0 f.1 }
-  named call.Keep off has = absurd (clash (ap (λ o. is_some (future_of o)) none) has)
-  named call.WakeSelf off has = absurd (clash (ap (λ o. is_some (future_of o)) none) has)
-  named (call.PollHandle f b) off has =
-      record {
-        made = plain.PollHandle f (waker_of None b);
-        is = course.poll_handle f b;
-        within_none = within_it.poll_handle f b;
-      }
-  named (call.Cancel f) off has = record { made = plain.Cancel f; is = course.cancel f; within_none = within_it.cancel f }
-  named (call.Detach f) off has = record { made = plain.Detach f; is = course.detach f; within_none = within_it.detach f }
-  named (call.DropHandle f) off has =
-      record { made = plain.DropHandle f; is = course.drop_handle f; within_none = within_it.drop_handle f }
-  named c off has = absurd cc
-
--- the executor's drop has come on so
-pub stands_on : (fs all : List ℕ) (q : Plain Output Waker) (e : Done) → ComesOn fs all [] q e → StandsDropping e q
-stands_on [] all q e so = behind so.0 so.1 so.2 so.3
-stands_on (f ∷ fs) all q e so = drops f fs all so.0 so.1
-
-waking_of : (w : World) (fs all : List ℕ) (q : Plain Output Waker) → IsInDrop w fs all [] q → w.waking ≡ waking_in (Close fs all ∷ [])
-waking_of w fs all q is = is.follows.waking ∙ ap (λ codes. waking_in codes) is.inside
-
-still_left : (f : ℕ) (fs all : List ℕ) (w v : World) (q z : Plain Output Waker) → IsInDrop w fs all [] q → IsInDrop v fs all [] z
-    → op.User (user_op.Drop f) ∷ left_to_close fs w ≡ op.User (user_op.Drop f) ∷ left_to_close fs v
-still_left f fs all w v q z is so =
-    ap (λ ws. op.User (user_op.Drop f) ∷ left_to_close fs (record w { waking = ws }))
-    (waking_of w fs all q is ∙ sym (waking_of v fs all z so))
-
--- where it stands the party rests
-rests_so : (e : Done) (q : Plain Output Waker) → StandsDropping e q → is_resting e.next ≡ true
-rests_so e q (drops f fs all next is) = ap is_resting next
-rests_so e q (loses_inside g f fs all b next same is) = ap is_resting next
-rests_so e q (behind next inside follows none) = ap is_resting next
-rests_so e q (loses_behind g b nowhere none stops) = ap is_resting stops.left
-
--- a handle is nothing to who waits
-handle_there : (f : ℕ) (w : World) → f < length w.tasks → NoTaskWaits w → NoTaskWaits (without_handle f w)
-handle_there f w known none = put_stays w f (record (world.task w f) { handle = false }) none (none f known)
-
-handle_back : (f : ℕ) (w : World) → f < length w.tasks → NoTaskWaits (without_handle f w) → NoTaskWaits w
-handle_back f w known none g at = by (f == g) refl
-  where
-    s : State
-    s = record (world.task w f) { handle = false }
-
-    still : (g : ℕ) → g < length w.tasks → waits_in (world.task (put w f s) g) ≡ false
-    still g at = none g (subst (λ n. g < n) (sym (length_set w.tasks f s)) at)
-
-    by : (b : Bool) → (f == g) ≡ b → waits_in (world.task w g) ≡ false
-    by true same =
-        subst (λ g. waits_in (world.task w g) ≡ false) (same_of f g same)
-        (sym (ap waits_in (get_or-set_same w.tasks f s blank known)) ∙ still f known)
-    by false apart =
-        sym (ap waits_in (get_or-set_other w.tasks f g s blank (λ same. apart_of f g apart (sym same)))) ∙ still g at
 
 module _ (s : Machine) (reached : Reached s) (p : ℕ) (there : p < length s.parties) (gone : s.world.gone ≡ true)
     (q : Plain Output Waker) (new : Machine) where
@@ -155,11 +80,18 @@ module _ (s : Machine) (reached : Reached s) (p : ℕ) (there : p < length s.par
   its = top (stack s p)
 
   acts : (c : Call) (x : plain.Call Output Waker) (r : Refusal) → IsCallIn (mine its) s.world c x
-      → ActsBy s p (Begin p c) q (does wakes (choice r) x q)
-  acts c x r is = record { choice = choice r; made = x; chosen = chosen_in s q r; is = begins_by c x is; so = refl }
+      → is_on_executor c ≡ false → ActsBy s p (Begin p c) q (does wakes (choice r) x q)
+  acts c x r is off = record {
+    choice = choice r;
+    made = x;
+    chosen = chosen_in s q r;
+    is = begins_by c x is;
+    so = refl;
+    anew = off_anew q (does wakes (choice r) x q) (mine its) s.world c r x is off;
+  }
 
   end_acts : ActsBy s p (Answer p IsDone) q (does wakes granted plain.Ends q)
-  end_acts = record { choice = granted; made = plain.Ends; chosen = (chosen_in s q Granted).tells; is = ends_by; so = refl }
+  end_acts = record { choice = granted; made = plain.Ends; chosen = (chosen_in s q Granted).tells; is = ends_by; so = refl; anew = tt }
 
   -- the executor's calls are refused
   no_executors : (c : Call) → refusal s (Begin p c) ≡ None → is_on_executor c ≡ true → ⊥
@@ -178,20 +110,39 @@ module _ (s : Machine) (reached : Reached s) (p : ℕ) (there : p < length s.par
       by false off = off
       by true on = absurd (no_executors c may on)
 
-  -- in the drop of a future
-  module _ (f : ℕ) (fs all : List ℕ) (next : reverse (stack s p) ≡ op.User (user_op.Drop f) ∷ left_to_close fs s.world)
-      (is : IsInDrop s.world fs all [] q) where
+  poll_none : (gs : List ℕ) (o : Op) (os : List Op) → mine (Some o) ≡ None → reverse (stack s p) ≡ loss_ops gs (o ∷ os) → mine its ≡ None
+  poll_none [] o os none is = ap (λ o. mine o) (top_of (stack s p) o os is).0 ∙ none
+  poll_none (g ∷ gs) o os none is =
+      ap (λ o. mine o) (top_of (stack s p) (op.User (user_op.DropOutput g)) (left_of g ++ loss_ops gs (o ∷ os)) is).0
+
+  called_in : (c : Call) → refusal s (Begin p c) ≡ None → (gs : List ℕ) (os : List Op) → reverse (stack s p) ≡ loss_ops gs os
+      → (x : plain.Call Output Waker) → IsCall s.world c x → IsCallInLoss gs s.world c x
+  called_in c may gs os next x is = record {
+    off = not_off c may;
+    spared = spares_all s reached p there gs os next its c (there_all s.world s.parties its c (may_begin s p c may));
+    is = is;
+  }
+
+  -- in the drop of a future, and in those of outputs inside of it
+  module _ (gs : List ℕ) (f : ℕ) (fs all : List ℕ)
+      (next : reverse (stack s p) ≡ loss_ops gs (op.User (user_op.Drop f) ∷ left_to_close fs s.world))
+      (is : AreLosingInDrop s.world gs fs all q) where
     abbrev below : List Op
     below = reverse (stack s p)
 
     under : is_resting below ≡ true
-    under = ap is_resting next
-
-    its_top : its ≡ Some (op.User (user_op.Drop f))
-    its_top = (top_of (stack s p) (op.User (user_op.Drop f)) (left_to_close fs s.world) next).0
+    under = ap is_resting next ∙ loss_rests gs (op.User (user_op.Drop f) ∷ left_to_close fs s.world) refl
 
     no_poll : mine its ≡ None
-    no_poll = ap (λ o. mine o) its_top
+    no_poll = poll_none gs (op.User (user_op.Drop f)) (left_to_close fs s.world) refl next
+
+    opened : AreOpen s.world
+    opened m = ap (λ qs. (queue_in m qs).closed) (sym (queues_through gs s.world)) ∙ is.left.opened m
+
+    stands_still : (hs : List ℕ) (e : Done) (z : Plain Output Waker)
+        → e.next ≡ loss_ops hs (op.User (user_op.Drop f) ∷ left_to_close fs s.world) → AreLosingInDrop e.world hs fs all z
+        → StandsDropping e z
+    stands_still hs e z at so = drops hs f fs all (at ∙ ap (loss_ops hs) (still_left f fs all gs hs s.world e.world q z is so)) so
 
     call_in_drop : (c : Call) (ts : List Step) → rests_after p ts (after s (Begin p c)) ≡ true → run_all (Begin p c ∷ ts) s ≡ Ok new
         → Reaches (Begin p c) (standing new p)
@@ -199,17 +150,18 @@ module _ (s : Machine) (reached : Reached s) (p : ℕ) (there : p < length s.par
         let may = (run-first (Begin p c) ts s new made).0 in
         let off = not_off c may in
         let x = one_named c may no_poll off in
+        let it = called_in c may gs (op.User (user_op.Drop f) ∷ left_to_close fs s.world) next x.made x.is in
         begun_leads_of HasOpen IsAny of_calls p (Reaches (Begin p c)) new tt c ts s reached there
-        (subst (λ here. LeadsSoOf HasOpen p (upon below (begins p here c s.world)) (Reaches (Begin p c))) (sym no_poll) (leads off x))
+        (subst (λ here. LeadsSoOf HasOpen p (upon below (begins p here c s.world)) (Reaches (Begin p c))) (sym no_poll) (leads off x it))
         rests made
       where
-        leads : is_on_executor c ≡ false → Named s.world c
+        leads : is_on_executor c ≡ false → (x : Named s.world c) → IsCallInLoss gs s.world c x.made
             → LeadsSoOf HasOpen p (upon below (begins p None c s.world)) (Reaches (Begin p c))
-        leads off x hints has rests =
+        leads off x it hints has rests =
             let d = begins p None c s.world in
             let b = begins_does (λ f. true) [] [] [] p c s.world off (λ f at waits. refl) in
             let all_has : HasAll p hints (upon below d) =
-            open_all p hints d.world (d.next ++ below) (λ m. b.shut m ∙ is.opened m) (go_append d.next below b.fits (rest_goes below under))
+            open_all p hints d.world (d.next ++ below) (λ m. b.shut m ∙ opened m) (go_append d.next below b.fits (rest_goes below under))
             has in
             by (loses x.made q) refl all_has
           where
@@ -217,26 +169,24 @@ module _ (s : Machine) (reached : Reached s) (p : ℕ) (there : p < length s.par
                 → Reaches (Begin p c) (alone p hints (upon below (begins p None c s.world)))
             by false keeps all_has =
                 let e = alone p hints (upon below (begins p None c s.world)) in
-                let o = calls_in_drop p below s.world fs all [] q c x.made granted hints under is off x.is keeps all_has rests in
+                let o = call_ends p gs below s.world fs all q granted hints under is c x.made it all_has rests keeps in
                 let z : Plain Output Waker = does wakes (choice o.0) x.made q in (
                   z,
-                  acts c x.made o.0 (is_in c x.made no_poll x.within_none),
-                  drops f fs all (o.1 ∙ (next ∙ still_left f fs all s.world e.world q z is o.2)) o.2,
+                  acts c x.made o.0 (is_in c x.made no_poll x.within_none) off,
+                  stands_still gs e z (o.1 ∙ next) o.2,
                 )
             by true goes all_has =
                 let e = alone p hints (upon below (begins p None c s.world)) in
-                let o = loses_in_drop p below s.world fs all [] q c x.made granted hints under is off x.is goes all_has rests in
-                let z : Plain Output Waker = does wakes granted x.made q in
-                let b : Plain Output Waker = record z { inside = q.inside } in (
+                let o = call_loses p gs below s.world fs all q granted hints under is c x.made it all_has rests goes in
+                let g : ℕ = o.0 in
+                let z : Plain Output Waker = does wakes granted x.made q in (
                   z,
-                  acts c x.made Granted (is_in c x.made no_poll x.within_none),
-                  loses_inside o.0 f fs all b
-                      (o.1
-                      ∙ ap (λ os. op.User (user_op.DropOutput o.0) ∷ (left_of o.0 ++ os))
-                      (next ∙ still_left f fs all s.world (without_handle o.0 e.world) q b is o.3.left))
-                      (ap (λ codes. record z { inside = codes }) o.2) o.3,
+                  acts c x.made Granted (is_in c x.made no_poll x.within_none) off,
+                  stands_still (g ∷ gs) e z (o.1 ∙ ap (λ os. op.User (user_op.DropOutput g) ∷ (left_of g ++ os)) next) o.2,
                 )
 
+  module _ (f : ℕ) (fs all : List ℕ) (next : reverse (stack s p) ≡ op.User (user_op.Drop f) ∷ left_to_close fs s.world)
+      (is : IsInDrop s.world fs all [] q) where
     -- the drop of the future ends
     drop_ends : (u : UserEnd) (ts : List Step) → accepts (op.User (user_op.Drop f)) u ≡ true
         → rests_after p ts (after s (Answer p u)) ≡ true → run_all (Answer p u ∷ ts) s ≡ Ok new → Reaches (Answer p u) (standing new p)
@@ -253,113 +203,139 @@ module _ (s : Machine) (reached : Reached s) (p : ℕ) (there : p < length s.par
     drop_ends (Polled a) ts on rests made = absurd cc
 
   -- the drop of an output in there ends
-  module _ (g f : ℕ) (fs all : List ℕ) (b : Plain Output Waker)
-      (next : reverse (stack s p)
-      ≡ op.User (user_op.DropOutput g) ∷ (left_of g ++ op.User (user_op.Drop f) ∷ left_to_close fs s.world))
-      (same : q ≡ record b { inside = Lose None None ∷ b.inside }) (is : IsLosingInDrop s.world g fs all [] b) where
+  module _ (g : ℕ) (gs : List ℕ) (f : ℕ) (fs all : List ℕ)
+      (next : reverse (stack s p) ≡ loss_ops (g ∷ gs) (op.User (user_op.Drop f) ∷ left_to_close fs s.world))
+      (is : AreLosingInDrop s.world (g ∷ gs) fs all q) where
     abbrev left : List Op
-    left = op.User (user_op.Drop f) ∷ left_to_close fs s.world
+    left = loss_ops gs (op.User (user_op.Drop f) ∷ left_to_close fs s.world)
 
     loss_ends : (u : UserEnd) (ts : List Step) → accepts (op.User (user_op.DropOutput g)) u ≡ true
         → rests_after p ts (after s (Answer p u)) ≡ true → run_all (Answer p u ∷ ts) s ≡ Ok new → Reaches (Answer p u) (standing new p)
     loss_ends IsDone ts on rests made =
         let os = left_of g ++ left in
+        let under = loss_rests gs (op.User (user_op.Drop f) ∷ left_to_close fs s.world) refl in
         answer_leads_of HasOpen IsAny of_calls p (Reaches (Answer p IsDone)) new tt IsDone (op.User (user_op.DropOutput g)) os ts s reached
         there next
         (λ hints has rests.
         let e = alone p hints (done s.world os) in
         let all_has : HasAll p hints (done s.world os) =
-        open_all p hints s.world os (λ m. is.left.opened m) (go_append (left_of g) left refl (rest_goes left refl)) has in
-        let o = loss_ends_in_drop p g left s.world fs all [] b granted hints refl is all_has rests in
-        let z : Plain Output Waker = does wakes granted plain.Ends (record b { inside = Lose None None ∷ b.inside }) in (
+        open_all p hints s.world os (opened (g ∷ gs) f fs all next is) (go_append (left_of g) left refl (rest_goes left under)) has in
+        let o = drop_ends_so p gs left s.world fs all q granted hints under g is all_has rests in (
           does wakes granted plain.Ends q,
           end_acts,
-          subst (λ r. StandsDropping e (does wakes granted plain.Ends r)) (sym same)
-              (drops f fs all (o.0 ∙ still_left f fs all (without_handle g s.world) e.world b z is.left o.1) o.1),
+          stands_still (g ∷ gs) f fs all next is gs e (does wakes granted plain.Ends q) o.0 o.1,
         ))
         rests made
     loss_ends (Polled a) ts on rests made = absurd cc
 
   -- behind the executor's drop
-  module _ (next : reverse (stack s p) ≡ []) (nowhere : q.inside ≡ []) (follows : Follows s.world q) (none : NoneWaits q) where
-    no_poll_behind : mine its ≡ None
-    no_poll_behind = ap (λ xs. mine (top xs)) (none_left (stack s p) next)
+  module _ (gs : List ℕ) (none : NoneWaits q) (stops : StopsInLoss gs [] [] (standing s p) q) where
+    abbrev owed : List Op
+    owed = loss_ops gs []
+
+    under_behind : is_resting owed ≡ true
+    under_behind = loss_rests gs [] refl
+
+    calm : NoTaskWaits s.world
+    calm = handles_back gs s.world stops.losing.shut (none_in (without_handles gs s.world) q stops.losing.follows none)
+
+    no_poll_behind : (hs : List ℕ) → reverse (stack s p) ≡ loss_ops hs [] → mine its ≡ None
+    no_poll_behind [] next = ap (λ xs. mine (top xs)) (none_left (stack s p) next)
+    no_poll_behind (h ∷ hs) next =
+        ap (λ o. mine o) (top_of (stack s p) (op.User (user_op.DropOutput h)) (left_of h ++ loss_ops hs []) next).0
+
+    stands_behind : (hs : List ℕ) (e : Done) (z : Plain Output Waker) → e.next ≡ loss_ops hs [] → z.inside ≡ loss_codes hs []
+        → AreLosing e.world hs z → NoTaskWaits e.world → StandsDropping e z
+    stands_behind hs e z next inside losing still =
+        behind hs (none_of (without_handles hs e.world) z losing.follows (handles_there hs e.world losing.shut still))
+        (record { left = next; inside = inside; losing = losing })
 
     call_behind : (c : Call) (ts : List Step) → rests_after p ts (after s (Begin p c)) ≡ true → run_all (Begin p c ∷ ts) s ≡ Ok new
         → Reaches (Begin p c) (standing new p)
     call_behind c ts rests made =
         let may = (run-first (Begin p c) ts s new made).0 in
         let off = not_off c may in
-        let x = one_named c may no_poll_behind off in
+        let unpolled = no_poll_behind gs stops.left in
+        let x = one_named c may unpolled off in
+        let it = called_in c may gs [] stops.left x.made x.is in
         begun_leads_of HasOfTasks IsAny of_tasks p (Reaches (Begin p c)) new tt c ts s reached there
-        (subst (λ os. LeadsSoOf HasOfTasks p (upon os (begins p (mine its) c s.world)) (Reaches (Begin p c))) (sym next)
-        (subst (λ here. LeadsSoOf HasOfTasks p (upon [] (begins p here c s.world)) (Reaches (Begin p c))) (sym no_poll_behind)
-        (leads off x)))
+        (subst (λ os. LeadsSoOf HasOfTasks p (upon os (begins p (mine its) c s.world)) (Reaches (Begin p c))) (sym stops.left)
+        (subst (λ here. LeadsSoOf HasOfTasks p (upon owed (begins p here c s.world)) (Reaches (Begin p c))) (sym unpolled)
+        (leads unpolled x it)))
         rests made
       where
-        few : length q.lying ≤ suc (length q.lying)
-        few = enough (length q.lying)
-
-        leads : is_on_executor c ≡ false → Named s.world c
-            → LeadsSoOf HasOfTasks p (upon [] (begins p None c s.world)) (Reaches (Begin p c))
-        leads off x hints has rests = by (loses x.made q) refl
+        leads : mine its ≡ None → (x : Named s.world c) → IsCallInLoss gs s.world c x.made
+            → LeadsSoOf HasOfTasks p (upon owed (begins p None c s.world)) (Reaches (Begin p c))
+        leads unpolled x it hints has rests = by (loses x.made q) refl
           where
+            e : Done
+            e = alone p hints (upon owed (begins p None c s.world))
+
             so_far : (R : Done → Type 0)
-                → (HasAll p hints (upon [] (begins p None c s.world)) → R (alone p hints (upon [] (begins p None c s.world))))
-                → Still R (alone p hints (upon [] (begins p None c s.world)))
+                → (HasAll p hints (upon owed (begins p None c s.world)) → R (alone p hints (upon owed (begins p None c s.world))))
+                → Still R (alone p hints (upon owed (begins p None c s.world)))
             so_far R so =
                 let d = begins p None c s.world in
-                let b = begins_calmly p c (log s.world (event.CallBegun p c)) off (none_in s.world q follows none) in
-                still_at p R hints d.world (d.next ++ []) b.world (are_append d.next [] b.fits refl) (λ has. so has) has
+                let b = begins_calmly p c (log s.world (event.CallBegun p c)) it.off calm in
+                still_at p R hints d.world (d.next ++ owed) b.world (are_append d.next owed b.fits (are_losses gs)) (λ has. so has) has
 
-            by : (b : Bool) → loses x.made q ≡ b → Reaches (Begin p c) (alone p hints (upon [] (begins p None c s.world)))
+            by : (b : Bool) → loses x.made q ≡ b → Reaches (Begin p c) (alone p hints (upon owed (begins p None c s.world)))
             by false keeps =
-                let e = alone p hints (upon [] (begins p None c s.world)) in
                 let k =
                 so_far
-                (λ e. (r : Refusal) × (e.next ≡ []) × Follows e.world (does wakes (record granted { refusal = r }) x.made q))
-                (λ has. call_so p [] refl s.world s.world.table q follows granted few c x.made off x.is keeps hints has rests) in
+                (λ e. (r : Refusal) × (e.next ≡ owed) × AreLosing e.world gs (does wakes (record granted { refusal = r }) x.made q))
+                (λ has.
+                calls_in_loss p gs owed s.world q granted hints c x.made under_behind stops.losing it keeps (enough (length q.lying)) has
+                rests) in
                 let r : Refusal = k.so.0 in
                 let z : Plain Output Waker = does wakes (choice r) x.made q in (
                   z,
-                  acts c x.made r (is_in c x.made no_poll_behind x.within_none),
-                  behind k.so.1 (stays_inside s.world c x.made (choice r) q off x.is keeps ∙ nowhere) k.so.2
-                      (none_of e.world z k.so.2 k.none),
+                  acts c x.made r (is_in c x.made unpolled x.within_none) it.off,
+                  stands_behind gs (alone p hints (upon owed (begins p None c s.world))) z k.so.1
+                      (stays_inside s.world c x.made (choice r) q it.off x.is keeps ∙ stops.inside) k.so.2 k.none,
                 )
             by true goes =
-                let e = alone p hints (upon [] (begins p None c s.world)) in
                 let z : Plain Output Waker = does wakes granted x.made q in
                 let k =
-                so_far (λ e. (f : ℕ) × StopsLosing f [] q e z)
-                (λ has. lose_so p [] refl s.world s.world.table q follows granted few c x.made off x.is goes hints has rests) in
+                so_far
+                (λ e. (f : ℕ) × (e.next ≡ op.User (user_op.DropOutput f) ∷ (left_of f ++ owed)) × (z.inside ≡ Lose None None ∷ q.inside)
+                × AreLosing e.world (f ∷ gs) z)
+                (λ has. loses_in_loss p gs owed s.world q granted hints c x.made under_behind stops.losing it goes has rests) in
                 let f : ℕ = k.so.0 in (
                   z,
-                  acts c x.made Granted (is_in c x.made no_poll_behind x.within_none),
-                  loses_behind f q nowhere
-                      (none_of (without_handle f e.world) z k.so.1.losing.follows
-                      (handle_there f e.world k.so.1.losing.known k.none))
-                      k.so.1,
+                  acts c x.made Granted (is_in c x.made unpolled x.within_none) it.off,
+                  stands_behind (f ∷ gs) (alone p hints (upon owed (begins p None c s.world))) z k.so.1
+                      (k.so.2 ∙ ap (λ codes. Lose None None ∷ codes) stops.inside) k.so.3 k.none,
                 )
 
   -- the drop of an output there ends
-  module _ (g : ℕ) (b : Plain Output Waker) (nowhere : b.inside ≡ []) (none : NoneWaits q)
-      (stops : StopsLosing g [] b (standing s p) q) where
+  module _ (g : ℕ) (gs : List ℕ) (none : NoneWaits q) (stops : StopsInLoss (g ∷ gs) [] [] (standing s p) q) where
     loss_ends_behind : (u : UserEnd) (ts : List Step) → accepts (op.User (user_op.DropOutput g)) u ≡ true
         → rests_after p ts (after s (Answer p u)) ≡ true → run_all (Answer p u ∷ ts) s ≡ Ok new → Reaches (Answer p u) (standing new p)
     loss_ends_behind IsDone ts on rests made =
-        let os = left_of g ++ [] in
+        let os = left_of g ++ loss_ops gs [] in
+        let inside : List (Code Output Waker) = loss_codes gs [] in
+        let q0 : Plain Output Waker = record q { inside = inside } in
+        let q1 : Plain Output Waker = record q { inside = Lose None None ∷ inside } in
+        let same : q1 ≡ q = ap (λ (codes : List (Code Output Waker)). record q { inside = codes }) (sym stops.inside) in
+        let it : AreLosing s.world (g ∷ gs) q0 =
+        record {
+          shut = stops.losing.shut;
+          follows =
+              stands_in inside (without_handles (g ∷ gs) s.world) q stops.losing.follows (sym (ap (λ codes. waking_in codes) stops.inside));
+        } in
         answer_leads_of HasOfTasks IsAny of_tasks p (Reaches (Answer p IsDone)) new tt IsDone (op.User (user_op.DropOutput g)) os ts s
         reached there stops.left
         (λ hints has rests.
         let e = alone p hints (done s.world os) in
-        let z : Plain Output Waker = does wakes granted plain.Ends q in
+        let z : Plain Output Waker = does wakes granted plain.Ends q1 in
         let k =
-        still_at p (λ e. (e.next ≡ []) × Follows e.world z) hints s.world os
-        (handle_back g s.world stops.losing.known (none_in (without_handle g s.world) q stops.losing.follows none)) refl
-        (λ has. loss_leads p g b q granted (standing s p) stops hints has rests) has in (
-          z,
+        still_at p (λ e. (e.next ≡ loss_ops gs []) × AreLosing e.world gs z) hints s.world os (calm (g ∷ gs) none stops) (are_losses gs)
+        (λ has. loss_ends_in_loss p gs (loss_ops gs []) s.world q0 granted hints g (loss_rests gs [] refl) it has rests) has in (
+          does wakes granted plain.Ends q,
           end_acts,
-          behind k.so.0 (ends_inside granted q b.inside stops.inside ∙ nowhere) k.so.1 (none_of e.world z k.so.1 k.none),
+          subst (λ y. StandsDropping e (does wakes granted plain.Ends y)) same
+              (stands_behind (g ∷ gs) none stops gs e z k.so.0 (ends_inside granted q1 inside refl) k.so.1 k.none),
         ))
         rests made
     loss_ends_behind (Polled a) ts on rests made = absurd cc
@@ -371,15 +347,13 @@ module _ (s : Machine) (reached : Reached s) (p : ℕ) (there : p < length s.par
         passed (accepts o u) WrongAnswer None
         (sym (ap (λ t. answer_refusal t u) (top_of (stack s p) o os is).0) ∙ (sym (refusal-there s (Answer p u) there) ∙ may))
 
-    call_begins : (c : Call) (ts : List Step) → owes (reverse (stack s p)) ≡ false → rests_after p ts (after s (Begin p c)) ≡ true
-        → run_all (Begin p c ∷ ts) s ≡ Ok new → Reaches (Begin p c) (standing new p)
-    call_begins c ts even rests made = by so
+    call_begins : (c : Call) (ts : List Step) → rests_after p ts (after s (Begin p c)) ≡ true → run_all (Begin p c ∷ ts) s ≡ Ok new
+        → Reaches (Begin p c) (standing new p)
+    call_begins c ts rests made = by so
       where
         by : StandsDropping (standing s p) q → Reaches (Begin p c) (standing new p)
-        by (drops f fs all next is) = call_in_drop f fs all next is c ts rests made
-        by (loses_inside g f fs all b next same is) = absurd (clash even (ap (λ os. owes os) next))
-        by (behind next inside follows none) = call_behind next inside follows none c ts rests made
-        by (loses_behind g b nowhere none stops) = absurd (clash even (ap (λ os. owes os) stops.left))
+        by (drops gs f fs all next is) = call_in_drop gs f fs all next is c ts rests made
+        by (behind gs none stops) = call_behind gs none stops c ts rests made
 
     code_ends : (u : UserEnd) (ts : List Step) → rests_after p ts (after s (Answer p u)) ≡ true → run_all (Answer p u ∷ ts) s ≡ Ok new
         → Reaches (Answer p u) (standing new p)
@@ -389,29 +363,30 @@ module _ (s : Machine) (reached : Reached s) (p : ℕ) (there : p < length s.par
         may = (run-first (Answer p u) ts s new made).0
 
         by : StandsDropping (standing s p) q → Reaches (Answer p u) (standing new p)
-        by (drops f fs all next is) =
-            drop_ends f fs all next is u ts (accepted (op.User (user_op.Drop f)) (left_to_close fs s.world) u next may) rests made
-        by (loses_inside g f fs all b next same is) =
-            loss_ends g f fs all b next same is u ts
-            (accepted (op.User (user_op.DropOutput g)) (left_of g ++ op.User (user_op.Drop f) ∷ left_to_close fs s.world) u next may)
+        by (drops [] f fs all next is) =
+            drop_ends f fs all next is.left u ts (accepted (op.User (user_op.Drop f)) (left_to_close fs s.world) u next may) rests made
+        by (drops (g ∷ gs) f fs all next is) =
+            loss_ends g gs f fs all next is u ts
+            (accepted (op.User (user_op.DropOutput g))
+            (left_of g ++ loss_ops gs (op.User (user_op.Drop f) ∷ left_to_close fs s.world)) u next may)
             rests made
-        by (behind next inside follows none) = absurd (no_answer s p there u next may)
-        by (loses_behind g b nowhere none stops) =
-            loss_ends_behind g b nowhere none stops u ts
-            (accepted (op.User (user_op.DropOutput g)) (left_of g ++ []) u stops.left may) rests made
+        by (behind [] none stops) = absurd (no_answer s p there u stops.left may)
+        by (behind (g ∷ gs) none stops) =
+            loss_ends_behind g gs none stops u ts
+            (accepted (op.User (user_op.DropOutput g)) (left_of g ++ loss_ops gs []) u stops.left may) rests made
 
-    one_act : (t : Step) (ts : List Step) → party_of t ≡ p → may_act (reverse (stack s p)) t ≡ true
-        → rests_after p ts (after s t) ≡ true → run_all (t ∷ ts) s ≡ Ok new → Reaches t (standing new p)
-    one_act (Begin r c) ts its on rests made =
+    one_act : (t : Step) (ts : List Step) → party_of t ≡ p → rests_after p ts (after s t) ≡ true → run_all (t ∷ ts) s ≡ Ok new
+        → Reaches t (standing new p)
+    one_act (Begin r c) ts its rests made =
         subst (λ n. Reaches (Begin n c) (standing new p)) (sym its)
-        (call_begins c ts (not_true (owes (reverse (stack s p))) on)
+        (call_begins c ts
         (subst (λ n. rests_after p ts (after s (Begin n c)) ≡ true) its rests)
         (subst (λ n. run_all (Begin n c ∷ ts) s ≡ Ok new) its made))
-    one_act (Go r h) ts its on rests made =
+    one_act (Go r h) ts its rests made =
         absurd
         (no_go_resting s p there h (reverse (stack s p)) refl (rests_so (standing s p) q so)
         (subst (λ n. refusal s (Go n h) ≡ None) its (run-first (Go r h) ts s new made).0))
-    one_act (Answer r u) ts its on rests made =
+    one_act (Answer r u) ts its rests made =
         subst (λ n. Reaches (Answer n u) (standing new p)) (sym its)
         (code_ends u ts (subst (λ n. rests_after p ts (after s (Answer n u)) ≡ true) its rests)
         (subst (λ n. run_all (Answer n u ∷ ts) s ≡ Ok new) its made))
@@ -432,12 +407,12 @@ drop_lists (a ∷ acts) s reached p others gone q so are =
     let next = reached-more (a.first ∷ a.steps) s a.left reached it.made in
     let there = acts_there s a.party a.first it.its k.0 in
     let now = subst (λ e. StandsDropping e q) (taken_over s p a.party others it.others (p == a.party) refl) so in
-    let one = one_act s reached a.party there gone q a.left now a.first a.steps it.its are.1 it.rests it.made in (
+    let one = one_act s reached a.party there gone q a.left now a.first a.steps it.its it.rests it.made in (
       one.0,
       one.1,
       one.2,
       drop_lists acts a.left next a.party (goes_rest a.steps (after s a.first) a.left a.party it.rests k.1
-          (still-rest a.party s a.first it.its it.others)) (still_gone (a.first ∷ a.steps) s a.left reached it.made gone) one.0 one.2 are.2,
+          (still-rest a.party s a.first it.its it.others)) (still_gone (a.first ∷ a.steps) s a.left reached it.made gone) one.0 one.2 are.1,
     )
 
 pub drop_acts_so : (s : Machine) → Reached s → (q : Plain Output Waker) → IsQuiet s.world.trace → Follows s.world q → DropActsAlike s q

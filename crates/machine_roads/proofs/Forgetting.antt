@@ -22,9 +22,9 @@ use Rattle.executor_model.specs.Acts as acts
 use Rattle.executor_model.specs.Carried.{owed_ops}
 use Rattle.executor_model.specs.World.{World, Done, done, among, awaiter_of, blank, log, put_awaiter, without}
 use Rattle.executor_model.specs.World as world
-use Rattle.plain_scheduler.specs.State.{Choice, Closed, Code, Drop, Drops as DropsFuture, Future, Lose, Loses, Plain, Poll, Taker}
-use Rattle.plain_scheduler.specs.Lists.{on, or}
-use Rattle.plain_scheduler.specs.Moves.{called, enters, let_go, put, release, see, task, tell}
+use Rattle.plain_scheduler.specs.State.{Choice, Closed, Code, Drop, Drops as DropsFuture, Future, Plain, Poll, Taker}
+use Rattle.plain_scheduler.specs.Lists.{on}
+use Rattle.plain_scheduler.specs.Moves.{let_go, put, release, see, task, tell}
 use Rattle.plain_scheduler.specs.Takes as plain_takes
 use Rattle.plain_scheduler.specs.Calls as plain_calls
 use Rattle.plain_scheduler.specs.Calls.{does, Ends, Pends}

@@ -1,6 +1,6 @@
 -- A run that has taken 200 lets others go first: it calls its own waker, which stays, and its poll ends.
 use Rattle.std.proofs.Common.{◌≡◌, ℕ, zero, suc, ◌≤◌, ◌++◌, ◌==◌, nat_lt, true, List, [], ◌∷◌, length, map, Option, Some, None}
-use Rattle.std.proofs.Common.{slice_get, slice_set, if◌then◌else◌, append_assoc, refl, sym, ap, subst, ◌∙◌, arith}
+use Rattle.std.proofs.Common.{slice_get, if◌then◌else◌, append_assoc, refl, sym, ap, subst, ◌∙◌, arith}
 use Rattle.task_moves.specs.declared.moves.owed.Move.TheVariants as move
 use Rattle.task_moves.specs.AbstractTask as abstract
 use Rattle.executor_model.specs.declared.call.Reply.TheVariants as reply

@@ -25,10 +25,11 @@ use Rattle.machine_roads.specs.View.{Output, wakes}
 use Rattle.machine_roads.specs.Road.{Follows, waking_in}
 use Rattle.machine_roads.specs.Alone.{alone, is_resting, HasAll}
 use Rattle.machine_roads.specs.Alike.{begins, refuses_first, refuses_second, upon}
-use Rattle.machine_roads.specs.Losing.{IsLosing, StopsLosing, left_of, without_handle}
+use Rattle.machine_roads.specs.Losing.{IsLosing, StopsLosing, left_of, lost, without_handle}
 use Rattle.machine_roads.specs.Lone.{EachLoneAlike, waits_for}
 use Rattle.machine_roads.specs.Course.{IsCall, cancel, copy, detach, drop_handle, poll_handle, release, use_waker, wake}
-use Rattle.machine_roads.specs.Closing.{CallsInDrop, ComesOn, DropGoesOn, IsInDrop, IsLosingInDrop, LoneDropRests, LosesInDrop}
+use Rattle.machine_roads.specs.Closing.{CallsInDrop, ComesOn, DropGoesOn, IsInDropBelow, IsLosingInDropBelow, LoneDropRests, LosesInDrop}
+use Rattle.machine_roads.specs.InLoss.{handle_in}
 use Rattle.machine_roads.specs.Closing.{LossEndsInDrop}
 use Rattle.machine_roads.specs.Closing.{called, loses}
 use Rattle.machine_roads.proofs.Beside.{Along, along, calls_beside, rest_goes, go_append}
@@ -115,30 +116,35 @@ module _ (p : ℕ) (below : List Op) (under : is_resting below ≡ true) (w : Wo
       (d.refusal, e.0, e.1)
   call_so c x off is stays hints has rests = absurd cc
 
+  pub lose_of : (c : Call) (x : plain.Call Output Waker) → is_on_executor c ≡ false → IsCall w c x → loses x q ≡ true → (hints : List Hint)
+      → HasAll p hints (upon below (begins p None c v)) → is_resting (called p hints below c v).next ≡ true
+      → (f : ℕ) × (handle_in c ≡ Some f) × StopsLosing f below q (called p hints below c v) (does wakes d x q)
+  lose_of c x off (detach f) some hints has rests =
+      (f, refl, detaches_to_lose p None below v q under follows d f some hints has rests)
+  lose_of c x off (drop_handle f) some hints has rests =
+      (f, refl, goes_to_lose p None below v q under follows d f some hints has rests)
+  lose_of c x off is some hints has rests = absurd cc
+
   pub lose_so : (c : Call) (x : plain.Call Output Waker) → is_on_executor c ≡ false → IsCall w c x → loses x q ≡ true → (hints : List Hint)
       → HasAll p hints (upon below (begins p None c v)) → is_resting (called p hints below c v).next ≡ true
       → (f : ℕ) × StopsLosing f below q (called p hints below c v) (does wakes d x q)
-  lose_so c x off (detach f) some hints has rests =
-      (f, detaches_to_lose p None below v q under follows d f some hints has rests)
-  lose_so c x off (drop_handle f) some hints has rests =
-      (f, goes_to_lose p None below v q under follows d f some hints has rests)
-  lose_so c x off is some hints has rests = absurd cc
+  lose_so c x off is some hints has rests = let so = lose_of c x off is some hints has rests in (so.0, so.2)
 
-module _ (fs all : List ℕ) (codes : List (Code Output Waker)) where
+module _ (over : List (Code Output Waker)) (fs all : List ℕ) (codes : List (Code Output Waker)) where
   abbrev Among : ℕ → Bool
   Among f = among f all
 
   abbrev Only : World → Type 0
   Only w = OnlyWait Among fs fs [] w
 
-  only_in : (w : World) (q : Plain Output Waker) → IsInDrop w fs all codes q → Only w
+  only_in : (w : World) (q : Plain Output Waker) → IsInDropBelow over w fs all codes q → Only w
   only_in w q is f at waits = is.waiting f (ap waits_for (is.follows.tasks f at) ∙ waits)
 
   -- both stand in the drop still
-  after_call : (w v : World) (q z : Plain Output Waker) → IsInDrop w fs all codes q → v.table ≡ w.table → v.leaving ≡ w.leaving
+  after_call : (w v : World) (q z : Plain Output Waker) → IsInDropBelow over w fs all codes q → v.table ≡ w.table → v.leaving ≡ w.leaving
       → v.own ≡ w.own → ((m : Mark) → (queue_of v m).closed ≡ (queue_of w m).closed) → v.sleepers.count ≡ w.sleepers.count
       → Only v → z.inside ≡ q.inside → Follows (record v { table = fs; leaving = w.leaving; own = w.own }) z
-      → IsInDrop v fs all codes z
+      → IsInDropBelow over v fs all codes z
   after_call w v q z is table leaving own shut count only inside road = record {
     table = table ∙ is.table;
     leaving = leaving ∙ is.leaving;
@@ -165,7 +171,7 @@ module _ (fs all : List ℕ) (codes : List (Code Output Waker)) where
       by f waits (Past above) = absurd (clash (none_past (record v { table = fs }) z follows f (omega (arith, above))) waits)
 
   module _ (p : ℕ) (below : List Op) (under : is_resting below ≡ true) (w : World) (q : Plain Output Waker)
-      (is : IsInDrop w fs all codes q) (d : Choice) (hints : List Hint) where
+      (is : IsInDropBelow over w fs all codes q) (d : Choice) (hints : List Hint) where
     few : length q.lying ≤ d.tells
     few = subst (λ ls. length ls ≤ d.tells) (sym is.nobody) (least d.tells)
 
@@ -187,8 +193,8 @@ module _ (fs all : List ℕ) (codes : List (Code Output Waker)) where
       rests_there : is_resting (called p hints below c (record w { table = fs })).next ≡ true
       rests_there = ap (λ (e : Done). is_resting e.next) same ∙ rests
 
-      call_in : loses x q ≡ false
-          → (r : Refusal) × (e.next ≡ below) × IsInDrop e.world fs all codes (does wakes (record d { refusal = r }) x q)
+      pub call_in : loses x q ≡ false
+          → (r : Refusal) × (e.next ≡ below) × IsInDropBelow over e.world fs all codes (does wakes (record d { refusal = r }) x q)
       call_in stays =
           let road = call_so p below under w fs q is.follows d few c x off made stays hints there.has rests_there in
           let z : Plain Output Waker = does wakes (record d { refusal = road.0 }) x q in (
@@ -200,18 +206,19 @@ module _ (fs all : List ℕ) (codes : List (Code Output Waker)) where
                 (subst (λ (e : Done). Follows e.world z) same road.2),
           )
 
-      lose_in : loses x q ≡ true
-          → (f : ℕ) × (e.next ≡ op.User (user_op.DropOutput f) ∷ (left_of f ++ below))
+      pub lose_in : loses x q ≡ true
+          → (f : ℕ) × (handle_in c ≡ Some f) × (e.next ≡ op.User (user_op.DropOutput f) ∷ (left_of f ++ below))
           × ((does wakes d x q).inside ≡ Lose None None ∷ q.inside)
-          × IsLosingInDrop e.world f fs all codes (record (does wakes d x q) { inside = q.inside })
+          × IsLosingInDropBelow over e.world f fs all codes (record (does wakes d x q) { inside = q.inside })
       lose_in some =
-          let road = lose_so p below under w fs q is.follows d few c x off made some hints there.has rests_there in
+          let road = lose_of p below under w fs q is.follows d few c x off made some hints there.has rests_there in
           let f : ℕ = road.0 in
           let z : Plain Output Waker = does wakes d x q in
           let stops : StopsLosing f below q (beside_done Among fs w.leaving w.own e) z =
-          subst (λ (e : Done). StopsLosing f below q e z) same road.1 in
+          subst (λ (e : Done). StopsLosing f below q e z) same road.2 in
           let y : Plain Output Waker = record z { inside = q.inside } in (
             f,
+            road.1,
             stops.left,
             stops.inside,
             record {
@@ -230,16 +237,16 @@ module _ (fs all : List ℕ) (codes : List (Code Output Waker)) where
 
 pub calls_in_drop : CallsInDrop
 calls_in_drop p below w fs all codes q c x d hints under is off made stays has rests =
-    call_in fs all codes p below under w q is d hints c x off made has rests stays
+    call_in [] fs all codes p below under w q is d hints c x off made has rests stays
 
 pub loses_in_drop : LosesInDrop
 loses_in_drop p below w fs all codes q c x d hints under is off made some has rests =
-    lose_in fs all codes p below under w q is d hints c x off made has rests some
+    let so = lose_in [] fs all codes p below under w q is d hints c x off made has rests some in (so.0, so.2, so.3, so.4)
 
 -- the drop of the output ends
-only_back : (fs all : List ℕ) (codes : List (Code Output Waker)) (f : ℕ) (w : World) → f < length w.tasks
-    → Only fs all codes (without_handle f w) → Only fs all codes w
-only_back fs all codes f w known only g at waits = by (f == g) refl
+only_back : (over : List (Code Output Waker)) (fs all : List ℕ) (codes : List (Code Output Waker)) (f : ℕ) (w : World) → f < length w.tasks
+    → Only over fs all codes (without_handle f w) → Only over fs all codes w
+only_back over fs all codes f w known only g at waits = by (f == g) refl
   where
     s : State
     s = record (world.task w f) { handle = false }
@@ -254,28 +261,38 @@ only_back fs all codes f w known only g at waits = by (f == g) refl
     by false apart =
         still g at (ap waits_in (get_or-set_other w.tasks f g s blank (λ same. apart_of f g apart (sym same))) ∙ waits)
 
-pub loss_ends_in_drop : LossEndsInDrop
-loss_ends_in_drop p f below w fs all codes q d hints under is has rests =
+pub loss_ends_below : (over : List (Code Output Waker)) (p f : ℕ) (below : List Op) (w : World) (fs all : List ℕ)
+    (codes : List (Code Output Waker)) (q : Plain Output Waker) (d : Choice) (hints : List Hint) → is_resting below ≡ true
+    → IsLosingInDropBelow over w f fs all codes q → HasAll p hints (upon below (lost p f w))
+    → is_resting (alone p hints (upon below (lost p f w))).next ≡ true
+    → ((alone p hints (upon below (lost p f w))).next ≡ below)
+    × IsInDropBelow over (alone p hints (upon below (lost p f w))).world fs all codes
+    (does wakes d Ends (record q { inside = Lose None None ∷ q.inside }))
+loss_ends_below over p f below w fs all codes q d hints under is has rests =
     let w1 = without_handle f w in
     let os = left_of f ++ below in
     let v : World = record w { table = fs } in
-    let only = only_back fs all codes f w is.known (only_in fs all codes w1 q is.left) in
+    let only = only_back over fs all codes f w is.known (only_in over fs all codes w1 q is.left) in
     let goes = go_append (left_of f) below refl (rest_goes below under) in
-    let there : Along (Among fs all codes) fs w.leaving w.own p hints w (done v os) (done w os) =
-    along (Among fs all codes) fs w.leaving w.own p hints w os only goes has in
+    let there : Along (Among over fs all codes) fs w.leaving w.own p hints w (done v os) (done w os) =
+    along (Among over fs all codes) fs w.leaving w.own p hints w os only goes has in
     let e : Done = alone p hints (done w os) in
-    let kept_so : e ≡ beside_done (Among fs all codes) w.table w.leaving w.own e =
-    (along (Among fs all codes) w.table w.leaving w.own p hints w os only goes has).same in
+    let kept_so : e ≡ beside_done (Among over fs all codes) w.table w.leaving w.own e =
+    (along (Among over fs all codes) w.table w.leaving w.own p hints w os only goes has).same in
     let losing : IsLosing v f q = record { known = is.known; closed = is.closed; follows = is.left.follows } in
     let y : Plain Output Waker = record q { inside = Lose None None ∷ q.inside } in
     let z : Plain Output Waker = does wakes d Ends y in
     let road =
     loses_alike p f below v q d under losing hints tt there.has (ap (λ (e : Done). is_resting e.next) there.same ∙ rests) in (
       sym (ap (λ (e : Done). e.next) there.same) ∙ road.0,
-      after_call fs all codes w1 e.world q z is.left (ap (λ (e : Done). e.world.table) kept_so)
+      after_call over fs all codes w1 e.world q z is.left (ap (λ (e : Done). e.world.table) kept_so)
           (ap (λ (e : Done). e.world.leaving) kept_so) (ap (λ (e : Done). e.world.own) kept_so) there.shut there.count there.only
           (ends_inside d y q.inside refl) (subst (λ (e : Done). Follows e.world z) there.same road.1),
     )
+
+pub loss_ends_in_drop : LossEndsInDrop
+loss_ends_in_drop p f below w fs all codes q d hints under is has rests =
+    loss_ends_below [] p f below w fs all codes q d hints under is has rests
 
 -- it has come on so
 pub comes_on : (d : Choice) (all : List ℕ) (codes : List (Code Output Waker)) (fs : List ℕ) (q : Plain Output Waker) (e : Done)

@@ -90,7 +90,15 @@ pub mod Open
 pub mod OneCall
 pub mod CourseBehind
 pub mod InDrop
+pub mod Along
+pub mod Handless
+pub mod HandlessActs
+pub mod InLoss
 pub mod OpenCalls
+pub mod Named
+pub mod LossInDrop
+pub mod DropPlaces
+pub mod LaterAnew
 pub mod DropActs
 pub mod FewTaken
 pub mod FewAfter
@@ -99,6 +107,8 @@ pub mod InHand
 pub mod Walked
 pub mod Inmost
 pub mod ActBegins
+pub mod RunsAlone
+pub mod ActLosses
 pub mod ActEnds
 pub mod Acts
 pub mod OwnPolls

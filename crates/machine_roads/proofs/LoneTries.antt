@@ -25,7 +25,7 @@ use Rattle.executor_model.specs.World as world
 use Rattle.executor_model.proofs.Steps.Reached.{Reached, reached-more, run-first}
 use Rattle.plain_scheduler.specs.State.{Choice, Closed, Code, Drop, End, Future, Lose, Plain, Poll, Refusal, Taker, Tick, Try}
 use Rattle.plain_scheduler.specs.Lists.{on}
-use Rattle.plain_scheduler.specs.Moves.{called, task as plain_task, tell}
+use Rattle.plain_scheduler.specs.Moves.{task as plain_task}
 use Rattle.plain_scheduler.specs.Calls as plain_calls
 use Rattle.plain_scheduler.specs.Calls.{does, Ends, EndsWith, Pends, PollTick, TryTick}
 use Rattle.machine_roads.specs.View.{Output, wakes}
@@ -354,9 +354,12 @@ ticks_end_so s reached q quiet follows p t c b steps first room new later lone =
     let rested =
     told_rests p new S
     (lone_calls_rest s reached p (call.PollTick t b) steps new (λ e. (r : Refusal) × S r e) quiet later
-    (λ hints all rests. polls_tick_so p None [] s.world q refl follows c t b first room
+    (λ hints all rests.
+    let so =
+    polls_tick_so p None [] s.world q refl follows c t b first room
     (can_poll s reached p t b (may_begin s p (call.PollTick t b) (run-first (Begin p (call.PollTick t b)) steps s new lone.made).0))
-    hints all rests) lone) in
+    hints all rests in
+    (so.0, so.1)) lone) in
     let r = rested.0 in
     let end =
     from_take p new later (reached-more (Begin p (call.PollTick t b) ∷ steps) s new reached lone.made) lone.ended c q.inside (Tick t a)

@@ -21,7 +21,7 @@ use Rattle.executor_model.specs.declared.step.Hint.{Hint}
 use Rattle.executor_model.specs.Acts.{turned}
 use Rattle.executor_model.specs.Steps.{waker_of}
 use Rattle.executor_model.specs.World.{Done, World, done, log}
-use Rattle.plain_scheduler.specs.State.{ATick, Choice, Due, Plain, Refusal, Tick}
+use Rattle.plain_scheduler.specs.State.{ATick, Choice, Due, Later, Plain, Refusal, Tick}
 use Rattle.plain_scheduler.specs.Lists.{any}
 use Rattle.plain_scheduler.specs.Moves.{is_common}
 use Rattle.plain_scheduler.specs.Takes as plain_takes
@@ -30,12 +30,13 @@ use Rattle.machine_roads.specs.View.{Output, wakes}
 use Rattle.machine_roads.specs.Road.{Follows}
 use Rattle.machine_roads.specs.Alone.{alone, is_resting, HasAll}
 use Rattle.machine_roads.specs.Ticking.{CanPoll, TickIsPolledAlike, polling}
+use Rattle.machine_roads.specs.Refused.{OneMoreLies}
 use Rattle.machine_roads.proofs.Bedding.{Goes, Idles, lies_down_so}
 use Rattle.machine_roads.proofs.Changing.{logs}
 use Rattle.machine_roads.proofs.Copying.{copied_can}
 use Rattle.machine_roads.proofs.Standing.{Answered, Behind, Stands, StandsSo, stops_so}
 use Rattle.machine_roads.proofs.Stepping.{Way, next}
-use Rattle.machine_roads.proofs.TickPolls.{Comes, searches, searches_none, sleepy}
+use Rattle.machine_roads.proofs.TickPolls.{Comes, ComesTo, searches, searches_none, sleepy}
 use Rattle.machine_roads.proofs.Unseen.{turns}
 
 module _ (p : ℕ) (below : List Op) (under : is_resting below ≡ true) (end : Done) (rests : is_resting end.next ≡ true) (c : Choice)
@@ -77,13 +78,13 @@ module _ (p : ℕ) (below : List Op) (under : is_resting below ≡ true) (end : 
 
   lies_down : (w : World) (q : Plain Output Waker) → Follows w q → length q.lying < c.tells → CanPoll w t → IsQuiet q.due
       → Way p end w (op.Tick (tick_op.CopyWaker s) ∷ below)
-      → (r : Refusal) × Comes p below under end rests c t a q (plain_takes.rests wakes c r (ATick t) a q)
+      → ComesTo p below under end rests c t a q (λ r. plain_takes.rests wakes c r (ATick t) a q)
   lies_down w q follows room can quiet way =
       let still = copied_can a w t can in
       let g =
       lies_down_so p below under end rests c it a k IsQuiet finds_none w q follows room
       (λ none. record { living = still.living; roomed = still.roomed }) quiet way in
-      (g.0, comes q (plain_takes.rests wakes c g.0 (ATick t) a q) g.1)
+      (g.0, comes q (plain_takes.rests wakes c g.0 (ATick t) a q) g.1, g.2)
 
 pub polls_tick_so : (p : ℕ) (here : Option Waker) (below : List Op) (w : World) (q : Plain Output Waker) → is_resting below ≡ true
     → Follows w q → (c : Choice) (t : ℕ) (b : By) → c.first ≡ first_of w.urgent_turns → length q.lying < c.tells → CanPoll w t
@@ -91,6 +92,7 @@ pub polls_tick_so : (p : ℕ) (here : Option Waker) (below : List Op) (w : World
     → is_resting (alone p hints (polling p here below w q t b)).next ≡ true
     → (r : Refusal) × StandsSo (Tick t (waker_of here b)) (op.End reply.Ready (hold.Tick t)) below q
     (alone p hints (polling p here below w q t b)) (does wakes (record c { refusal = r }) (PollTick t (waker_of here b)) q)
+    × (r ≡ Later → OneMoreLies q (does wakes (record c { refusal = r }) (PollTick t (waker_of here b)) q))
 polls_tick_so p here below w q under follows c t b first room can hints has rests =
     let a = waker_of here b in
     let begun = event.CallBegun p (call.PollTick t b) in

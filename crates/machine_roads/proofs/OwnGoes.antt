@@ -1,7 +1,7 @@
 -- A drop of a run, made where a party does nothing or stands in user code: it is answered where the run is over, or comes to the drop of
 -- the run's own future. And the end of that.
-use Rattle.std.proofs.Common.{◌≡◌, ℕ, ◌≤◌, ◌++◌, ◌||◌, Bool, true, false, List, ◌∷◌, length, Option, if◌then◌else◌}
-use Rattle.std.proofs.Common.{get_or-set_same, slice_set, map, refl, sym, ap, subst, ◌∙◌}
+use Rattle.std.proofs.Common.{◌≡◌, ℕ, zero, suc, ◌≤◌, ◌++◌, ◌||◌, Bool, true, false, List, [], ◌∷◌, length, Option, if◌then◌else◌}
+use Rattle.std.proofs.Common.{slice_set, map, refl, sym, ap, subst, ◌∙◌}
 use Rattle.executor_model.specs.declared.call.Call.TheVariants as call
 use Rattle.executor_model.specs.declared.call.Reply.TheVariants as reply
 use Rattle.executor_model.specs.declared.event.Event.TheVariants as event
@@ -17,7 +17,7 @@ use Rattle.executor_model.specs.declared.op.Waker.{Waker}
 use Rattle.executor_model.specs.declared.step.Hint.{Hint}
 use Rattle.executor_model.specs.SleepersAgree.{sleeps}
 use Rattle.executor_model.specs.Steps.{drop_run}
-use Rattle.executor_model.specs.World.{Done, Ended as RunEnded, Listed, New, Run, Stage, World, done, log, no_run, put_run, run_of}
+use Rattle.executor_model.specs.World.{Done, Ended as RunEnded, Listed, New, Run, Stage, World, done, log, put_run, run_of}
 use Rattle.plain_scheduler.specs.State.{ARun, Choice, Done as DoneAnswer, DropOwn, Plain, Running}
 use Rattle.plain_scheduler.specs.Lists.{on}
 use Rattle.plain_scheduler.specs.Moves.{answers, enters, is_called, leaves, lies, tell, up}
@@ -35,7 +35,7 @@ use Rattle.machine_roads.proofs.Lain.{none_found}
 use Rattle.machine_roads.proofs.Leaving.{leaves_on}
 use Rattle.machine_roads.proofs.LonePolls.{or_ended}
 use Rattle.machine_roads.proofs.Numbers.{lies_so, nobody, put_view}
-use Rattle.machine_roads.proofs.Runs.{changed, ended_run, made, over_alike, over_is, runs_is, same_place}
+use Rattle.machine_roads.proofs.Runs.{changed, changed_rest, ended_run, over_alike, over_is, runs_is, same_place}
 use Rattle.machine_roads.proofs.RunsGone.{goes, left_by, left_inside, left_is, unlists}
 use Rattle.machine_roads.proofs.Stepping.{Way}
 use Rattle.machine_roads.proofs.Trying.{stops_at}
@@ -72,7 +72,7 @@ module _ (p : ℕ) (here : Option Waker) (below : List Op) (under : is_resting b
   -- where it comes to
   pub data Drops (e : Done) : Type 0 where
     at_once : e.next ≡ below → z.inside ≡ q.inside → z.runs ≡ q.runs → Follows e.world z → Drops e
-    in_drop : over_in r q.runs ≡ false → z.runs ≡ q.runs → StopsGoing r below q e z → Drops e
+    in_drop : over_in r q.runs ≡ false → z.runs ≡ q.runs → StopsGoing r [] below q.inside e z → Drops e
 
   result : (o : Bool) → (its.dropped || is_ended its.stage) ≡ o
       → (if o then answers DoneAnswer q else enters (DropOwn r DoneAnswer) q) ≡ z
@@ -98,12 +98,13 @@ module _ (p : ℕ) (here : Option Waker) (below : List Op) (under : is_resting b
           leaving = leaving;
           left = ap (λ (d : Done). d.next) (sym at);
           inside = ap (λ (y : Plain Output Waker). y.inside) (sym same);
-          dropped = subst (λ (d : Done). (run_of d.world r).dropped ≡ true) at
-              (ap (λ (x : Run). x.dropped) (get_or-set_same w.runs r dropping no_run (made w.runs r unended)));
-          follows =
-              subst (λ y. Follows e.world (moves.runs ended_run r y)) same
-              (subst (λ (d : Done). Follows d.world (moves.runs ended_run r (enters (DropOwn r DoneAnswer) q))) at
-              (subst (Follows w0) (sym (runs_is ended_run r (enters (DropOwn r DoneAnswer) q))) there));
+          losing = record {
+            shut = tt;
+            follows =
+                subst (λ y. Follows e.world (moves.runs ended_run r y)) same
+                (subst (λ (d : Done). Follows d.world (moves.runs ended_run r (enters (DropOwn r DoneAnswer) q))) at
+                (subst (Follows w0) (sym (runs_is ended_run r (enters (DropOwn r DoneAnswer) q))) there));
+          };
         })
 
     by_stage : (st : Stage) → its.stage ≡ st → Way p e w0 (drop_run st r ++ below) → Drops e
@@ -136,15 +137,21 @@ module _ (p : ℕ) (here : Option Waker) (below : List Op) (under : is_resting b
       by_stage (alone p hints (upon below (begins p here (call.DropRun r) w))) rests its.stage refl
       (record { hints = hints; has = all; is = refl })
 
+-- one that was ended is over
+ended_over : (rs : List Running) (r : ℕ) → over_in r (changed ended_run r rs) ≡ true
+ended_over [] r = refl
+ended_over (x ∷ xs) zero = refl
+ended_over (x ∷ xs) (suc r) = ap (over_in (suc r)) (changed_rest ended_run x xs r) ∙ ended_over xs r
+
 -- the drop of its own future ends, and it goes
 pub own_went : (p : ℕ) (below : List Op) → is_resting below ≡ true → (w : World) (q : Plain Output Waker) (r : ℕ) (rest : Op)
-    → IsLeaving r rest → (run_of w r).dropped ≡ true → Follows w (record q { runs = changed ended_run r q.runs }) → (c : Choice)
+    → IsLeaving r rest → Follows w (record q { runs = changed ended_run r q.runs }) → (c : Choice)
     → length q.lying ≤ c.tells → (hints : List Hint) → HasAll p hints (done w (rest ∷ below))
     → is_resting (alone p hints (done w (rest ∷ below))).next ≡ true
     → ((alone p hints (done w (rest ∷ below))).next ≡ below)
     × Follows (alone p hints (done w (rest ∷ below))).world (answers DoneAnswer (gone wakes c r q))
     × ((answers DoneAnswer (gone wakes c r q)).inside ≡ q.inside)
-own_went p below under w q r rest leaving dropped follows c many hints all rests = by rest leaving all rests
+own_went p below under w q r rest leaving follows c many hints all rests = by rest leaving all rests
   where
     q1 : Plain Output Waker
     q1 = record q { runs = changed ended_run r q.runs }
@@ -164,8 +171,8 @@ own_went p below under w q r rest leaving dropped follows c many hints all rests
     viewed : map run_view (slice_set w.runs r parted) ≡ map counted_anew q1.runs
     viewed =
         put_view w.runs r parted
-        (ap (λ b. record (run_view (run_of w r)) { is_over = b || true }) dropped
-        ∙ sym (ap (λ b. record (run_view (run_of w r)) { is_over = b || is_ended (run_of w r).stage }) dropped))
+        (ap (λ b. record (run_view (run_of w r)) { is_over = b })
+        (or_ended (run_of w r).dropped ∙ (sym (ended_over q.runs r) ∙ over_is w.runs q1.runs follows.runs r)))
         ∙ follows.runs
 
     by : (rest : Op) → IsLeaving r rest → HasAll p hints (done w (rest ∷ below))

@@ -46,7 +46,7 @@ use Rattle.machine_roads.proofs.Puts.{put_by}
 use Rattle.machine_roads.proofs.Runs.{changed, counted_alike, counted_last, one_more, runs_is, same_place}
 use Rattle.machine_roads.proofs.Standing.{Stands, StandsSo}
 use Rattle.machine_roads.proofs.Stealing.{steals}
-use Rattle.machine_roads.proofs.Stepping.{Way, next}
+use Rattle.machine_roads.proofs.Stepping.{Way}
 use Rattle.machine_roads.proofs.Trying.{runs}
 use Rattle.machine_roads.proofs.Unseen.{ran}
 

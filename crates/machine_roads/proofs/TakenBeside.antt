@@ -1,18 +1,17 @@
 -- What a run that takes does to other runs in the plain scheduler: it counts its own, and of what others keep it only takes away.
 use Rattle.std.proofs.Common.{◌≡◌, ℕ, zero, suc, ◌+◌, ◌==◌, nat_lt, Bool, true, false, List, [], ◌∷◌, ◌++◌, cond, map, Option, Some, None}
-use Rattle.std.proofs.Common.{slice_get, slice_set, if◌then◌else◌, refl, sym, ap, subst, ◌∙◌, arith}
+use Rattle.std.proofs.Common.{slice_get, if◌then◌else◌, refl, ap, ◌∙◌, arith}
 use Rattle.std.specs.Prelude.{count_by, filter, find}
 use Rattle.executor_parts.specs.declared.mark.Mark.{Mark}
 use Rattle.task_moves.specs.AbstractTask as abstract
 use Rattle.executor_model.specs.declared.op.Waker.{Waker}
-use Rattle.plain_scheduler.specs.State.{ARun, ATick, Choice, Closed, Due, Plain, Poll, Polls, Refusal, Run, Running, Taker}
+use Rattle.plain_scheduler.specs.State.{ARun, Choice, Closed, Due, Plain, Poll, Polls, Run, Running}
 use Rattle.plain_scheduler.specs.Lists.{each, on, or, repeat, without}
 use Rattle.plain_scheduler.specs.Moves.{chosen, enters, is_common, is_kept, keeps, looks, moved, put, see, task, tell, up}
-use Rattle.plain_scheduler.specs.Moves as plain
 use Rattle.plain_scheduler.specs.Takes as plain_takes
 use Rattle.machine_roads.specs.View.{Output, wakes}
 use Rattle.machine_roads.specs.Road.{futures_in}
-use Rattle.machine_roads.proofs.Aside.{IsAside, rests_keeps, tell_keeps, up_keeps}
+use Rattle.machine_roads.proofs.Aside.{rests_keeps, tell_keeps, up_keeps}
 use Rattle.machine_roads.proofs.Changing.{futures_append}
 use Rattle.machine_roads.proofs.Puts.{put_by}
 use Rattle.machine_roads.proofs.Runs.{changed, changed_rest, one_more, runs_is}

@@ -20,7 +20,7 @@ use Rattle.executor_model.specs.declared.op.Waker.{Waker}
 use Rattle.executor_model.specs.Acts.{turned}
 use Rattle.executor_model.specs.ActsOfSleepers.{found_by, look_tick_by}
 use Rattle.executor_model.specs.World.{Asleep, Awake, Done, Left, Ticker, World, put_queue, queue_of, tick_of}
-use Rattle.plain_scheduler.specs.State.{ATick, Choice, Due, Plain, Refusal, Granted, Tick, Who}
+use Rattle.plain_scheduler.specs.State.{ATick, Choice, Due, Later, Plain, Refusal, Granted, Tick, Who}
 use Rattle.plain_scheduler.specs.Lists.{any, or, without}
 use Rattle.plain_scheduler.specs.Moves.{chosen, commons, is_common, tell, up}
 use Rattle.plain_scheduler.specs.Takes as plain_takes
@@ -28,6 +28,7 @@ use Rattle.plain_scheduler.specs.Calls.{does, PollTick}
 use Rattle.machine_roads.specs.View.{Output, wakes}
 use Rattle.machine_roads.specs.Road.{Follows, futures_in}
 use Rattle.machine_roads.specs.Alone.{is_resting}
+use Rattle.machine_roads.specs.Refused.{OneMoreLies}
 use Rattle.machine_roads.proofs.Aside.{tell_inside}
 use Rattle.machine_roads.proofs.Due.{First, find_never, find_same, nothing, without_same}
 use Rattle.machine_roads.proofs.Exchanging.{loudly}
@@ -135,12 +136,19 @@ module _ (p : ℕ) (below : List Op) (under : is_resting below ≡ true) (end : 
   abbrev pub sleepy : ℕ → Sleeping
   sleepy k = record { waker = a; who = tick_or_run.Tick t; poll = k }
 
+  -- it comes to that, and is refused memory once it lies only where it lies anew
+  abbrev pub ComesTo : Plain Output Waker → (Refusal → Plain Output Waker) → Type 0
+  ComesTo q to = (r : Refusal) × Comes q (to r) × (r ≡ Later → OneMoreLies q (to r))
+
+  not_granted : Granted ≡ Later → ⊥
+  not_granted is = cc
+
   -- a search: it finds one, or nothing without a keeper is due
   pub searches : (k : ℕ) (w : World) (q : Plain Output Waker) → fits q → Follows w q
       → (((m : Mark) → any (is_common m) q.due ≡ false) → Way p end w (op.Tick (tick_op.CopyWaker (sleepy k)) ∷ below)
-      → (r : Refusal) × Comes q (plain_takes.rests wakes c r who a q))
+      → ComesTo q (λ r. plain_takes.rests wakes c r who a q))
       → Way p end w (op.Tick (tick_op.Look (sleepy k) (look.First c.first)) ∷ below)
-      → (r : Refusal) × Comes q (does wakes (refusing r) (PollTick t a) q)
+      → ComesTo q (λ r. does wakes (refusing r) (PollTick t a) q)
   searches k w q fit follows rests_so way =
       by (queue_of w c.first).items refl
       (next p end rests (op.Tick (tick_op.Look (sleepy k) (look.First c.first))) w below refl way).way
@@ -148,11 +156,12 @@ module _ (p : ℕ) (below : List Op) (under : is_resting below ≡ true) (end : 
       second : any (is_common c.first) q.due ≡ false → (xs : List ℕ) → (queue_of w (other c.first)).items ≡ xs
           → Way p end (look_tick_by (tick_of w t) w (look.Second (other c.first)) xs (sleepy k)).world
           ((look_tick_by (tick_of w t) w (look.Second (other c.first)) xs (sleepy k)).next ++ below)
-          → (r : Refusal) × Comes q (does wakes (refusing r) (PollTick t a) q)
+          → ComesTo q (λ r. does wakes (refusing r) (PollTick t a) q)
       second none [] is way =
           let nor = (nothing (is_common (other c.first)) q.due (sym (follows.common (other c.first)) ∙ is)).none in
           let so = rests_so (λ m. both_marks c.first m q.due none nor) way in
-          (so.0, subst (Comes q) (sym (finds_nothing c t a so.0 q none nor)) so.1)
+          let same = sym (finds_nothing c t a so.0 q none nor) in
+          (so.0, subst (Comes q) same so.1, λ is. subst (OneMoreLies q) same (so.2 is))
       second none (f ∷ rest) is way = (
         Granted,
         finds Granted (other c.first) f rest w q fit follows is
@@ -160,12 +169,13 @@ module _ (p : ℕ) (below : List Op) (under : is_resting below ≡ true) (end : 
             ap (λ b. if b then is_common c.first d else (if any (is_common (other c.first)) q.due then is_common (other c.first) d
             else false)) none
             ∙ ap (λ b. if b then is_common (other c.first) d else false) some) way,
+        λ is. absurd (not_granted is),
       )
 
       by : (xs : List ℕ) → (queue_of w c.first).items ≡ xs
           → Way p end (look_tick_by (tick_of w t) w (look.First c.first) xs (sleepy k)).world
           ((look_tick_by (tick_of w t) w (look.First c.first) xs (sleepy k)).next ++ below)
-          → (r : Refusal) × Comes q (does wakes (refusing r) (PollTick t a) q)
+          → ComesTo q (λ r. does wakes (refusing r) (PollTick t a) q)
       by [] is way =
           let none = (nothing (is_common c.first) q.due (sym (follows.common c.first) ∙ is)).none in
           let s = next p end rests (op.Tick (tick_op.Look (sleepy k) (look.Second (other c.first)))) w below refl way in
@@ -176,6 +186,7 @@ module _ (p : ℕ) (below : List Op) (under : is_resting below ≡ true) (end : 
             (λ d some. ap
             (λ b. if b then is_common c.first d else (if any (is_common (other c.first)) q.due then is_common (other c.first) d
             else false)) some) way,
+        λ is. absurd (not_granted is),
       )
 
   -- and a search where nothing is due

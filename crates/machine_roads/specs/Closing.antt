@@ -29,12 +29,14 @@ use Rattle.machine_roads.specs.Lone.{NoneWaits, RestsFirst, waits_for}
 use Rattle.machine_roads.specs.Course.{IsCall}
 
 -- of all those that the executor's drop has taken out these are still to be dropped, and the plain scheduler stands in the drop of the one
--- before. Both stand alike but for the table; nobody lies, the queues are open, and who waits for a wake was taken out
-pub record IsInDrop (w : World) (fs all : List ℕ) (codes : List (Code Output Waker)) (q : Plain Output Waker) : Type 0 where
+-- before, and in more code inside of that. Both stand alike but for the table; nobody lies, the queues are open, and who waits for a wake
+-- was taken out
+pub record IsInDropBelow (over : List (Code Output Waker)) (w : World) (fs all : List ℕ) (codes : List (Code Output Waker))
+    (q : Plain Output Waker) : Type 0 where
   pub table : w.table ≡ []
   pub leaving : w.leaving ≡ fs
   pub parts : all ≡ w.waking ++ fs
-  pub inside : q.inside ≡ Close fs all ∷ codes
+  pub inside : q.inside ≡ over ++ Close fs all ∷ codes
   pub nowhere : waking_in codes ≡ []
   pub follows : Follows (record w { table = fs }) q
   pub nobody : q.lying ≡ []
@@ -42,12 +44,19 @@ pub record IsInDrop (w : World) (fs all : List ℕ) (codes : List (Code Output W
   pub unkept : (r : ℕ) → own_of w r ≡ []
   pub waiting : (f : ℕ) → waits_for (plain_moves.task f q) ≡ true → among f all ≡ true
 
+-- and in no other code inside of it
+abbrev pub IsInDrop : World → List ℕ → List ℕ → List (Code Output Waker) → Plain Output Waker → Type 0
+IsInDrop w fs all codes q = IsInDropBelow [] w fs all codes q
+
 -- so too in the drop of an output that goes with its handle, but for the handle
-pub record IsLosingInDrop (w : World) (f : ℕ) (fs all : List ℕ) (codes : List (Code Output Waker)) (q : Plain Output Waker)
-    : Type 0 where
+pub record IsLosingInDropBelow (over : List (Code Output Waker)) (w : World) (f : ℕ) (fs all : List ℕ)
+    (codes : List (Code Output Waker)) (q : Plain Output Waker) : Type 0 where
   pub known : f < length w.tasks
   pub closed : (task w f).closed ≡ true
-  pub left : IsInDrop (without_handle f w) fs all codes q
+  pub left : IsInDropBelow over (without_handle f w) fs all codes q
+
+abbrev pub IsLosingInDrop : World → ℕ → List ℕ → List ℕ → List (Code Output Waker) → Plain Output Waker → Type 0
+IsLosingInDrop w f fs all codes q = IsLosingInDropBelow [] w f fs all codes q
 
 -- by this call a handle goes whose output is there
 abbrev pub loses : plain.Call Output Waker → Plain Output Waker → Bool

@@ -1,5 +1,5 @@
 -- Acts from the executor's drop on: calls inside of the drops of futures in it, the ends of these, and calls behind it.
-use Rattle.std.specs.Prelude.{◌≡◌, ℕ, Bool, true, not, List, [], ◌∷◌, ◌++◌, reverse, None}
+use Rattle.std.specs.Prelude.{◌≡◌, ℕ, List, [], ◌∷◌, ◌++◌}
 use Rattle.executor_model.specs.declared.call.Call.TheVariants as call
 use Rattle.executor_model.specs.declared.call.Reply.TheVariants as reply
 use Rattle.executor_model.specs.declared.op.Hold.TheVariants as hold
@@ -7,47 +7,41 @@ use Rattle.executor_model.specs.declared.op.Op.{Op}
 use Rattle.executor_model.specs.declared.op.Op.TheVariants as op
 use Rattle.executor_model.specs.declared.op.UserOp.TheVariants as user_op
 use Rattle.executor_model.specs.declared.op.Waker.{Waker}
-use Rattle.executor_model.specs.declared.step.Step.{Step}
-use Rattle.executor_model.specs.declared.step.Step.TheVariants.{Answer, Begin, Go}
+use Rattle.executor_model.specs.declared.step.Step.TheVariants.{Begin}
 use Rattle.executor_model.specs.Acts.{closing_ops}
 use Rattle.executor_model.specs.declared.kind.Kind.{Kind}
 use Rattle.executor_model.specs.Quiet.{IsQuiet}
-use Rattle.executor_model.specs.Steps.{Machine, is_static_kind, stack, start}
+use Rattle.executor_model.specs.Steps.{Machine, is_static_kind, start}
 use Rattle.executor_model.specs.World.{Done, World}
-use Rattle.plain_scheduler.specs.State.{Choice, Lose, Plain}
+use Rattle.plain_scheduler.specs.State.{Choice, Plain}
 use Rattle.plain_scheduler.specs.Calls as plain
 use Rattle.plain_scheduler.specs.Calls.{does, new}
 use Rattle.machine_roads.specs.View.{Output, wakes}
-use Rattle.machine_roads.specs.Road.{Follows}
-use Rattle.machine_roads.specs.Losing.{StopsLosing, left_of}
+use Rattle.machine_roads.specs.InLoss.{AreShut, StopsInLoss, loss_codes, loss_ops, without_handles}
 use Rattle.machine_roads.specs.Lone.{NoneWaits}
-use Rattle.machine_roads.specs.Closing.{IsInDrop, IsLosingInDrop}
-use Rattle.machine_roads.specs.Within.{Act, ActAlike, ActsBy, AreActs, IsAct, owes, standing}
+use Rattle.machine_roads.specs.Closing.{IsInDropBelow}
+use Rattle.machine_roads.specs.Within.{Act, ActAlike, ActsBy, AreActs, IsAct, standing}
 
 -- what is left to do of the executor's drop behind that of a future
 abbrev pub left_to_close : List ℕ → World → List Op
 left_to_close fs w = closing_ops fs w.waking ++ op.End reply.Done hold.Nothing ∷ []
 
--- a party stands in the drop of a future in the executor's drop, or in that of an output that goes with its handle there; or behind the
--- executor's drop in none, or in such a drop of an output
+-- in the drops of these outputs there, one inside another, both stand so but for the handles that go with them
+pub record AreLosingInDrop (w : World) (gs fs all : List ℕ) (q : Plain Output Waker) : Type 0 where
+  pub shut : AreShut w gs
+  pub left : IsInDropBelow (loss_codes gs []) (without_handles gs w) fs all [] q
+
+-- a party stands in the drop of a future in the executor's drop, or in those of outputs that go with their handles there, one inside
+-- another; or behind the executor's drop in none, or in such drops of outputs
 pub data StandsDropping (e : Done) (q : Plain Output Waker) : Type 0 where
-  drops : (f : ℕ) (fs all : List ℕ) → e.next ≡ op.User (user_op.Drop f) ∷ left_to_close fs e.world → IsInDrop e.world fs all [] q
-      → StandsDropping e q
-  loses_inside : (g f : ℕ) (fs all : List ℕ) (b : Plain Output Waker)
-      → e.next ≡ op.User (user_op.DropOutput g) ∷ (left_of g ++ op.User (user_op.Drop f) ∷ left_to_close fs e.world)
-      → q ≡ record b { inside = Lose None None ∷ b.inside } → IsLosingInDrop e.world g fs all [] b → StandsDropping e q
-  behind : e.next ≡ [] → q.inside ≡ [] → Follows e.world q → NoneWaits q → StandsDropping e q
-  loses_behind : (g : ℕ) (b : Plain Output Waker) → b.inside ≡ [] → NoneWaits q → StopsLosing g [] b e q → StandsDropping e q
+  drops : (gs : List ℕ) (f : ℕ) (fs all : List ℕ) → e.next ≡ loss_ops gs (op.User (user_op.Drop f) ∷ left_to_close fs e.world)
+      → AreLosingInDrop e.world gs fs all q → StandsDropping e q
+  behind : (gs : List ℕ) → NoneWaits q → StopsInLoss gs [] [] e q → StandsDropping e q
 
--- no call begins in the drop of an output
-abbrev pub may_act : List Op → Step → Bool
-may_act os (Begin p c) = not (owes os)
-may_act os (Go p h) = true
-may_act os (Answer p u) = true
-
+-- whatever acts these are
 abbrev pub AreDropActs : Machine → List Act → Type 0
 AreDropActs s [] = Unit {0}
-AreDropActs s (a ∷ acts) = IsAct s a × (may_act (reverse (stack s a.party)) a.first ≡ true) × AreDropActs a.left acts
+AreDropActs s (a ∷ acts) = IsAct s a × AreDropActs a.left acts
 
 abbrev pub DropActAlike : Machine → Plain Output Waker → List Act → Type 0
 DropActAlike s q [] = Unit {0}

@@ -15,5 +15,7 @@ pub mod Lone
 pub mod Behind
 pub mod Course
 pub mod Closing
+pub mod InLoss
+pub mod Refused
 pub mod Within
 pub mod DropActs

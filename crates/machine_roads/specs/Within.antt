@@ -1,7 +1,8 @@
 -- Calls one inside another. A party begins a call, also where it stands in user code, or user code of its ends; then it goes on until
 -- nothing is left to do or it stands in user code once more. Each of these is a call of the plain scheduler, or the end of the code that
 -- is innermost there.
-use Rattle.std.specs.Prelude.{◌≡◌, ℕ, ◌<◌, ◌==◌, Bool, true, false, ◌&&◌, not, List, [], ◌∷◌, length, reverse, Option, Some, None, Ok}
+use Rattle.std.specs.Prelude.{◌≡◌, ℕ, ◌<◌, ◌==◌, Bool, true, false, ◌&&◌, ◌||◌, not, List, [], ◌∷◌, length, reverse, Option, Some, None, Ok}
+use Rattle.task_moves.specs.declared.moves.owed.Move.TheVariants as move
 use Rattle.executor_parts.specs.declared.mark.Mark.{Mark}
 use Rattle.executor_model.specs.declared.call.By.{By}
 use Rattle.executor_model.specs.declared.call.Call.{Call}
@@ -24,8 +25,9 @@ use Rattle.executor_model.specs.declared.step.Step.{Step}
 use Rattle.executor_model.specs.declared.step.Step.TheVariants.{Answer, Begin, Go}
 use Rattle.executor_model.specs.declared.step.UserEnd.TheVariants.{Done as Over, Polled}
 use Rattle.executor_model.specs.Executions.{run_all}
-use Rattle.executor_model.specs.Steps.{Machine, after, future_of, is_static_kind, kept, mine, party_of, stack, start, top, waker_of}
-use Rattle.executor_model.specs.World.{Done, World, done, run_of}
+use Rattle.executor_model.specs.Steps.{Machine, after, future_of, is_on_executor, is_static_kind, kept, mine, party_of, stack, start, top}
+use Rattle.executor_model.specs.Steps.{waker_of}
+use Rattle.executor_model.specs.World.{Done, World, done}
 use Rattle.plain_scheduler.specs.State.{Choice, Code, Done as IsDone, DropOwn, Plain, PollOwn, Ready as IsReady, Run, Taker, Tick, Try}
 use Rattle.plain_scheduler.specs.Moves as moves
 use Rattle.plain_scheduler.specs.Calls as plain
@@ -36,7 +38,8 @@ use Rattle.machine_roads.specs.Alone.{is_outside, is_resting}
 use Rattle.machine_roads.specs.Course.{IsChosen}
 use Rattle.machine_roads.specs.Dropped.{Drops}
 use Rattle.machine_roads.specs.Forgotten.{StopsForgetting}
-use Rattle.machine_roads.specs.Losing.{StopsLosing}
+use Rattle.machine_roads.specs.InLoss.{AreLosing, StopsInLoss, loss_codes, loss_ops}
+use Rattle.machine_roads.specs.Refused.{IsLaterAnew}
 use Rattle.machine_roads.specs.Searching.{goes_on_by}
 use Rattle.machine_roads.specs.Stopped.{Stopped}
 
@@ -87,9 +90,19 @@ abbrev pub may_stand_in : Call → Bool
 may_stand_in call.DropExecutor = false
 may_stand_in _ = true
 
--- no call begins where one owes something
+-- in the drop of an output that goes with its handle, and in that of the own future of a run that goes
+abbrev pub lets_begin : List Op → Bool
+lets_begin (op.User (user_op.DropOutput f) ∷ op.Move move.Detach g ∷ os) = true
+lets_begin (op.User (user_op.DropOwn r) ∷ op.Run o ∷ os) = true
+lets_begin (op.User (user_op.DropOwn r) ∷ op.List (list_op.LockWrite (section.Unregister k reply.Done)) ∷ os) = true
+lets_begin _ = false
+
+-- there calls of wakers and handles begin; where else one owes something no call does
+abbrev pub may_begin_in : List Op → Call → Bool
+may_begin_in os c = not (owes os) || (lets_begin os && not (is_on_executor c))
+
 abbrev pub is_on_way : List Op → Step → Bool
-is_on_way os (Begin p c) = may_stand_in c && not (owes os)
+is_on_way os (Begin p c) = may_stand_in c && may_begin_in os c
 is_on_way os _ = true
 
 -- one act after the other
@@ -139,6 +152,7 @@ pub record ActsBy (s : Machine) (p : ℕ) (t : Step) (q r : Plain Output Waker) 
   pub chosen : IsChosenAt t s.world q choice
   pub is : IsMade s p t made
   pub so : does wakes choice made q ≡ r
+  pub anew : IsLaterAnew choice.refusal made q r
 
 -- how a call that takes goes on behind what it took: a try and a tick's poll are answered, and a run searches on, or after its 200th
 -- calls its own waker
@@ -165,20 +179,23 @@ pub data IsLeaving (r : ℕ) : Op → Type 0 where
   unlisted : IsLeaving r (op.Run (run_op.Reschedule r reply.Done))
   listed : IsLeaving r (op.List (list_op.LockWrite (section.Unregister r reply.Done)))
 
--- its own future is being dropped, and both stand alike but that the plain scheduler's run isn't over yet
-pub record StopsGoing (r : ℕ) (below : List Op) (b : Plain Output Waker) (e : Done) (q : Plain Output Waker) : Type 0 where
+-- its own future is being dropped, and in that outputs, one inside another; both stand alike but that the plain scheduler's run isn't over
+-- yet, and but for the handles that go with these outputs
+pub record StopsGoing (r : ℕ) (fs : List ℕ) (below : List Op) (codes : List (Code Output Waker)) (e : Done) (q : Plain Output Waker)
+    : Type 0 where
   pub rest : Op
   pub leaving : IsLeaving r rest
-  pub left : e.next ≡ op.User (user_op.DropOwn r) ∷ rest ∷ below
-  pub inside : q.inside ≡ DropOwn r IsDone ∷ b.inside
-  pub dropped : (run_of e.world r).dropped ≡ true
-  pub follows : Follows e.world (moves.runs (λ run. record run { is_over = true }) r q)
+  pub left : e.next ≡ loss_ops fs (op.User (user_op.DropOwn r) ∷ rest ∷ below)
+  pub inside : q.inside ≡ loss_codes fs (DropOwn r IsDone ∷ codes)
+  pub losing : AreLosing e.world fs (moves.runs (λ run. record run { is_over = true }) r q)
 
 -- both stand alike, or, in such a drop, alike but for what the call still owes
 pub data StandsAlike (e : Done) (q : Plain Output Waker) : Type 0 where
   alike : Nested e.next q.inside → Follows e.world q → StandsAlike e q
-  losing : (f : ℕ) (below : List Op) (b : Plain Output Waker) → Nested below b.inside → StopsLosing f below b e q → StandsAlike e q
-  going : (r : ℕ) (below : List Op) (b : Plain Output Waker) → Nested below b.inside → StopsGoing r below b e q → StandsAlike e q
+  losing : (f : ℕ) (fs : List ℕ) (below : List Op) (codes : List (Code Output Waker)) → Nested below codes
+      → StopsInLoss (f ∷ fs) below codes e q → StandsAlike e q
+  going : (r : ℕ) (fs : List ℕ) (below : List Op) (codes : List (Code Output Waker)) → Nested below codes
+      → StopsGoing r fs below codes e q → StandsAlike e q
   dropping : (taker : Taker Waker) (final : Op) (below : List Op) (f : ℕ) (b : Plain Output Waker)
       → GoesOnBy taker final → Nested below b.inside → Drops taker final below f b e q → StandsAlike e q
   forgetting : (taker : Taker Waker) (final : Op) (below : List Op) (f : ℕ) (b : Plain Output Waker)

@@ -7,16 +7,17 @@ ghost use Rattle.machine_roads.specs.Within.{ListsActAlike};
 /// From a new machine on, where one party at a time begins calls, also in user code, and user code
 /// ends, each such act is a call of the new plain scheduler, or the end of its innermost code. Wherever
 /// the party rests both stand alike, or, in the drop of an output, of a future that nobody could wake,
-/// or of the own future of a run that goes, alike but for what the call there owes. No call begins in
-/// such a drop, and the executor isn't dropped.
+/// or of the own future of a run that goes, alike but for what the call there owes. In such drops only
+/// calls of wakers and handles begin, where an output goes with its handle, or the own future of a run;
+/// the executor isn't dropped.
 pub fn lists_of_nested_calls_go_alike()
     ensures { ListsActAlike }
 {}
 
 /// From the executor's drop on, too, where a machine at rest stands where the plain scheduler does, in
-/// no code: the calls that are made inside of the drops of futures in it, the ends of these drops and
-/// the calls behind it are calls of the plain scheduler, and the ends of its innermost code. No call
-/// begins in the drop of an output.
+/// no code: the calls that are made inside of the drops of futures in it, and of outputs in these, the
+/// ends of these drops and the calls behind it are calls of the plain scheduler, and the ends of its
+/// innermost code.
 pub fn calls_nested_in_the_executors_drop_go_alike()
     ensures { EachLoneAlike DropActsAlike }
 {}

@@ -15,6 +15,7 @@ ghost use Rattle.machine_roads.specs.Dropped.{DropsAlikeInTake, LosesAlikeInTake
 ghost use Rattle.machine_roads.specs.Forgotten.{ForgetsAlikeInTake, ForgottenGoesAlike};
 ghost use Rattle.machine_roads.specs.GoingOn.{RunDropsAlike, RunForgetsAlike, RunLosesAlike};
 ghost use Rattle.machine_roads.specs.GoingOn.{RunPendsAlike};
+ghost use Rattle.machine_roads.specs.InLoss.{CallsInLoss, InAnyLoss, LosesInLoss, LossEndsInLoss};
 ghost use Rattle.machine_roads.specs.Losing.{DetachesToLose, GoesToLose, LosesAlike};
 ghost use Rattle.machine_roads.specs.Road.{Follows};
 ghost use Rattle.machine_roads.specs.Searching.{RunLiesAlike, RunTakesAlike};
@@ -193,4 +194,14 @@ pub fn calls_in_the_executors_drop_are_calls()
 /// end, behind which no task waits for a wake.
 pub fn the_executors_drop_goes_on_alike()
     ensures { DropGoesOn }
+{}
+
+/// In the drop of an output that goes with its handle, too, and in those of such outputs one inside
+/// another, calls of wakers and of other handles are calls of the plain scheduler: both stand as before,
+/// alike but for the handles that go there; a call ends, or comes to the drop of another output, and
+/// ends from the end of that on.
+pub fn calls_in_an_outputs_drop_are_calls()
+    ensures calls { InAnyLoss CallsInLoss }
+    ensures comes { InAnyLoss LosesInLoss }
+    ensures ends { InAnyLoss LossEndsInLoss }
 {}

@@ -44,13 +44,14 @@ use Rattle.executor_model.specs.declared.op.TickOrRun.TheVariants as tick_or_run
 use Rattle.executor_model.specs.Steps.{waker_of}
 use Rattle.executor_model.proofs.Sleepers.SleepersFollowingExecutions.{agree}
 use Rattle.plain_scheduler.specs.Lists.{any}
-use Rattle.std.specs.Prelude.{not}
-use Rattle.machine_roads.specs.Within.{is_on_way, may_stand_in, owes}
+use Rattle.std.specs.Prelude.{not, ◌||◌, ◌&&◌}
+use Rattle.machine_roads.specs.Within.{is_on_way, lets_begin, may_begin_in, may_stand_in, owes}
 use Rattle.machine_roads.proofs.Changing.{logs}
 use Rattle.machine_roads.proofs.Lists.{clash}
 use Rattle.machine_roads.proofs.LoneRuns.{both_true, not_true}
 use Rattle.machine_roads.proofs.LoneTicks.{can_poll, may_begin}
 use Rattle.machine_roads.specs.Dropped.{answered as drop_answered, loses, rest_of}
+use Rattle.machine_roads.specs.InLoss.{loss_ops}
 use Rattle.machine_roads.specs.Losing.{left_of}
 use Rattle.machine_roads.specs.Stopped.{Stopped, answered, drops, drops_given, drops_polled, polls}
 use Rattle.machine_roads.specs.View.{Output}
@@ -58,13 +59,14 @@ use Rattle.machine_roads.specs.Within as within
 use Rattle.machine_roads.specs.Within.{Act, GoesOnBy, IsAct, IsCallIn, IsLeaving, IsMade, Nested, StandsAlike, rests_after, standing}
 use Rattle.machine_roads.specs.Within.{alike, by_run, by_tick, by_try, dropping, drops_own, forgetting, going, listed, losing, nowhere}
 use Rattle.machine_roads.specs.Within.{polls_own, takes, unlisted}
+use Rattle.machine_roads.proofs.DropPlaces.{loss_rests}
 use Rattle.machine_roads.proofs.Inmost.{rests_in}
 use Rattle.machine_roads.proofs.LoneRuns.{Walks, passed, within as is_within}
 use Rattle.machine_roads.proofs.Tying.{top_of}
 use Rattle.machine_roads.proofs.Walked.{answer_leads_of, begun_leads_of, no_answer}
 use Rattle.two_roads.specs.Acting.{goes_on_in, is_runs, takes_for_run}
-use Rattle.two_roads.specs.Renaming.{is_refusal}
-use Rattle.two_roads.specs.Turns.{ActsTakeTurns, tick_turns, turned, turns_of}
+use Rattle.two_roads.specs.Refusing.{ends_refused}
+use Rattle.two_roads.specs.Turns.{ActsTakeTurns, polls_tick, tick_turns, turned, turns_of}
 use Rattle.two_roads.proofs.Seeking.{alone_still, begins_none, begins_still, due, due_push, due_resting, is_still, mild_seeks, seeks}
 use Rattle.two_roads.proofs.Seeking.{reacts_still, try_turned}
 use Rattle.two_roads.proofs.TickTurns.{polled}
@@ -80,8 +82,9 @@ walks = record {
 -- where both stand alike the party rests
 rests_alike : (e : Done) (q : Plain Output Waker) → StandsAlike e q → is_resting e.next ≡ true
 rests_alike e q (alike nested follows) = rests_in e.next q.inside nested
-rests_alike e q (losing f below b nested stops) = ap (λ os. is_resting os) stops.left
-rests_alike e q (going r below b nested stops) = ap (λ os. is_resting os) stops.left
+rests_alike e q (losing f fs below codes nested stops) = ap (λ os. is_resting os) stops.left
+rests_alike e q (going r fs below codes nested stops) =
+    ap (λ os. is_resting os) stops.left ∙ loss_rests fs (op.User (user_op.DropOwn r) ∷ stops.rest ∷ below) refl
 rests_alike e q (dropping taker final below f b it nested (drop_answered next inside follows)) =
     ap (λ os. is_resting os) next ∙ rests_in below b.inside nested
 rests_alike e q (dropping taker final below f b it nested (loses awaiter next inside ending)) = ap (λ os. is_resting os) next
@@ -91,12 +94,18 @@ owes_going : (r : ℕ) (rest : Op) → IsLeaving r rest → (below : List Op) �
 owes_going r rest unlisted below = refl
 owes_going r rest listed below = refl
 
--- where a call may begin nothing is owed
+-- where a call on the executor may begin nothing is owed
+owes_none : (a b : Bool) → (not a || (b && false)) ≡ true → a ≡ false
+owes_none false b may = refl
+owes_none true true may = absurd cc
+owes_none true false may = absurd cc
+
 follows_here : (e : Done) (q : Plain Output Waker) → StandsAlike e q → owes e.next ≡ false → Follows e.world q
 follows_here e q (alike nested follows) even = follows
-follows_here e q (losing f below b nested stops) even = absurd (clash even (ap (λ os. owes os) stops.left))
-follows_here e q (going r below b nested stops) even =
+follows_here e q (losing f fs below codes nested stops) even = absurd (clash even (ap (λ os. owes os) stops.left))
+follows_here e q (going r [] below codes nested stops) even =
     absurd (clash even (ap (λ os. owes os) stops.left ∙ owes_going r stops.rest stops.leaving below))
+follows_here e q (going r (f ∷ fs) below codes nested stops) even = absurd (clash even (ap (λ os. owes os) stops.left))
 follows_here e q (dropping taker final below f b it nested (drop_answered next inside follows)) even = follows
 follows_here e q (dropping taker final below f b it nested (loses awaiter next inside ending)) even =
     absurd (clash even (ap (λ os. owes os) next))
@@ -191,11 +200,16 @@ leaving_none r o listed = refl
 
 alike_rests : (e : Done) (q : Plain Output Waker) → StandsAlike e q → Rests q.inside e.next
 alike_rests e q (alike nested follows) = nested_rests e.next q.inside nested
-alike_rests e q (losing f below b nested stops) =
-    subst (λ os. Rests q.inside os) (sym stops.left) (behind_lost f below (due_in below b.inside nested) q.inside)
-alike_rests e q (going r below b nested stops) =
+alike_rests e q (losing f fs below codes nested stops) =
     subst (λ os. Rests q.inside os) (sym stops.left)
-    (behind_owns_drop r stops.rest (leaving_none r stops.rest stops.leaving) below (due_in below b.inside nested) q.inside)
+    (behind_lost f (loss_ops fs below) (due_resting (loss_ops fs below) (loss_rests fs below (rests_in below codes nested))) q.inside)
+alike_rests e q (going r [] below codes nested stops) =
+    subst (λ os. Rests q.inside os) (sym stops.left)
+    (behind_owns_drop r stops.rest (leaving_none r stops.rest stops.leaving) below (due_in below codes nested) q.inside)
+alike_rests e q (going r (f ∷ fs) below codes nested stops) =
+    let os = op.User (user_op.DropOwn r) ∷ stops.rest ∷ below in
+    subst (λ os. Rests q.inside os) (sym stops.left)
+    (behind_lost f (loss_ops fs os) (due_resting (loss_ops fs os) (loss_rests fs os refl)) q.inside)
 alike_rests e q (dropping taker final below f b it nested (drop_answered next inside follows)) =
     subst (λ os. Rests q.inside os) (sym next)
     (subst (λ codes. Rests codes below) (sym inside) (nested_rests below b.inside nested))
@@ -209,8 +223,7 @@ alike_rests e q (forgetting taker final below f b it nested stops) =
     (λ codes. Rests codes (op.User (user_op.Drop f) ∷ op.Table (table_op.LeaveTable f) ∷ op.Handle (handle_op.LetGo f) ∷ final ∷ below))
     (sym stops.inside) (behind_drop taker final below it (due_in below b.inside nested) f _ (op.Handle (handle_op.LetGo f)) refl b.inside))
 
-module _ (s : Machine) (reached : Reached s) (p : ℕ) (q : Plain Output Waker) (stands : StandsAlike (standing s p) q) (new : Machine)
-    (unrefused : any is_refusal (heard_in new.world.trace) ≡ false) where
+module _ (s : Machine) (reached : Reached s) (p : ℕ) (q : Plain Output Waker) (stands : StandsAlike (standing s p) q) (new : Machine) where
   abbrev Turns : ℕ → Type 0
   Turns n = new.world.urgent_turns ≡ turned n s.world.urgent_turns
 
@@ -236,8 +249,9 @@ module _ (s : Machine) (reached : Reached s) (p : ℕ) (q : Plain Output Waker) 
 
   -- a tick is polled
   tick_polled : (t : ℕ) (b : By) (ts : List Step) → p < length s.parties → rests_after p ts (after s (Begin p (call.PollTick t b))) ≡ true
-      → run_all (Begin p (call.PollTick t b) ∷ ts) s ≡ Ok new → owes (reverse (stack s p)) ≡ false → Turns (tick_turns t q)
-  tick_polled t b ts there rests made even =
+      → run_all (Begin p (call.PollTick t b) ∷ ts) s ≡ Ok new → owes (reverse (stack s p)) ≡ false
+      → ends_refused (heard_in new.world.trace) ≡ false → Turns (tick_turns t q)
+  tick_polled t b ts there rests made even unrefused =
       let begun_so = event.CallBegun p (call.PollTick t b) in
       let polled_so = event.TickPolled p t in
       let a = waker_of (mine (top (stack s p))) b in
@@ -245,7 +259,7 @@ module _ (s : Machine) (reached : Reached s) (p : ℕ) (q : Plain Output Waker) 
       let follows = follows_here (standing s p) q stands even in
       let can = can_poll s reached p t b (may_begin s p (call.PollTick t b) (run-first (Begin p (call.PollTick t b)) ts s new made).0) in
       begun_leads_of (λ w o. Unit {0}) (λ s. Unit {0}) walks p
-      (λ e. any is_refusal (heard_in e.world.trace) ≡ false → e.world.urgent_turns ≡ turned (tick_turns t q) s.world.urgent_turns) new tt
+      (λ e. ends_refused (heard_in e.world.trace) ≡ false → e.world.urgent_turns ≡ turned (tick_turns t q) s.world.urgent_turns) new tt
       (call.PollTick t b) ts s reached there
       (λ hints all over. polled p (reverse (stack s p)) (rests_alike (standing s p) q stands) t a (length (log s.world begun_so).trace) w q
       (logs (log s.world begun_so) q (logs s.world q follows begun_so refl) polled_so refl)
@@ -253,30 +267,32 @@ module _ (s : Machine) (reached : Reached s) (p : ℕ) (q : Plain Output Waker) 
 
   by_call : (c : Call) (ts : List Step) (x : plain.Call Output Waker) → IsCallIn (mine (top (stack s p))) s.world c x
       → p < length s.parties → rests_after p ts (after s (Begin p c)) ≡ true → run_all (Begin p c ∷ ts) s ≡ Ok new
-      → owes (reverse (stack s p)) ≡ false → Turns (turns_of q x)
-  by_call c ts x within.try_tick there rests made none =
+      → may_begin_in (reverse (stack s p)) c ≡ true → (polls_tick x ≡ true → ends_refused (heard_in new.world.trace) ≡ false)
+      → Turns (turns_of q x)
+  by_call c ts x within.try_tick there rests made none granted =
       began c ts there rests made 1
       (λ hints over. try_turned p hints (log s.world (event.CallBegun p call.TryTick)) (reverse (stack s p))
       (rests_alike (standing s p) q stands) over)
-  by_call c ts x (within.poll_tick t b) there rests made none = tick_polled t b ts there rests made none
-  by_call c ts x (within.spawn m) there rests made none = still c ts there rests made refl
-  by_call c ts x within.is_empty there rests made none = still c ts there rests made refl
-  by_call c ts x (within.use_waker k f is) there rests made none = still c ts there rests made refl
-  by_call c ts x (within.wake k f is) there rests made none = still c ts there rests made refl
-  by_call c ts x (within.copy k f is) there rests made none = still c ts there rests made refl
-  by_call c ts x (within.release k f is) there rests made none = still c ts there rests made refl
-  by_call c ts x (within.keep f is) there rests made none = still c ts there rests made refl
-  by_call c ts x (within.wake_self f is) there rests made none = still c ts there rests made refl
-  by_call c ts x (within.poll_handle f b) there rests made none = still c ts there rests made refl
-  by_call c ts x (within.cancel f) there rests made none = still c ts there rests made refl
-  by_call c ts x (within.detach f) there rests made none = still c ts there rests made refl
-  by_call c ts x (within.drop_handle f) there rests made none = still c ts there rests made refl
-  by_call c ts x within.new_tick there rests made none = still c ts there rests made refl
-  by_call c ts x (within.drop_tick t) there rests made none = still c ts there rests made refl
-  by_call c ts x within.new_run there rests made none = still c ts there rests made refl
-  by_call c ts x (within.poll_run r b) there rests made none = still c ts there rests made refl
-  by_call c ts x (within.drop_run r) there rests made none = still c ts there rests made refl
-  by_call c ts x within.leak there rests made none = still c ts there rests made refl
+  by_call c ts x (within.poll_tick t b) there rests made none granted =
+      tick_polled t b ts there rests made (owes_none (owes (reverse (stack s p))) (lets_begin (reverse (stack s p))) none) (granted refl)
+  by_call c ts x (within.spawn m) there rests made none granted = still c ts there rests made refl
+  by_call c ts x within.is_empty there rests made none granted = still c ts there rests made refl
+  by_call c ts x (within.use_waker k f is) there rests made none granted = still c ts there rests made refl
+  by_call c ts x (within.wake k f is) there rests made none granted = still c ts there rests made refl
+  by_call c ts x (within.copy k f is) there rests made none granted = still c ts there rests made refl
+  by_call c ts x (within.release k f is) there rests made none granted = still c ts there rests made refl
+  by_call c ts x (within.keep f is) there rests made none granted = still c ts there rests made refl
+  by_call c ts x (within.wake_self f is) there rests made none granted = still c ts there rests made refl
+  by_call c ts x (within.poll_handle f b) there rests made none granted = still c ts there rests made refl
+  by_call c ts x (within.cancel f) there rests made none granted = still c ts there rests made refl
+  by_call c ts x (within.detach f) there rests made none granted = still c ts there rests made refl
+  by_call c ts x (within.drop_handle f) there rests made none granted = still c ts there rests made refl
+  by_call c ts x within.new_tick there rests made none granted = still c ts there rests made refl
+  by_call c ts x (within.drop_tick t) there rests made none granted = still c ts there rests made refl
+  by_call c ts x within.new_run there rests made none granted = still c ts there rests made refl
+  by_call c ts x (within.poll_run r b) there rests made none granted = still c ts there rests made refl
+  by_call c ts x (within.drop_run r) there rests made none granted = still c ts there rests made refl
+  by_call c ts x within.leak there rests made none granted = still c ts there rests made refl
 
   -- user code ends
   ended : (u : UserEnd) (ts : List Step) → p < length s.parties → rests_after p ts (after s (Answer p u)) ≡ true
@@ -303,20 +319,21 @@ module _ (s : Machine) (reached : Reached s) (p : ℕ) (q : Plain Output Waker) 
       (run-first t ts s new made).0))
 
   one : (t : Step) (ts : List Step) (x : plain.Call Output Waker) → IsMade s p t x → rests_after p ts (after s t) ≡ true
-      → run_all (t ∷ ts) s ≡ Ok new → is_on_way (reverse (stack s p)) t ≡ true → takes_for_run q x ≡ false → Turns (turns_of q x)
-  one t ts x (within.begins c y is) rests made on alone =
+      → run_all (t ∷ ts) s ≡ Ok new → is_on_way (reverse (stack s p)) t ≡ true
+      → (polls_tick x ≡ true → ends_refused (heard_in new.world.trace) ≡ false) → takes_for_run q x ≡ false → Turns (turns_of q x)
+  one t ts x (within.begins c y is) rests made on granted alone =
       by_call c ts y is (there t ts refl made) rests made
-      (not_true (owes (reverse (stack s p))) (both_true (may_stand_in c) (not (owes (reverse (stack s p)))) on).1)
-  one t ts x within.pends rests made none alone = ended (Polled Pending) ts (there t ts refl made) rests made alone
-  one t ts x within.gives rests made none alone = ended (Polled Ready) ts (there t ts refl made) rests made refl
-  one t ts x within.ends rests made none alone = ended Over ts (there t ts refl made) rests made alone
+      (both_true (may_stand_in c) (may_begin_in (reverse (stack s p)) c) on).1 granted
+  one t ts x within.pends rests made on granted alone = ended (Polled Pending) ts (there t ts refl made) rests made alone
+  one t ts x within.gives rests made on granted alone = ended (Polled Ready) ts (there t ts refl made) rests made refl
+  one t ts x within.ends rests made on granted alone = ended Over ts (there t ts refl made) rests made alone
 
 pub act_turns : (s : Machine) → Reached s → (q : Plain Output Waker) (a : Act) (x : plain.Call Output Waker)
     → StandsAlike (standing s a.party) q → IsAct s a → is_on_way (reverse (stack s a.party)) a.first ≡ true → IsMade s a.party a.first x
-    → any is_refusal (heard_in a.left.world.trace) ≡ false → takes_for_run q x ≡ false
+    → (polls_tick x ≡ true → ends_refused (heard_in a.left.world.trace) ≡ false) → takes_for_run q x ≡ false
     → a.left.world.urgent_turns ≡ turned (turns_of q x) s.world.urgent_turns
 act_turns s reached q a x stands is on made unrefused alone =
-    one s reached a.party q stands a.left unrefused a.first a.steps x made is.rests is.made on alone
+    one s reached a.party q stands a.left a.first a.steps x made is.rests is.made on unrefused alone
 
 pub acts_take_turns : ActsTakeTurns
 acts_take_turns limit kind parties steps s made q a x stands is on so unrefused alone =

@@ -1,6 +1,6 @@
--- So where nothing is refused, and no run takes a future, what the machine's steps begin and answer says it all.
-use Rattle.std.proofs.Common.{◌≡◌, ℕ, ◌<◌, ◌≤◌, not, true, false, List, [], ◌∷◌, length, map, Some, None}
-use Rattle.std.proofs.Common.{refl, sym, ap, ◌∙◌, arith}
+-- So where no run takes a future, what the machine's steps begin and answer, and what it refuses, says it all.
+use Rattle.std.proofs.Common.{◌≡◌, ℕ, ◌<◌, ◌≤◌, nat_lt, not, Bool, true, false, List, [], ◌∷◌, length, map, Some, None}
+use Rattle.std.proofs.Common.{refl, sym, ap, subst, ◌∙◌, arith}
 use Rattle.executor_parts.specs.Marks.{first_of}
 use Rattle.executor_model.specs.declared.kind.Kind.{Kind as MachineKind}
 use Rattle.executor_model.specs.declared.op.Waker.{Waker}
@@ -15,9 +15,10 @@ use Rattle.solo.specs.declared.solo.Solo.{Solo}
 use Rattle.solo.specs.Solo.{IsNew, counts}
 use Rattle.plain_scheduler.specs.State.{Answers, Choice, Close, Code, Drop, DropOwn, Event, Gives, Lose, Plain, Poll, PollOwn, Run, Taker}
 use Rattle.plain_scheduler.specs.State.{Tick, Try, Who}
-use Rattle.plain_scheduler.specs.Lists.{any}
 use Rattle.plain_scheduler.specs.Calls as calls
 use Rattle.plain_scheduler.specs.Calls.{Call, course, does, new}
+use Rattle.machine_roads.specs.Refused.{IsLaterAnew}
+use Rattle.machine_roads.specs.Road.{uncalled}
 use Rattle.machine_roads.specs.Seeing.{heard_in, shown as shown_alike}
 use Rattle.machine_roads.specs.View.{Output, wakes as wakes_in}
 use Rattle.machine_roads.specs.Within.{Act, ActAlike, ActsBy, AreActs, IsChosenAt, standing}
@@ -29,16 +30,18 @@ use Rattle.solo_laws.specs.Tabled.{Stands}
 use Rattle.solo_laws.proofs.Showing.Courses.{leads_alike, new_known}
 use Rattle.two_roads.specs.Acting.{AreActed, AreOfSteps, IsActed, acts_by, goes_on_in, is_runs, left_of, looks_first, takes_for_run}
 use Rattle.two_roads.specs.Plainly.{are_plain, is_plain_call}
+use Rattle.two_roads.specs.Refusing.{asks_memory, ends_refused, refused_in, refused_so}
 use Rattle.two_roads.specs.Renaming.{AreBothDue, CallsAlike, GoesOnAlike, InnermostAlike, call_as, event_as, is_refusal, lying_as}
 use Rattle.two_roads.specs.Renaming.{renamed}
 use Rattle.two_roads.specs.Together.{as_heard, nothing, numbered}
 use Rattle.two_roads.proofs.Both.{map_twice, wakes_so}
-use Rattle.two_roads.proofs.Calling.{unrefused_same}
+use Rattle.two_roads.proofs.Calling.{calls_same}
 use Rattle.two_roads.proofs.Inner.{acts_seen, seen_in}
 use Rattle.two_roads.proofs.Meant.{is_begin, is_take, one_made, takes_begin}
 use Rattle.two_roads.proofs.PlainCalls.{call_plain, never_two}
 use Rattle.two_roads.proofs.Plainly.{IsPlain, both_true}
-use Rattle.two_roads.proofs.Words.{any_map, length_map}
+use Rattle.two_roads.proofs.Refusing.{Lie, asks_so, lie_in, map_last, seen_refused, unasked}
+use Rattle.two_roads.proofs.Words.{length_map}
 
 refusal_shown : (e : Event Output Waker) → is_refusal (shown_alike e) ≡ is_refusal e
 refusal_shown (Answers (Gives v)) = refl
@@ -87,10 +90,10 @@ tells_at w q d (Answer p u) chosen = chosen
 
 module _ {T X : Type 0} (number : X → ℕ) where
   -- what has to be the same of what is chosen
-  chosen_alike : (s : Machine) (a : Act) (p : Plain T (SoloWaker X)) (c d : Choice) (call : Call T (SoloWaker X))
-      → IsActed number s a p c call
+  chosen_alike : (s : Machine) (p : Plain T (SoloWaker X)) (c d : Choice) (call : Call T (SoloWaker X))
+      → (looks_first call ≡ true → AreBothDue p.due → c.first ≡ first_of s.world.urgent_turns) → takes_for_run p call ≡ false
       → (is_take (call_as nothing (numbered number) call) ≡ true → d.first ≡ first_of s.world.urgent_turns) → CallsAlike c d p call
-  chosen_alike s a p c d call are first = by call are.first are.step.runless first
+  chosen_alike s p c d call = by call
     where
       by : (call : Call T (SoloWaker X))
           → (looks_first call ≡ true → AreBothDue p.due → c.first ≡ first_of s.world.urgent_turns) → takes_for_run p call ≡ false
@@ -119,32 +122,20 @@ module _ {T X : Type 0} (number : X → ℕ) where
       by (calls.EndsWith v) looks alone takes = tt
 
   -- one act
-  pub one_same : (s : Machine) (a : Act) (q r : Plain Output Waker) (by : ActsBy s a.party a.first q r)
-      → heard_in a.left.world.trace ≡ map shown_alike r.events → (p : Plain T (SoloWaker X)) (c : Choice) (call : Call T (SoloWaker X))
-      → renamed nothing (numbered number) p ≡ q → IsActed number s a p c call → length p.lying ≤ c.tells
+  pub one_same : (s : Machine) (a : Act) (q r : Plain Output Waker) (by : ActsBy s a.party a.first q r) → Lie s.world q
+      → heard_in a.left.world.trace ≡ map shown_alike r.events → Lie a.left.world r → (p : Plain T (SoloWaker X)) (c : Choice)
+      (call : Call T (SoloWaker X)) → renamed nothing (numbered number) p ≡ q → IsActed number s a p c call → length p.lying ≤ c.tells
       → renamed nothing (numbered number) (does wakes c call p) ≡ r
-  one_same s a q r by seen p c call is are tells =
-      unrefused_same nothing (numbered number) wakes wakes_in (wakes_so number) c by.choice call p are.step.granted tells tells_so
-      (chosen_alike s a p c by.choice call are
-      (λ take. first_at s.world q by.choice a.first
-      (takes_begin s a.party a.first (call_as nothing (numbered number) call) are.step.made take) by.chosen))
-      unrefused
-      ∙ leads_so
+  one_same s a q r by lie seen lie_then p c call is are tells = whether (asks_memory call) refl
     where
-      call_is : by.made ≡ call_as nothing (numbered number) call
-      call_is = one_made s a.party a.first by.made (call_as nothing (numbered number) call) by.is are.step.made
+      same_call : Call Output Waker
+      same_call = call_as nothing (numbered number) call
 
-      leads_so : does wakes_in by.choice (call_as nothing (numbered number) call) (renamed nothing (numbered number) p) ≡ r
-      leads_so =
-          ap (λ (z : Plain Output Waker). does wakes_in by.choice (call_as nothing (numbered number) call) z) is
-          ∙ (ap (λ (x : Call Output Waker). does wakes_in by.choice x q) (sym call_is) ∙ by.so)
+      call_is : by.made ≡ same_call
+      call_is = one_made s a.party a.first by.made same_call by.is are.step.made
 
-      unrefused : any is_refusal
-          (does wakes_in by.choice (call_as nothing (numbered number) call) (renamed nothing (numbered number) p)).events ≡ false
-      unrefused =
-          ap (λ (z : Plain Output Waker). any is_refusal z.events) leads_so
-          ∙ (sym (any_map shown_alike is_refusal is_refusal refusal_shown r.events)
-          ∙ (ap (λ es. any is_refusal es) (sym seen) ∙ are.step.unrefused))
+      so : does wakes_in by.choice same_call q ≡ r
+      so = ap (λ (x : Call Output Waker). does wakes_in by.choice x q) (sym call_is) ∙ by.so
 
       tells_so : length p.lying ≤ by.choice.tells
       tells_so =
@@ -155,15 +146,61 @@ module _ {T X : Type 0} (number : X → ℕ) where
           less : (n m t : ℕ) → n ≡ m → m < t → n ≤ t
           less n m t same below = omega (arith, same, below)
 
+      first : is_take same_call ≡ true → by.choice.first ≡ first_of s.world.urgent_turns
+      first take = first_at s.world q by.choice a.first (takes_begin s a.party a.first same_call are.step.made take) by.chosen
+
+      -- what is refused in the act is seen in what the call makes
+      seen_so : refused_in s a ≡ refused_so (ends_refused r.events) (nat_lt (length (uncalled q.lying)) (length (uncalled r.lying)))
+      seen_so =
+          ap
+          (λ b. refused_so b (nat_lt (length s.world.sleepers.wakers) (length a.left.world.sleepers.wakers)))
+          (ap (λ es. ends_refused es) seen ∙ map_last shown_alike refusal_shown r.events)
+          ∙ (ap (λ n. refused_so (ends_refused r.events) (nat_lt n (length a.left.world.sleepers.wakers))) lie
+          ∙ ap (λ n. refused_so (ends_refused r.events) (nat_lt (length (uncalled q.lying)) n)) lie_then)
+
+      whether : (b : Bool) → asks_memory call ≡ b → renamed nothing (numbered number) (does wakes c call p) ≡ r
+      whether true asks =
+          let d : Choice = record by.choice { refusal = c.refusal } in
+          calls_same nothing (numbered number) wakes wakes_in (wakes_so number) c d call p
+          (record {
+            refusal = refl;
+            tells = tells;
+            tells_so = tells_so;
+            takes = chosen_alike s p c d call are.first are.step.runless first;
+          })
+          ∙ (ap (λ (z : Plain Output Waker). does wakes_in d same_call z) is
+          ∙ (seen_refused by.choice c.refusal same_call q (asks_so nothing (numbered number) call ∙ asks)
+          (subst (λ (z : Plain Output Waker). IsLaterAnew by.choice.refusal same_call q z) (sym so)
+          (subst (λ (x : Call Output Waker). IsLaterAnew by.choice.refusal x q r) call_is by.anew))
+          (subst
+          (λ (z : Plain Output Waker). c.refusal
+          ≡ refused_so (ends_refused z.events) (nat_lt (length (uncalled q.lying)) (length (uncalled z.lying))))
+          (sym so) (are.step.refused asks ∙ seen_so))
+          ∙ so))
+      whether false asks =
+          let d : Choice = record c { refusal = by.choice.refusal } in
+          ap (λ (z : Plain T (SoloWaker X)). renamed nothing (numbered number) z)
+          (sym (unasked wakes c by.choice.refusal call p asks are.step.runless))
+          ∙ (calls_same nothing (numbered number) wakes wakes_in (wakes_so number) d by.choice call p
+          (record {
+            refusal = refl;
+            tells = tells;
+            tells_so = tells_so;
+            takes = chosen_alike s p d by.choice call are.first are.step.runless first;
+          })
+          ∙ (ap (λ (z : Plain Output Waker). does wakes_in by.choice same_call z) is ∙ so))
+
   pub acted : (s : Machine) (q : Plain Output Waker) (acts : List Act) (go : ActAlike s q acts) (p : Plain T (SoloWaker X))
-      (cs : List (Choice × Call T (SoloWaker X))) → renamed nothing (numbered number) p ≡ q → AreActed number s acts p cs → AllTell cs p
-      → renamed nothing (numbered number) (course wakes cs p) ≡ course wakes_in (acts_by s q acts go) q
-  acted s q [] go p [] is are tell = is
-  acted s q [] go p (x ∷ xs) is are tell = absurd are
-  acted s q (a ∷ acts) go p [] is are tell = absurd are
-  acted s q (a ∷ acts) go p (x ∷ xs) is are tell =
-      let one = one_same s a q go.0 go.1 (seen_in (standing a.left a.party) go.0 go.2) p x.0 x.1 is are.0 tell.0 in
-      acted a.left go.0 acts go.3 (does wakes x.0 x.1 p) xs one are.1 tell.1
+      (cs : List (Choice × Call T (SoloWaker X))) → Lie s.world q → renamed nothing (numbered number) p ≡ q → AreActed number s acts p cs
+      → AllTell cs p → renamed nothing (numbered number) (course wakes cs p) ≡ course wakes_in (acts_by s q acts go) q
+  acted s q [] go p [] lie is are tell = is
+  acted s q [] go p (x ∷ xs) lie is are tell = absurd are
+  acted s q (a ∷ acts) go p [] lie is are tell = absurd are
+  acted s q (a ∷ acts) go p (x ∷ xs) lie is are tell =
+      let stands = standing a.left a.party in
+      let then_lie = lie_in stands go.0 go.2 in
+      let one = one_same s a q go.0 go.1 lie (seen_in stands go.0 go.2) then_lie p x.0 x.1 is are.0 tell.0 in
+      acted a.left go.0 acts go.3 (does wakes x.0 x.1 p) xs then_lie one are.1 tell.1
       ∙ ap (course wakes_in (acts_by a.left go.0 acts go.3)) (sym go.1.so)
 
 module _ {F T X : Type 0} (its : ℕ → Lent) (number : X → ℕ) where
@@ -184,7 +221,7 @@ module _ {F T X : Type 0} (its : ℕ → Lent) (number : X → ℕ) where
       leads_alike its cs (new_owner before) after first last (new limit (is_static_kind kind)) shown
       (new_known its before limit solo_kind (is_static_kind kind) first is_new counted) led in
       let named =
-      acted number s q acts go (new limit (is_static_kind kind)) cs refl are
+      acted number s q acts go (new limit (is_static_kind kind)) cs refl refl are
       (all_tell its cs (new_owner before) after first last (new limit (is_static_kind kind)) shown led) in (
         both.0.stands,
         acts_seen s q acts go refl

@@ -1,4 +1,4 @@
--- So where nothing is refused, and no run takes a future, what the machine's steps begin and answer says it all to the end.
+-- So where no run takes a future, what the machine's steps begin and answer, and what it refuses, says it all to the end.
 use Rattle.std.proofs.Common.{◌≡◌, ℕ, ◌++◌, not, List, [], ◌∷◌, map, refl, sym, ap, subst, ◌∙◌, true}
 use Rattle.executor_model.specs.declared.call.Call.TheVariants as call
 use Rattle.executor_model.specs.declared.kind.Kind.{Kind as MachineKind}
@@ -38,6 +38,7 @@ use Rattle.two_roads.proofs.Plainly.{IsPlain, both_true}
 use Rattle.two_roads.proofs.Both.{course_of_both, map_twice, wakes_so}
 use Rattle.two_roads.proofs.Calling.{calls_same}
 use Rattle.two_roads.proofs.InDrop.{acts_come, drop_acts_seen, drop_seen}
+use Rattle.two_roads.proofs.Refusing.{Lie, lie_in_drop}
 
 module _ {F T X : Type 0} (its : ℕ → Lent) where
   after_tell : (cs : List (Choice × Call T (SoloWaker X))) (s z : Solo F T X) (p : Plain T (SoloWaker X))
@@ -66,14 +67,17 @@ module _ {F T X : Type 0} (its : ℕ → Lent) where
 
 module _ {T X : Type 0} (number : X → ℕ) where
   drop_acted : (s : Machine) (q : Plain Output Waker) (acts : List Act) (go : DropActAlike s q acts) (p : Plain T (SoloWaker X))
-      (cs : List (Choice × Call T (SoloWaker X))) → renamed nothing (numbered number) p ≡ q → AreActed number s acts p cs → AllTell cs p
+      (cs : List (Choice × Call T (SoloWaker X))) → Lie s.world q → renamed nothing (numbered number) p ≡ q → AreActed number s acts p cs
+      → AllTell cs p
       → renamed nothing (numbered number) (course wakes cs p) ≡ course wakes_in (drop_acts_by s q acts go) q
-  drop_acted s q [] go p [] is are tell = is
-  drop_acted s q [] go p (x ∷ xs) is are tell = absurd are
-  drop_acted s q (a ∷ acts) go p [] is are tell = absurd are
-  drop_acted s q (a ∷ acts) go p (x ∷ xs) is are tell =
-      let one = one_same number s a q go.0 go.1 (drop_seen (standing a.left a.party) go.0 go.2) p x.0 x.1 is are.0 tell.0 in
-      drop_acted a.left go.0 acts go.3 (does wakes x.0 x.1 p) xs one are.1 tell.1
+  drop_acted s q [] go p [] lie is are tell = is
+  drop_acted s q [] go p (x ∷ xs) lie is are tell = absurd are
+  drop_acted s q (a ∷ acts) go p [] lie is are tell = absurd are
+  drop_acted s q (a ∷ acts) go p (x ∷ xs) lie is are tell =
+      let stands = standing a.left a.party in
+      let then_lie = lie_in_drop stands go.0 go.2 in
+      let one = one_same number s a q go.0 go.1 lie (drop_seen stands go.0 go.2) then_lie p x.0 x.1 is are.0 tell.0 in
+      drop_acted a.left go.0 acts go.3 (does wakes x.0 x.1 p) xs then_lie one are.1 tell.1
       ∙ ap (course wakes_in (drop_acts_by a.left go.0 acts go.3)) (sym go.1.so)
 
   -- from the executor's drop on
@@ -94,7 +98,8 @@ module _ {T X : Type 0} (number : X → ℕ) where
       ∙ ap (λ (z : Plain Output Waker). does wakes_in x.0 calls.DropExecutor z) is) in
       drop_acts_seen a.left r1 later (on x.0).1 (drop_seen (standing a.left a.party) r1 (on x.0).0)
       ∙ ap (λ (z : Plain Output Waker). map shown_alike z.events)
-      (sym (drop_acted a.left r1 later (on x.0).1 (does wakes x.0 x.1 p) xs one are.1 tell.1))
+      (sym
+      (drop_acted a.left r1 later (on x.0).1 (does wakes x.0 x.1 p) xs (lie_in_drop (standing a.left a.party) r1 (on x.0).0) one are.1 tell.1))
 
 module _ {F T X : Type 0} (its : ℕ → Lent) (number : X → ℕ) where
   pub unrefused_end_together : (limit : ℕ) (kind : MachineKind) (solo_kind : Kind) (parties : ℕ) (acts : List Act) (a : Act)
@@ -126,7 +131,7 @@ module _ {F T X : Type 0} (its : ℕ → Lent) (number : X → ℕ) where
       (none_lost its limit (is_static_kind kind) cs (new_owner before) after first middle shown led) then_so in
       let together = course_of_both wakes cs ends (new limit (is_static_kind kind)) in
       let comes : renamed nothing (numbered number) p ≡ r =
-      acted number s q acts go.0 (new limit (is_static_kind kind)) cs refl are
+      acted number s q acts go.0 (new limit (is_static_kind kind)) cs refl refl are
       (all_tell its cs (new_owner before) after first middle (new limit (is_static_kind kind)) shown led)
       ∙ acts_come acts s q go.0 in
       let nowhere_there : r.inside ≡ [] =

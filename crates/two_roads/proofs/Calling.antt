@@ -1,5 +1,5 @@
 -- And so it is with each call, and with lists of them.
-use Rattle.std.proofs.Common.{◌⊎◌, inl, inr, ◌≡◌, ℕ, suc, ◌≤◌, ◌++◌, nat_lt, count_by, cond, filter, Bool, true, false, List, [], ◌∷◌}
+use Rattle.std.proofs.Common.{◌≡◌, ℕ, suc, ◌≤◌, ◌++◌, nat_lt, count_by, cond, filter, Bool, true, false, List, [], ◌∷◌}
 use Rattle.std.proofs.Common.{length, map}
 use Rattle.std.proofs.Common.{Option, None, slice_get, refl, sym, ap, subst, ◌∙◌, arith}
 use Rattle.std.specs.Option.{option_map}
@@ -11,14 +11,13 @@ use Rattle.plain_scheduler.specs.State.{Answer, ARun, ATick, Cancelled, Choice, 
 use Rattle.plain_scheduler.specs.State.{Drops}
 use Rattle.plain_scheduler.specs.State.{Finished, Full, Future, Gave, Gives, Lose, Made, No, NoMemory, Pending, Plain, Poll, PollOwn}
 use Rattle.plain_scheduler.specs.State.{Ready, Run, Taker, Tick, Try, Yes}
-use Rattle.plain_scheduler.specs.State.{Refusal, Granted, AtOnce, Later}
-use Rattle.plain_scheduler.specs.Lists.{any, each, on, or}
+use Rattle.plain_scheduler.specs.Lists.{each, on, or}
 use Rattle.plain_scheduler.specs.Moves.{answers, appended, becomes, called, copied, enters, given_back, is_common, is_kept, leaves}
 use Rattle.plain_scheduler.specs.Moves.{let_go, put, release, runs, see, task, used, wake}
 use Rattle.plain_scheduler.specs.Takes as takes
 use Rattle.plain_scheduler.specs.Calls as calls
 use Rattle.plain_scheduler.specs.Calls.{Call, course, does, is_granted, is_none, living_from}
-use Rattle.two_roads.specs.Renaming.{is_refusal, AreSame, CallsAlike, ChooseAlike, EndsAlike, GoesOnAlike, InnermostAlike}
+use Rattle.two_roads.specs.Renaming.{AreSame, CallsAlike, ChooseAlike, EndsAlike, GoesOnAlike, InnermostAlike}
 use Rattle.two_roads.specs.Renaming.{answer_as, call_as, code_as, future_as, renamed}
 use Rattle.two_roads.specs.Renaming.{more, none}
 use Rattle.two_roads.proofs.Words.{length_map, map_append}
@@ -27,7 +26,7 @@ use Rattle.two_roads.proofs.Moving.{Alike, Few, Goes, Setting, andthen, appended
 use Rattle.two_roads.proofs.Moving.{copied_alike, each_alike, enters_alike, given_back_alike, goes_alike, its_task, leaves_alike}
 use Rattle.two_roads.proofs.Moving.{now, on_alike, put_alike, put_so, release_alike, repeat_alike, runs_alike, see_alike, stays}
 use Rattle.two_roads.proofs.Moving.{task_alike, tell_alike, used_alike, wake_alike}
-use Rattle.two_roads.proofs.Taking.{Same, always, not_refused, stays_same, answers_same, dropped_same, dropping_alike, ended_same}
+use Rattle.two_roads.proofs.Taking.{Same, stays_same, answers_same, dropped_same, dropping_alike, ended_same}
 use Rattle.two_roads.proofs.Taking.{if_same, into, left, lost_same, next_same}
 use Rattle.two_roads.proofs.Taking.{take_same, taker, tells, tells_as}
 
@@ -46,7 +45,7 @@ module _ {T U A B : Type 0} (k : Setting T U A B) where
 
   -- the same of an answer
   says : (a : Answer T) (x : Plain T A) (y : Plain U B) → Alike k x y → Same k (answers a x) (answers (answer_as k.output a) y)
-  says a x y one = answers_same k a x y (always k x y one.same)
+  says a x y one = answers_same k a x y one.same
 
   living_so : (n : ℕ) (fs : List (Future T A)) → living_from n (map future fs) ≡ living_from n fs
   living_so n [] = refl
@@ -55,28 +54,11 @@ module _ {T U A B : Type 0} (k : Setting T U A B) where
 
   granted_same : (x : Plain T A) (y : Plain U B) (p : Plain T A) → Same k x y
       → Same k (cond (is_granted c.refusal) x (answers NoMemory p)) (cond (is_granted d.refusal) y (answers NoMemory (now k p)))
-  granted_same x y p one = by k.refusal
-    where
-      granted : (r : Refusal) → d.refusal ≡ r → c.refusal ≡ Granted
-          → Same k (cond (is_granted c.refusal) x (answers NoMemory p)) (cond (is_granted r) y (answers NoMemory (now k p)))
-      granted Granted is so = subst (λ r. Same k (cond (is_granted r) x (answers NoMemory p)) y) (sym so) one
-      granted AtOnce is so = λ allowed. absurd (not_refused k (now k p) allowed (λ same. at_once (sym so ∙ (same ∙ is))))
-        where
-          at_once : Granted ≡ AtOnce → ⊥
-          at_once e = cc
-      granted Later is so = λ allowed. absurd (not_refused k (now k p) allowed (λ same. later (sym so ∙ (same ∙ is))))
-        where
-          later : Granted ≡ Later → ⊥
-          later e = cc
-
-      by : (c.refusal ≡ d.refusal) ⊎ (c.refusal ≡ Granted)
-          → Same k (cond (is_granted c.refusal) x (answers NoMemory p)) (cond (is_granted d.refusal) y (answers NoMemory (now k p)))
-      by (inl same) =
-          subst
-          (λ r. Same k (cond (is_granted c.refusal) x (answers NoMemory p)) (cond (is_granted r) y (answers NoMemory (now k p)))) same
-          (if_same k (is_granted c.refusal) x (answers NoMemory p) y (answers NoMemory (now k p)) one
-          (answers_same k NoMemory p (now k p) (stays_same k p)))
-      by (inr so) = granted d.refusal refl so
+  granted_same x y p one =
+      subst
+      (λ r. Same k (cond (is_granted c.refusal) x (answers NoMemory p)) (cond (is_granted r) y (answers NoMemory (now k p)))) k.refusal
+      (if_same k (is_granted c.refusal) x (answers NoMemory p) y (answers NoMemory (now k p)) one
+      (answers_same k NoMemory p (now k p) (stays_same k p)))
 
   -- spawns
   entered_alike : (mark : Mark) → Goes k (calls.entered k.wakes c mark) (calls.entered k.wakes_as d mark)
@@ -274,7 +256,6 @@ module _ {T U A B : Type 0} (k : Setting T U A B) where
       (andthen k (calls.swept k.wakes c) (calls.swept k.wakes_as d)
       (each_alike k all (calls.freed k.wakes c) (calls.freed k.wakes_as d) freed_alike p (now k p) (stays k p few)) swept_alike)
   close_same (f ∷ fs) all p few =
-      λ allowed.
       (andthen k (enters (Closing fs all)) (enters (Closing fs all))
       (andthen k (see (Drops f)) (see (Drops f))
       (changed_alike k (λ future. record future { is_dropped = true }) (λ future. record future { is_dropped = true }) (λ x. refl) f p few)
@@ -296,13 +277,13 @@ module _ {T U A B : Type 0} (k : Setting T U A B) where
 
   pending_same : (e : abstract.PendingEnd) (f : ℕ) (by : Taker A) → GoesOnAlike c d by → (p : Plain T A) → Few k p
       → Same k (calls.pending_by k.wakes c e f by p) (calls.pending_by k.wakes_as d e f (taker k by) (now k p))
-  pending_same abstract.PendingEnd.Drops f by on_so p few = λ allowed. (dropping_alike k f Closed by p few).same
+  pending_same abstract.PendingEnd.Drops f by on_so p few = (dropping_alike k f Closed by p few).same
   pending_same abstract.PendingEnd.Forgets f by on_so p few =
       into k (takes.dropping k.wakes c f Closed by) (takes.dropping k.wakes_as d f Closed (taker k by))
       (put_so k f (record (task f p) { phase = abstract.Phase.Finished; closed = true })
       (record (task f (now k p)) { phase = abstract.Phase.Finished; closed = true })
       (ap (λ (t : AbstractTask U B). record t { phase = abstract.Phase.Finished; closed = true }) (task_alike k f p)) p few)
-      (λ q few allowed. (dropping_alike k f Closed by q few).same)
+      (λ q few. (dropping_alike k f Closed by q few).same)
   pending_same abstract.PendingEnd.Queues f by on_so p few = goes_on_same f by on_so p few
   pending_same abstract.PendingEnd.Rests f by on_so p few = goes_on_same f by on_so p few
 
@@ -321,8 +302,8 @@ module _ {T U A B : Type 0} (k : Setting T U A B) where
 
   gives_same : (v : T) (code : Code T A) (p : Plain T A) → Few k p
       → Same k (calls.gives k.wakes c v code p) (calls.gives k.wakes_as d (k.output v) (code_so code) (now k p))
-  gives_same v (Poll f by) p few = λ allowed. (dropping_alike k f (Gave v) by p few).same
-  gives_same v (PollOwn r w) p few = λ allowed. (enters_alike k (DropOwn r Ready) p few).same
+  gives_same v (Poll f by) p few = (dropping_alike k f (Gave v) by p few).same
+  gives_same v (PollOwn r w) p few = (enters_alike k (DropOwn r Ready) p few).same
   gives_same v (Drop f end by) p few = stays_same k p
   gives_same v (Lose awaiter by) p few = stays_same k p
   gives_same v (DropOwn r answer) p few = stays_same k p
@@ -358,7 +339,7 @@ module _ {T U A B : Type 0} (k : Setting T U A B) where
   over_same r a code p few =
       if_same k (or (slice_get p.runs r) (λ run. run.is_over) true) (answers a p) (enters code p)
       (answers (answer_as k.output a) (now k p)) (enters (code_so code) (now k p)) (answers_same k a p (now k p) (stays_same k p))
-      (always k (enters code p) (enters (code_so code) (now k p)) refl)
+      refl
 
   -- each call
   call_same : (call : Call T A) (p : Plain T A) → CallsAlike c d p call → Few k p
@@ -416,7 +397,7 @@ module _ {T U A B : Type 0} (k : Setting T U A B) where
 module _ {T U A B : Type 0} (output : T → U) (waker : A → B) (wakes : A → Option ℕ) (wakes_as : B → Option ℕ)
     (same : (a : A) → wakes_as (waker a) ≡ wakes a) where
   abbrev setting : (c d : Choice) (p : Plain T A) → length p.lying ≤ c.tells → length p.lying ≤ d.tells
-      → (c.refusal ≡ d.refusal) ⊎ (c.refusal ≡ Granted) → Setting T U A B
+      → c.refusal ≡ d.refusal → Setting T U A B
   setting c d p tells tells_so refusal = record {
     output = output;
     waker = waker;
@@ -437,16 +418,7 @@ module _ {T U A B : Type 0} (output : T → U) (waker : A → B) (wakes : A → 
   pub calls_same : (c d : Choice) (call : Call T A) (p : Plain T A) → ChooseAlike c d p call
       → renamed output waker (does wakes c call p) ≡ does wakes_as d (call_as output waker call) (renamed output waker p)
   calls_same c d call p alike =
-      call_same (setting c d p alike.tells alike.tells_so (inl alike.refusal)) call p alike.takes (least (length p.lying))
-      (inl alike.refusal)
-
-  -- where nothing is refused here, and nothing was there
-  pub unrefused_same : (c d : Choice) (call : Call T A) (p : Plain T A) → c.refusal ≡ Granted → length p.lying ≤ c.tells
-      → length p.lying ≤ d.tells → CallsAlike c d p call
-      → any is_refusal (does wakes_as d (call_as output waker call) (renamed output waker p)).events ≡ false
-      → renamed output waker (does wakes c call p) ≡ does wakes_as d (call_as output waker call) (renamed output waker p)
-  unrefused_same c d call p granted tells tells_so takes unrefused =
-      call_same (setting c d p tells tells_so (inr granted)) call p takes (least (length p.lying)) (inr unrefused)
+      call_same (setting c d p alike.tells alike.tells_so alike.refusal) call p alike.takes (least (length p.lying))
 
   pub courses_same : (cs : List (Choice × Call T A)) (p : Plain T A) (ds : List (Choice × Call U B)) → AreSame output waker wakes cs p ds
       → renamed output waker (course wakes cs p) ≡ course wakes_as ds (renamed output waker p)

@@ -12,10 +12,11 @@ use Rattle.solo.specs.Solo.{IsNew, counts}
 use Rattle.plain_scheduler.specs.State.{Choice, Event, Plain, Who}
 use Rattle.plain_scheduler.specs.Calls as calls
 use Rattle.plain_scheduler.specs.Calls.{Call, course, does, new}
-use Rattle.machine_roads.specs.DropActs.{DropActAlike, StandsDropping, behind, drops, loses_behind, loses_inside, plain_behind}
+use Rattle.machine_roads.specs.DropActs.{DropActAlike, StandsDropping, behind, drops, plain_behind}
 use Rattle.machine_roads.specs.Seeing.{heard_in, shown as shown_alike}
 use Rattle.machine_roads.specs.View.{Output, wakes as wakes_in}
 use Rattle.machine_roads.specs.Within.{Act, ActAlike, standing}
+use Rattle.machine_roads.proofs.InLoss.{trace_through}
 use Rattle.solo_laws.specs.Closing.{IsClosed}
 use Rattle.solo_laws.specs.Courses.{Leads}
 use Rattle.solo_laws.specs.LastCalls.{LastCalls}
@@ -32,11 +33,9 @@ use Rattle.two_roads.proofs.Calling.{courses_same}
 use Rattle.two_roads.proofs.Inner.{Sees}
 
 pub drop_seen : (e : Done) (q : Plain Output Waker) → StandsDropping e q → Sees e q
-drop_seen e q (drops f fs all next stands) = stands.follows.seen
-drop_seen e q (loses_inside g f fs all b next is stands) =
-    stands.left.follows.seen ∙ ap (λ (z : Plain Output Waker). map shown_alike z.events) (sym is)
-drop_seen e q (behind next inside follows waits) = follows.seen
-drop_seen e q (loses_behind g b inside waits stops) = stops.losing.follows.seen
+drop_seen e q (drops gs f fs all next stands) =
+    ap (λ t. heard_in t) (sym (trace_through gs e.world)) ∙ stands.left.follows.seen
+drop_seen e q (behind gs waits stops) = ap (λ t. heard_in t) (sym (trace_through gs e.world)) ∙ stops.losing.follows.seen
 
 pub drop_acts_seen : (s : Machine) (q : Plain Output Waker) (acts : List Act) (go : DropActAlike s q acts)
     → heard_in s.world.trace ≡ map shown_alike q.events

@@ -19,6 +19,7 @@ use Rattle.machine_roads.specs.Dropped.{Drops, answered, loses}
 use Rattle.machine_roads.specs.Seeing.{heard_in, shown as shown_alike}
 use Rattle.machine_roads.specs.View.{Output, wakes as wakes_in}
 use Rattle.machine_roads.specs.Within.{Act, ActAlike, StandsAlike, alike, dropping, forgetting, going, losing, standing}
+use Rattle.machine_roads.proofs.InLoss.{trace_through}
 use Rattle.machine_roads.proofs.Puts.{put_by}
 use Rattle.solo_laws.specs.Courses.{Leads}
 use Rattle.solo_laws.specs.Owner.{Owner, new_owner}
@@ -49,9 +50,12 @@ runs_seen h r q = by (slice_get q.runs r)
 -- wherever it rests
 pub seen_in : (e : Done) (q : Plain Output Waker) → StandsAlike e q → Sees e q
 seen_in e q (alike nested follows) = follows.seen
-seen_in e q (losing f below b nested stops) = stops.losing.follows.seen
-seen_in e q (going r below b nested stops) =
-    stops.follows.seen ∙ ap (λ es. map shown_alike es) (runs_seen (λ run. record run { is_over = true }) r q)
+seen_in e q (losing f fs below codes nested stops) =
+    ap (λ t. heard_in t) (sym (trace_through (f ∷ fs) e.world)) ∙ stops.losing.follows.seen
+seen_in e q (going r fs below codes nested stops) =
+    ap (λ t. heard_in t) (sym (trace_through fs e.world))
+    ∙ stops.losing.follows.seen
+    ∙ ap (λ es. map shown_alike es) (runs_seen (λ run. record run { is_over = true }) r q)
 seen_in e q (dropping taker final below f b it nested drops) = drops_seen taker final below f b e q drops
 seen_in e q (forgetting taker final below f b it nested stops) =
     stops.forgotten.follows.seen

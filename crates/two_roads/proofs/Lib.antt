@@ -8,6 +8,7 @@ pub mod PlainCalls
 pub mod Both
 pub mod Inner
 pub mod InDrop
+pub mod Refusing
 pub mod Meant
 pub mod Acted
 pub mod ActedToEnd

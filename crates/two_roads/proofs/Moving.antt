@@ -1,5 +1,5 @@
 -- What the plain scheduler does step by step is what that with other names does, where as many may lie as both choices tell.
-use Rattle.std.proofs.Common.{◌⊎◌, ◌≡◌, ℕ, zero, suc, ◌-◌, ◌≤◌, min, not, is_some, nat_lt, count_by, cond, Bool, true, false, List, [], ◌∷◌}
+use Rattle.std.proofs.Common.{◌≡◌, ℕ, zero, suc, ◌-◌, ◌≤◌, min, not, is_some, nat_lt, count_by, cond, Bool, true, false, List, [], ◌∷◌}
 use Rattle.std.proofs.Common.{◌++◌}
 use Rattle.std.proofs.Common.{length, map, find, Option, Some, None, slice_get, slice_set, refl, sym, ap, subst, ◌∙◌}
 use Rattle.std.specs.Option.{option_map}
@@ -8,7 +8,7 @@ use Rattle.executor_parts.specs.declared.mark.Mark.TheVariants.{Plain as PlainMa
 use Rattle.task_moves.specs.AbstractTask as abstract
 use Rattle.task_moves.specs.AbstractTask.{AbstractTask}
 use Rattle.task_moves.specs.LocalTask.{info_of, told}
-use Rattle.plain_scheduler.specs.State.{Calls, Choice, Code, Due, Event, Future, Granted, Lying, Plain, Running, Who}
+use Rattle.plain_scheduler.specs.State.{Calls, Choice, Code, Due, Event, Future, Lying, Plain, Running, Who}
 use Rattle.plain_scheduler.specs.Lists.{any, each, on, or, repeat, without}
 use Rattle.plain_scheduler.specs.Moves.{appended, becomes, called, changed, copied, enters, given_back, is_called, is_kept, keeps}
 use Rattle.plain_scheduler.specs.Moves.{leaves, let_go, lies, mark, moved, no_task, put, release, runs, see, task, tell, told_at, up}
@@ -30,7 +30,7 @@ pub record Setting (T U A B : Type 0) : Type 0 where
   pub many : ℕ
   pub low : many ≤ choice.tells
   pub low_as : many ≤ other.tells
-  pub refusal : (choice.refusal ≡ other.refusal) ⊎ (choice.refusal ≡ Granted)
+  pub refusal : choice.refusal ≡ other.refusal
 
 module _ {T U A B : Type 0} (k : Setting T U A B) where
   abbrev pub its_task : AbstractTask T A → AbstractTask U B

@@ -1,6 +1,6 @@
 -- How many turns the executor of one owner takes in a call in which no run goes on.
 use Rattle.std.proofs.Common.{◌≡◌, ◌+◌, ◌^◌, ◌%◌, ℕ, zero, suc, List, ◌∷◌, Bool, false, Option, Some, None}
-use Rattle.std.proofs.Common.{◌≤◌, refl, sym, ap, ◌∙◌, length, slice_get}
+use Rattle.std.proofs.Common.{◌≤◌, true, refl, sym, ap, ◌∙◌, length, slice_get}
 use Rattle.solo.specs.declared.names.Task.{Task}
 use Rattle.solo.specs.declared.names.SoloWaker.{SoloWaker}
 use Rattle.solo.specs.declared.names.SoloWaker.TheVariants.{Task as OfTask, Outside}
@@ -36,7 +36,7 @@ use Rattle.solo_laws.proofs.Turning.{At, begun_at, left_at, let_go_at, lined_if_
 use Rattle.solo_laws.proofs.Turning.{searched_turn, tick_left_at, told_at}
 use Rattle.two_roads.proofs.SoloTicks.{rested_turns, taken_turns}
 use Rattle.two_roads.specs.Acting.{goes_on_in, takes_for_run}
-use Rattle.two_roads.specs.Turns.{CallsTakeTurns, turned_in, turns_of}
+use Rattle.two_roads.specs.Turns.{CallsTakeTurns, polls_tick, turned_in, turns_of}
 
 -- one that a run took ends, behind which the run goes on
 for_run : {T X : Type 0} (p : Plain T (SoloWaker X)) (stage : Stage T (SoloWaker X)) (r : ℕ) (w : SoloWaker X) (rest : List (Code T (SoloWaker X)))
@@ -167,7 +167,7 @@ module _ {F T X : Type 0} where
 
 pub call_turns : {F T X : Type 0} (its : ℕ → Lent) (owner : Owner) (c : Choice) (s : Solo F T X) (p : Plain T (SoloWaker X)) (now : Owner)
     (z : Solo F T X) (call : Call T (SoloWaker X)) (shown : List (Event T (SoloWaker X))) → Known its owner s p → length p.lying ≤ c.tells
-    → Acts its owner c s p call shown now z → c.refusal ≡ Granted → takes_for_run p call ≡ false → Turns p call s z
+    → Acts its owner c s p call shown now z → (polls_tick call ≡ true → c.refusal ≡ Granted) → takes_for_run p call ≡ false → Turns p call s z
 call_turns its owner c s p now z call shown known many (courses.makes call' shown' z' how) granted alone =
     makes_turns its c s z' p call' shown' how
 call_turns its owner c s p now z call shown known many (courses.makes_tick t new may) granted alone = refl
@@ -195,9 +195,9 @@ call_turns its owner c s p now z call shown known many (courses.run_leaves runne
     drains_at s.lines.turn (suc (own.count_of runner.number s.runs))
     (runs.leave_answer runner (ticker_of owner.number (ARun runner.number) p.lying) s) (runs.left runner s) refl
 call_turns its owner c s p now z call shown known many (courses.makes_no_tick refused) granted alone = refl
-call_turns its owner c s p now z call shown known many (courses.tick_refused t w lives found first refused) granted alone = let no : ◌≡◌ {A = Refusal} Granted AtOnce = sym granted ∙ refused in absurd cc
+call_turns its owner c s p now z call shown known many (courses.tick_refused t w lives found first refused) granted alone = let no : ◌≡◌ {A = Refusal} Granted AtOnce = sym (granted refl) ∙ refused in absurd cc
 call_turns its owner c s p now z call shown known many (courses.tick_lies_refused t w lives found first refused names again more life) granted alone =
-    let no : ◌≡◌ {A = Refusal} Granted Later = sym granted ∙ refused in absurd cc
+    let no : ◌≡◌ {A = Refusal} Granted Later = sym (granted refl) ∙ refused in absurd cc
 call_turns its owner c s p now z call shown known many (courses.tick_leaves t lives life) granted alone =
     tick_left_at s.lines.turn (ticker_of owner.number (ATick t) p.lying) s refl
 

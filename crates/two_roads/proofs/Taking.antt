@@ -1,5 +1,5 @@
 -- And so it is with a future that is taken, with what becomes of it, and with what then goes on.
-use Rattle.std.proofs.Common.{◌⊎◌, inl, inr, ◌≡◌, ℕ, suc, ◌+◌, ◌==◌, ◌≤◌, nat_lt, cond, Bool, true, false, List, [], ◌∷◌, ◌++◌, length}
+use Rattle.std.proofs.Common.{◌≡◌, ℕ, suc, ◌+◌, ◌==◌, ◌≤◌, nat_lt, cond, Bool, true, false, List, [], ◌∷◌, ◌++◌, length}
 use Rattle.std.proofs.Common.{map, find}
 use Rattle.std.proofs.Common.{Option, Some, None, slice_get, refl, sym, ap, subst, ◌∙◌}
 use Rattle.std.specs.Option.{option_map}
@@ -18,9 +18,9 @@ use Rattle.plain_scheduler.specs.Moves.{answers, called, chosen, copied, enters,
 use Rattle.plain_scheduler.specs.Moves.{put}
 use Rattle.plain_scheduler.specs.Moves.{runs, see, task, tell, up, wake}
 use Rattle.plain_scheduler.specs.Takes as takes
-use Rattle.two_roads.specs.Renaming.{is_refusal, AreBothDue, GoesOnAlike, GoesOnIf, RunsAlike, TakesAlike}
+use Rattle.two_roads.specs.Renaming.{AreBothDue, GoesOnAlike, GoesOnIf, RunsAlike, TakesAlike}
 use Rattle.two_roads.specs.Renaming.{answer_as, end_as, event_as, lying_as, taker_as}
-use Rattle.two_roads.proofs.Words.{find_map, map_append, without_map, none_before, not_last}
+use Rattle.two_roads.proofs.Words.{find_map, map_append, without_map}
 use Rattle.two_roads.proofs.Tasks.{begins_so, finishes_so, left_as, ready_so}
 use Rattle.two_roads.proofs.Moving.{Alike, Few, Goes, Setting, andthen, called_alike, changed_alike, copied_alike, each_alike}
 use Rattle.two_roads.proofs.Moving.{enters_alike}
@@ -74,39 +74,24 @@ module _ {T U A B : Type 0} (k : Setting T U A B) where
   tells_as p = tell k.wakes_as k.other p
 
   -- at the end of a call one more may lie
-  -- the same is refused, or nothing was
-  abbrev pub Allowed : Plain U B → Type 0
-  Allowed y = (k.choice.refusal ≡ k.other.refusal) ⊎ (any is_refusal y.events ≡ false)
-
   abbrev pub Same : Plain T A → Plain U B → Type 0
-  Same x y = Allowed y → now k x ≡ y
-
-  pub always : (x : Plain T A) (y : Plain U B) → now k x ≡ y → Same x y
-  always x y is allowed = is
+  Same x y = now k x ≡ y
 
   pub stays_same : (p : Plain T A) → Same p (now k p)
-  stays_same p allowed = refl
-
-  earlier : (e : Event U B) (y : Plain U B) → Allowed (see e y) → Allowed y
-  earlier e y (inl same) = inl same
-  earlier e y (inr none) = inr (none_before is_refusal y.events e none)
-
-  pub not_refused : (y : Plain U B) → Allowed (answers NoMemory y) → ¬ (k.choice.refusal ≡ k.other.refusal) → ⊥
-  not_refused y (inl same) other = other same
-  not_refused y (inr none) other = not_last is_refusal y.events (Answers NoMemory) refl none
+  stays_same p = refl
 
   pub into : {x : Plain T A} {y : Plain U B} (f : Plain T A → Plain T A) (g : Plain U B → Plain U B) → Alike k x y
       → ((p : Plain T A) → Few k p → Same (f p) (g (now k p))) → Same (f x) (g y)
-  into {x = x} f g one next allowed = next x one.few (subst Allowed (ap g (sym one.same)) allowed) ∙ ap g one.same
+  into {x = x} f g one next = next x one.few ∙ ap g one.same
 
   pub if_same : (b : Bool) (x x2 : Plain T A) (y y2 : Plain U B) → Same x y → Same x2 y2 → Same (cond b x x2) (cond b y y2)
   if_same true x x2 y y2 one two = one
   if_same false x x2 y y2 one two = two
 
   pub see_same : (e : Event T A) (x : Plain T A) (y : Plain U B) → Same x y → Same (see e x) (see (event_as k.output k.waker e) y)
-  see_same e x y is allowed =
+  see_same e x y is =
       ap (λ es. record (now k x) { events = es }) (map_append (event_as k.output k.waker) x.events (e ∷ []))
-      ∙ ap (λ (q : Plain U B). see (event_as k.output k.waker e) q) (is (earlier (event_as k.output k.waker e) y allowed))
+      ∙ ap (λ (q : Plain U B). see (event_as k.output k.waker e) q) is
 
   pub answers_same : (a : Answer T) (x : Plain T A) (y : Plain U B) → Same x y → Same (answers a x) (answers (answer_as k.output a) y)
   answers_same a x y is = see_same (Answers a) x y is
@@ -175,7 +160,7 @@ module _ {T U A B : Type 0} (k : Setting T U A B) where
   -- it lies
   lain_same : (who : Who) (w : A) (p : Plain T A)
       → Same (takes.lain k.wakes c who w p) (takes.lain k.wakes_as d who (k.waker w) (now k p))
-  lain_same who w p allowed =
+  lain_same who w p =
       ap (λ ls. record (now k p) { lying = ls })
       (map_append lain_as (without (lies who) p.lying) (record { who = who; waker = Some w } ∷ [])
       ∙ ap (λ ls. ls ++ record { who = who; waker = Some (k.waker w) } ∷ [])
@@ -183,7 +168,7 @@ module _ {T U A B : Type 0} (k : Setting T U A B) where
 
   lain_again_same : (who : Who) (w old : A) (p : Plain T A) → Few k p
       → Same (takes.lain_again k.wakes c who w old p) (takes.lain_again k.wakes_as d who (k.waker w) (k.waker old) (now k p))
-  lain_again_same who w old p few allowed =
+  lain_again_same who w old p few =
       let p1 : Plain T A = record p { lying = map (λ l. cond (lies who l) (record l { waker = Some w }) l) p.lying } in
       (goes_alike k old p1 (subst (λ n. n ≤ k.many) (sym (long p.lying)) few)).same
       ∙ ap (λ ls. let_go k.wakes_as tells_as (k.waker old) (record (now k p) { lying = ls })) (again p.lying)
@@ -257,31 +242,9 @@ module _ {T U A B : Type 0} (k : Setting T U A B) where
 
   rests_so : (who : Who) (w : A) (p : Plain T A) → Few k p
       → Same (takes.rests k.wakes c c.refusal who w p) (takes.rests k.wakes_as d d.refusal who (k.waker w) (now k p))
-  rests_so who w p few = by k.refusal
-    where
-      granted : (r : Refusal) → d.refusal ≡ r → c.refusal ≡ Granted
-          → Same (takes.rests k.wakes c c.refusal who w p) (takes.rests k.wakes_as d r who (k.waker w) (now k p))
-      granted Granted is so =
-          subst
-          (λ r. Same (takes.rests k.wakes c r who w p) (takes.rests k.wakes_as d Granted who (k.waker w) (now k p))) (sym so)
-          (rests_same Granted who w p few)
-      granted AtOnce is so = λ allowed. absurd (not_refused (now k p) allowed (λ same. at_once (sym so ∙ (same ∙ is))))
-        where
-          at_once : Granted ≡ AtOnce → ⊥
-          at_once e = cc
-      granted Later is so =
-          λ allowed.
-          absurd (not_refused (takes.lies_down k.wakes_as d who (k.waker w) (now k p)) allowed (λ same. later (sym so ∙ (same ∙ is))))
-        where
-          later : Granted ≡ Later → ⊥
-          later e = cc
-
-      by : (c.refusal ≡ d.refusal) ⊎ (c.refusal ≡ Granted)
-          → Same (takes.rests k.wakes c c.refusal who w p) (takes.rests k.wakes_as d d.refusal who (k.waker w) (now k p))
-      by (inl same) =
-          subst (λ r. Same (takes.rests k.wakes c c.refusal who w p) (takes.rests k.wakes_as d r who (k.waker w) (now k p))) same
-          (rests_same c.refusal who w p few)
-      by (inr so) = granted d.refusal refl so
+  rests_so who w p few =
+      subst (λ r. Same (takes.rests k.wakes c c.refusal who w p) (takes.rests k.wakes_as d r who (k.waker w) (now k p))) k.refusal
+      (rests_same c.refusal who w p few)
 
   nothing_same : (by : Taker A) (p : Plain T A) → Few k p
       → Same (takes.nothing k.wakes c by p) (takes.nothing k.wakes_as d (taker by) (now k p))
@@ -320,7 +283,7 @@ module _ {T U A B : Type 0} (k : Setting T U A B) where
           (or o (λ due. takes.takes k.wakes_as d (taker by) due (record (now k p) { due = without test p.due }))
           (takes.nothing k.wakes_as d (taker by) (now k p)))
       found None = nothing_same by p few
-      found (Some due) = λ allowed. (takes_alike by due (goes_on by alike) (record p { due = without test p.due }) few).same
+      found (Some due) = (takes_alike by due (goes_on by alike) (record p { due = without test p.due }) few).same
 
   -- what goes on after a future
   gives_way_same : (r : ℕ) (w : A) (p : Plain T A) → Few k p
@@ -348,8 +311,8 @@ module _ {T U A B : Type 0} (k : Setting T U A B) where
       by : (p : Plain T A) → Few k p → (o : Option ℕ)
           → Same (or o (λ f. wake k.wakes tells f p) (see (Calls w) p))
           (or o (λ f. wake k.wakes_as tells_as f (now k p)) (see (Calls (k.waker w)) (now k p)))
-      by p few None = λ allowed. (see_alike k (Calls w) p few).same
-      by p few (Some f) = λ allowed. (wake_alike k tells tells_as (tell_alike k) f p few).same
+      by p few None = (see_alike k (Calls w) p few).same
+      by p few (Some f) = (wake_alike k tells tells_as (tell_alike k) f p few).same
 
   pub next_same : (by : Taker A) → GoesOnAlike c d by → (p : Plain T A) → Few k p
       → Same (takes.next k.wakes c by p) (takes.next k.wakes_as d (taker by) (now k p))
@@ -407,7 +370,6 @@ module _ {T U A B : Type 0} (k : Setting T U A B) where
           (λ w. goes_alike k w p few))
           (lost_same l.called by on_so)
       dropped (Some v) =
-          λ allowed.
           (andthen k (enters (Lose l.called by)) (enters (Lose (option_map k.waker l.called) (option_map (taker_as k.waker) by)))
           (see_alike k (Loses v) p few) (enters_alike k (Lose l.called by))).same
 

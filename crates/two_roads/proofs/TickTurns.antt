@@ -1,6 +1,6 @@
 -- How many turns a tick's poll takes in the machine: one where it finds a future or lies with a waker, else two.
 use Rattle.std.proofs.Common.{◌≡◌, ◌<◌, ◌++◌, ℕ, zero, suc, List, [], ◌∷◌, Bool, true, false, nat_lt, length, get_or, Option, Some, None}
-use Rattle.std.proofs.Common.{refl, sym, ap, ◌∙◌, subst, arith, if◌then◌else◌}
+use Rattle.std.proofs.Common.{append_assoc, refl, sym, ap, ◌∙◌, subst, arith, if◌then◌else◌}
 use Rattle.std.specs.Prelude.{find, is_some}
 use Rattle.std.proofs.lemmas.List.{get_or-set_same}
 use Rattle.executor_parts.specs.Marks.{first_of, other, turn_after}
@@ -31,7 +31,7 @@ use Rattle.executor_model.specs.Steps.{lives, waits}
 use Rattle.executor_model.specs.Trace.{Trace}
 use Rattle.executor_model.specs.Weights.{weigh}
 use Rattle.executor_model.specs.World.{Asleep, Awake, Left, Ticker, World, done, log, place_of, put_place, put_sleepers, queue_of, tick_of}
-use Rattle.plain_scheduler.specs.State.{ATick, Event as Sight, Lying, Plain}
+use Rattle.plain_scheduler.specs.State.{ATick, Answers, NoMemory, Event as Sight, Lying, Plain}
 use Rattle.plain_scheduler.specs.Lists.{any, or}
 use Rattle.plain_scheduler.specs.Moves.{is_common, lies}
 use Rattle.machine_roads.specs.Alone.{SleepsAlone, alone, is_outside, is_resting, one_by}
@@ -46,7 +46,7 @@ use Rattle.machine_roads.proofs.LoneRuns.{both_true, not_true}
 use Rattle.machine_roads.proofs.Numbers.{IsNamed, Rests, down, rests_if, up}
 use Rattle.machine_roads.proofs.Replacing.{position_last}
 use Rattle.machine_roads.proofs.TickPolls.{none_in}
-use Rattle.two_roads.specs.Renaming.{is_refusal}
+use Rattle.two_roads.specs.Refusing.{ends_refused}
 use Rattle.two_roads.specs.Turns.{lies_uncalled, tick_turns, turned as turned_by}
 use Rattle.two_roads.proofs.Seeking.{alone_still, due, due_push, due_resting, seeks}
 
@@ -62,17 +62,18 @@ resting_stays p (h ∷ hs) w (op.User (user_op.PollOwn x) ∷ os) rests = restin
 resting_stays p (h ∷ hs) w (op.User (user_op.DropOwn r) ∷ os) rests = resting_stays p hs w (op.User (user_op.DropOwn r) ∷ os) rests
 resting_stays p (h ∷ hs) w (o ∷ os) rests = absurd cc
 
-refused_heard : (p : ℕ) (es : Trace) → any is_refusal (heard_in (es ++ event.CallEnded p reply.NoMemory ∷ [])) ≡ true
-refused_heard p [] = refl
-refused_heard p (e ∷ es) = by (heard e) (heard_in (es ++ event.CallEnded p reply.NoMemory ∷ [])) (refused_heard p es)
-  where
-    by : (xs ys : List (Sight Output Waker)) → any is_refusal ys ≡ true → any is_refusal (xs ++ ys) ≡ true
-    by [] ys some = some
-    by (x ∷ xs) ys some = first (is_refusal x) (any is_refusal (xs ++ ys)) (by xs ys some)
-      where
-        first : (a b : Bool) → b ≡ true → (if a then true else b) ≡ true
-        first true b some = refl
-        first false b some = some
+last_refused : (xs : List (Sight Output Waker)) → ends_refused (xs ++ Answers NoMemory ∷ []) ≡ true
+last_refused [] = refl
+last_refused (x ∷ []) = refl
+last_refused (x ∷ y ∷ ys) = last_refused (y ∷ ys)
+
+heard_append : (es fs : Trace) → heard_in (es ++ fs) ≡ heard_in es ++ heard_in fs
+heard_append [] fs = refl
+heard_append (e ∷ es) fs = ap (λ xs. heard e ++ xs) (heard_append es fs) ∙ sym (append_assoc (heard e) (heard_in es) (heard_in fs))
+
+refused_heard : (p : ℕ) (es : Trace) → ends_refused (heard_in (es ++ event.CallEnded p reply.NoMemory ∷ [])) ≡ true
+refused_heard p es =
+    ap (λ xs. ends_refused xs) (heard_append es (event.CallEnded p reply.NoMemory ∷ [])) ∙ last_refused (heard_in es)
 
 copied_queues : (w : World) (a : Waker) (m : Mark) → queue_of (copied w a) m ≡ queue_of w m
 copied_queues w (Task g) m = refl
@@ -108,7 +109,7 @@ module _ (p : ℕ) (below : List Op) (under : is_resting below ≡ true) (t : �
   -- wherever it rests, so many turns are taken, if no memory was refused
   abbrev Comes : List Hint → World → List Op → ℕ → Type 0
   Comes hs w os n =
-      is_resting (alone p hs (done w os)).next ≡ true → any is_refusal (heard_in (alone p hs (done w os)).world.trace) ≡ false
+      is_resting (alone p hs (done w os)).next ≡ true → ends_refused (heard_in (alone p hs (done w os)).world.trace) ≡ false
       → (alone p hs (done w os)).world.urgent_turns ≡ n
 
   abbrev IsEmpty : World → Type 0
@@ -122,7 +123,7 @@ module _ (p : ℕ) (below : List Op) (under : is_resting below ≡ true) (t : �
   refused (h ∷ hs) w held n rests quiet =
       let w1 = log w (event.CallEnded p reply.NoMemory) in
       absurd
-      (clash (ap (λ d. any is_refusal (heard_in d.world.trace)) (sym (resting_stays p hs w1 below under)) ∙ quiet)
+      (clash (ap (λ d. ends_refused (heard_in d.world.trace)) (sym (resting_stays p hs w1 below under)) ∙ quiet)
       (refused_heard p w.trace))
 
   looks_light : (x : Ticker) (w : World) (l : Look) (f : ℕ) (rest : List ℕ) → due ((look_tick_by x w l (f ∷ rest) s).next ++ below) ≡ 0

@@ -73,25 +73,3 @@ last_at tells n enough = omega (arith, enough)
 
 pub at_most : (a b c : ℕ) → a ≤ b → b ≤ c → a ≤ c
 at_most a b c one two = omega (arith, one, two)
-
--- one that comes last
-module _ {A : Type 0} (test : A → Bool) where
-  pub none_before : (xs : List A) (x : A) → any test (xs ++ x ∷ []) ≡ false → any test xs ≡ false
-  none_before [] x none = refl
-  none_before (y ∷ ys) x none = by (test y) (none_before ys x) none
-    where
-      by : (b : Bool) → (any test (ys ++ x ∷ []) ≡ false → any test ys ≡ false) → cond b true (any test (ys ++ x ∷ [])) ≡ false
-          → cond b true (any test ys) ≡ false
-      by true rest none = none
-      by false rest none = rest none
-
-  pub not_last : (xs : List A) (x : A) → test x ≡ true → any test (xs ++ x ∷ []) ≡ false → ⊥
-  not_last [] x is none = clash (ap (λ b. cond b true false) is) none
-    where
-      clash : {b : Bool} → b ≡ true → b ≡ false → ⊥
-      clash on off = absurd cc
-  not_last (y ∷ ys) x is none = by (test y) (not_last ys x is) none
-    where
-      by : (b : Bool) → (any test (ys ++ x ∷ []) ≡ false → ⊥) → cond b true (any test (ys ++ x ∷ [])) ≡ false → ⊥
-      by true rest none = absurd cc
-      by false rest none = rest none

@@ -4,15 +4,14 @@ use Rattle.executor_parts.specs.Marks.{first_of}
 use Rattle.executor_model.specs.declared.op.Waker.{Waker}
 use Rattle.executor_model.specs.Steps.{Machine}
 use Rattle.solo.specs.declared.names.SoloWaker.{SoloWaker}
-use Rattle.plain_scheduler.specs.State.{Choice, Code, Drop, Granted, Lose, Plain, Poll, PollOwn, Run, Taker}
-use Rattle.plain_scheduler.specs.Lists.{any}
+use Rattle.plain_scheduler.specs.State.{Choice, Code, Drop, Lose, Plain, Poll, PollOwn, Run, Taker}
 use Rattle.plain_scheduler.specs.Calls.{Call, DropExecutor, Ends, Pends, PollTick, TryTick, does}
 use Rattle.machine_roads.specs.DropActs.{DropActAlike}
-use Rattle.machine_roads.specs.Seeing.{heard_in}
 use Rattle.machine_roads.specs.View.{Output}
 use Rattle.machine_roads.specs.Within.{Act, ActAlike, IsMade}
 use Rattle.solo_laws.specs.Road.{wakes}
-use Rattle.two_roads.specs.Renaming.{AreBothDue, call_as, is_refusal}
+use Rattle.two_roads.specs.Refusing.{asks_memory, refused_in}
+use Rattle.two_roads.specs.Renaming.{AreBothDue, call_as}
 use Rattle.two_roads.specs.Together.{nothing, numbered}
 
 -- each act is a call, or the end of the innermost code as the machine's step has it
@@ -54,11 +53,11 @@ looks_first (PollTick t w) = true
 looks_first _ = false
 
 module _ {T X : Type 0} (number : X → ℕ) where
-  -- a call of an executor of one owner is what the machine's step begins or ends. Memory is refused to neither, and no run takes a future
+  -- a call of an executor of one owner is what the machine's step begins or ends. Where it asks for memory, this is refused to it as it is
+  -- in the act; and no run takes a future
   pub record IsOfStep (s : Machine) (a : Act) (p : Plain T (SoloWaker X)) (c : Choice) (call : Call T (SoloWaker X)) : Type 0 where
     pub made : IsMade s a.party a.first (call_as nothing (numbered number) call)
-    pub granted : c.refusal ≡ Granted
-    pub unrefused : any is_refusal (heard_in a.left.world.trace) ≡ false
+    pub refused : asks_memory call ≡ true → c.refusal ≡ refused_in s a
     pub runless : takes_for_run p call ≡ false
 
   -- and where a try or a tick's poll looks for a future while futures of both marks are due, it looks first at the mark that the other's

@@ -1,5 +1,6 @@
 pub mod Renaming
 pub mod Plainly
 pub mod Together
+pub mod Refusing
 pub mod Acting
 pub mod Turns

@@ -1,5 +1,5 @@
 -- How many turns of the executor's two queues a call takes, as the plain scheduler has it, where no run goes on.
-use Rattle.std.specs.Prelude.{◌≡◌, ℕ, zero, suc, ◌+◌, ◌^◌, ◌%◌, Bool, true, false, List, Ok, find, if◌then◌else◌, is_some, reverse, length, ◌≤◌}
+use Rattle.std.specs.Prelude.{◌≡◌, ℕ, zero, suc, ◌+◌, ◌^◌, ◌%◌, Bool, true, false, List, [], ◌∷◌, Ok, find, if◌then◌else◌, is_some, reverse, length, ◌≤◌}
 use Rattle.executor_parts.specs.Marks.{turn_after}
 use Rattle.executor_model.specs.declared.kind.Kind.{Kind}
 use Rattle.executor_model.specs.declared.op.Waker.{Waker}
@@ -21,7 +21,7 @@ use Rattle.solo_laws.specs.Courses.{Acts}
 use Rattle.solo_laws.specs.Led.{IsLed}
 use Rattle.solo_laws.specs.Owner.{Owner}
 use Rattle.two_roads.specs.Acting.{takes_for_run}
-use Rattle.two_roads.specs.Renaming.{is_refusal}
+use Rattle.two_roads.specs.Refusing.{ends_refused}
 
 -- it lies, and wasn't called
 abbrev pub lies_uncalled : {A : Type 0} → Who → List (Lying A) → Bool
@@ -49,19 +49,28 @@ abbrev pub turned_in : ℕ → ℕ → ℕ
 turned_in zero n = n
 turned_in (suc k) n = turned_in k ((n + 1) % 2 ^ 64)
 
--- so many the machine takes in the act that is this call, if memory is refused to nobody
+abbrev pub polls_tick : {T A : Type 0} → Call T A → Bool
+polls_tick (PollTick t w) = true
+polls_tick _ = false
+
+-- no tick that is polled is refused memory
+abbrev pub TicksGranted : {T A : Type 0} → List Act → List (Choice × Call T A) → Type 0
+TicksGranted (a ∷ acts) (x ∷ xs) = (polls_tick x.1 ≡ true → ends_refused (heard_in a.left.world.trace) ≡ false) × TicksGranted acts xs
+TicksGranted acts xs = Unit {0}
+
+-- so many the machine takes in the act that is this call, where that is no tick's poll to which memory is refused
 abbrev pub ActsTakeTurns : Type 0
 ActsTakeTurns =
     (limit : ℕ) (kind : Kind) (parties : ℕ) (steps : List Step) (s : Machine) → run_all steps (start limit kind parties) ≡ Ok s
     → (q : Plain Output Waker) (a : Act) (call : Call Output Waker) → StandsAlike (standing s a.party) q → IsAct s a
     → is_on_way (reverse (stack s a.party)) a.first ≡ true → IsMade s a.party a.first call
-    → any is_refusal (heard_in a.left.world.trace) ≡ false → takes_for_run q call ≡ false
+    → (polls_tick call ≡ true → ends_refused (heard_in a.left.world.trace) ≡ false) → takes_for_run q call ≡ false
     → a.left.world.urgent_turns ≡ turned (turns_of q call) s.world.urgent_turns
 
--- and so many the executor of one owner, to which memory isn't refused
+-- and so many the executor of one owner
 abbrev pub CallsTakeTurns : Type 0 → Type 0 → Type 0 → Type 0
 CallsTakeTurns F T X =
     (its : ℕ → Lent) (owner : Owner) (c : Choice) (s : Solo F T X) (p : Plain T (SoloWaker X)) (now : Owner) (z : Solo F T X)
     (call : Call T (SoloWaker X)) (shown : List (Event T (SoloWaker X))) → IsLed its owner s p → length p.lying ≤ c.tells
-    → Acts its owner c s p call shown now z → c.refusal ≡ Granted → takes_for_run p call ≡ false
-    → z.lines.turn ≡ turned_in (turns_of p call) s.lines.turn
+    → Acts its owner c s p call shown now z → (polls_tick call ≡ true → c.refusal ≡ Granted)
+    → takes_for_run p call ≡ false → z.lines.turn ≡ turned_in (turns_of p call) s.lines.turn

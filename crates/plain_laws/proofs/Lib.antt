@@ -1,0 +1,12 @@
+pub mod Words
+pub mod Walk
+pub mod Calling
+pub mod Marked
+pub mod Lines
+pub mod Waits
+pub mod InOrder
+pub mod Altogether
+pub mod TakesDue
+pub mod Idle
+pub mod Over
+pub mod Begun

@@ -1,0 +1,173 @@
+-- A run that is polled takes one, where some future is due.
+use Rattle.std.proofs.Common.{◌≡◌, ℕ, ◌+◌, ◌==◌, is_some, nat_lt, count_by, cond, find, Bool, true, false, List, [], ◌∷◌, ◌++◌, Option}
+use Rattle.std.proofs.Common.{Some, None, slice_get, slice_set, refl, sym, subst, ap, ◌∙◌}
+use Rattle.executor_parts.specs.Marks.{other}
+use Rattle.task_moves.specs.AbstractTask as abstract
+use Rattle.plain_scheduler.specs.State.{ARun, Choice, Closed, Code, Drops, Due, Plain, Poll, PollOwn, Polls, Run, Running}
+use Rattle.plain_scheduler.specs.Lists.{any, on, or, repeat, without}
+use Rattle.plain_scheduler.specs.Moves.{chosen, enters, is_common, is_due, is_kept, keeps, looks, moved, put, runs, see, task, tell, up}
+use Rattle.plain_scheduler.specs.Takes as takes
+use Rattle.plain_scheduler.specs.Calls as calls
+use Rattle.plain_laws.specs.Order.{TakesDue, count, last_begun}
+use Rattle.plain_laws.proofs.Words.{at, at_more, below_next, is_itself, set_there}
+use Rattle.plain_laws.proofs.Walk.{Keeps, Lasts, each_good, if_so, on_good, put_good, repeat_good, tell_good, up_good}
+use Rattle.plain_laws.proofs.Marked.{changed_marks}
+use Rattle.plain_laws.proofs.InOrder.{count_so, count_there, last_of}
+use Rattle.plain_laws.proofs.Waits.{clash, pick, taken_of}
+
+-- one that passes a test is found, and is due
+some_found : (t : Due → Bool) (due : List Due) → any t due ≡ true → is_some (find t due) ≡ true
+some_found t [] is = absurd cc
+some_found t (d ∷ due) is = by (t d) (some_found t due) is
+  where
+    by : (b : Bool) → (any t due ≡ true → is_some (find t due) ≡ true) → cond b true (any t due) ≡ true
+        → is_some (cond b (Some d) (find t due)) ≡ true
+    by true rest is = refl
+    by false rest is = rest is
+
+found_due : (t : Due → Bool) (due : List Due) (d : Due) → find t due ≡ Some d → any (λ (e : Due). d.future == e.future) due ≡ true
+found_due t [] d is = absurd cc
+found_due t (e ∷ due) d is = by (t e) (found_due t due d) is
+  where
+    the_same : Some e ≡ Some d → d ≡ e
+    the_same is = cc
+
+    late : (b : Bool) → any (λ (e : Due). d.future == e.future) due ≡ true
+        → cond b true (any (λ (e : Due). d.future == e.future) due) ≡ true
+    late true is = refl
+    late false is = is
+
+    by : (b : Bool) → (find t due ≡ Some d → any (λ (e : Due). d.future == e.future) due ≡ true) → cond b (Some e) (find t due) ≡ Some d
+        → cond (d.future == e.future) true (any (λ (e : Due). d.future == e.future) due) ≡ true
+    by true rest is =
+        ap (λ b. cond b true (any (λ (e : Due). d.future == e.future) due))
+        (ap (λ (x : Due). d.future == x.future) (sym (the_same is)) ∙ is_itself d.future)
+    by false rest is = late (d.future == e.future) (rest is)
+
+abbrev Found : List Due → (Due → Bool) → Type 0
+Found due t = is_some (find t due) ≡ true
+
+chosen_found : (r : ℕ) (c : Choice) (due : List Due) → any is_due due ≡ true
+    → is_some (find (chosen (is_kept r ∷ is_common c.first ∷ is_common (other c.first) ∷ is_kept c.robs ∷ is_due ∷ []) due) due) ≡ true
+chosen_found r c due some =
+    pick (Found due) (is_kept r) (is_common c.first ∷ is_common (other c.first) ∷ is_kept c.robs ∷ is_due ∷ []) due
+    (some_found (is_kept r) due)
+    (λ a.
+    pick (Found due) (is_common c.first) (is_common (other c.first) ∷ is_kept c.robs ∷ is_due ∷ []) due (some_found (is_common c.first) due)
+    (λ b.
+    pick (Found due) (is_common (other c.first)) (is_kept c.robs ∷ is_due ∷ []) due (some_found (is_common (other c.first)) due)
+    (λ e.
+    pick (Found due) (is_kept c.robs) (is_due ∷ []) due (some_found (is_kept c.robs) due)
+    (λ f. pick (Found due) is_due [] due (some_found is_due due) (λ g. absurd (clash (any is_due due) some g))))))
+
+module _ {T A : Type 0} (r n : ℕ) where
+  abbrev Counts : Plain T A → Type 0
+  Counts p = at taken_of p.runs r ≡ Some n
+
+  counts_last : Lasts Counts
+  counts_last =
+      record {
+        alike = λ p q one two three four good. subst (λ rs. at taken_of rs r ≡ Some n) three good;
+        changes =
+            λ h same f p good. changed_marks (λ of due runs. at taken_of runs r ≡ Some n) h same f p (λ fs are. good);
+        appends = λ f p is good. good;
+        accepts = λ x p good. good;
+        makes = λ x p good. at_more taken_of p.runs x r n good;
+      }
+
+  moved_counts : (k : ℕ) (test : Due → Bool) → Keeps Counts (moved k test)
+  moved_counts k test p good =
+      on_good Counts (find test p.due) (λ d p. record p { due = without test p.due ++ record d { keeper = Some k } ∷ [] })
+      (λ d p good. good) p good
+
+  keeps_counts : (k : ℕ) (test : Due → Bool) → Keeps Counts (keeps k test)
+  keeps_counts k test p good =
+      if_so Counts (nat_lt (count_by (is_kept k) p.due) 512) (moved k test p) p (moved_counts k test p good) good
+
+  module _ (wakes : A → Option ℕ) (c : Choice) (w : A) where
+    taken_counts : (d : Due)
+        → Keeps Counts (λ p. takes.kept wakes c r (tell wakes c (up wakes c (ARun r) (takes.robbed wakes c r d.keeper p))))
+    taken_counts d p good =
+        let p1 = takes.robbed wakes c r d.keeper p in
+        let p2 = up wakes c (ARun r) p1 in
+        each_good Counts c.keeps (λ mark. keeps r (is_common mark)) (λ mark. keeps_counts r (is_common mark)) (tell wakes c p2)
+        (tell_good Counts counts_last wakes c p2
+        (up_good Counts counts_last wakes c (ARun r) p1
+        (on_good Counts d.keeper (λ k p. cond (r == k) p (repeat c.moves (keeps r (is_kept k)) p))
+        (λ k p good.
+        if_so Counts (r == k) p (repeat c.moves (keeps r (is_kept k)) p) good
+        (repeat_good Counts c.moves (keeps r (is_kept k)) (keeps_counts r (is_kept k)) p good))
+        p good)))
+
+counted_so : {T A : Type 0} (r n : ℕ) (p : Plain T A) → at taken_of p.runs r ≡ Some n
+    → at taken_of (runs (λ run. record run { taken = run.taken + 1 }) r p).runs r ≡ Some (n + 1)
+counted_so r n p good = by (slice_get p.runs r) refl good
+  where
+    by : (o : Option Running) → slice_get p.runs r ≡ o → or o (λ x. Some x.taken) None ≡ Some n
+        → at taken_of (on o (λ x p. record p { runs = slice_set p.runs r (record x { taken = x.taken + 1 }) }) p).runs r ≡ Some (n + 1)
+    by None is good = absurd cc
+    by (Some x) is good =
+        ap (λ o. or o (λ (x : Running). Some x.taken) None) (set_there p.runs r (record x { taken = x.taken + 1 }) (ap is_some is))
+        ∙ ap (λ i. Some (i + 1)) (the_same is good)
+      where
+        the_same : slice_get p.runs r ≡ Some x → Some x.taken ≡ Some n → x.taken ≡ n
+        the_same is good = cc
+
+module _ {T A : Type 0} (wakes : A → Option ℕ) (c : Choice) (r : ℕ) (w : A) (n : ℕ) where
+  -- a future is begun, as the run has counted it
+  abbrev Begun : Due → Plain T A → Type 0
+  Begun d q = cond (nat_lt n (count r q)) (last_begun q.events) [] ≡ d.future ∷ []
+
+  begun_so : (d : Due) (q : Plain T A) → at taken_of q.runs r ≡ Some (n + 1) → last_begun q.events ≡ d.future ∷ [] → Begun d q
+  begun_so d q good seen =
+      ap (λ b. cond b (last_begun q.events) []) (ap (nat_lt n) (count_so r (n + 1) q good) ∙ below_next n) ∙ seen
+
+  run_begun : (d : Due) (p : Plain T A) → at taken_of p.runs r ≡ Some (n + 1) → Begun d (takes.run wakes c d.future (Run r w) p)
+  run_begun d p good =
+      let f = d.future in
+      let q = put f (abstract.begin_run (task f p)) p in
+      if_so (Begun d) (task f p).closed (takes.dropping wakes c f Closed (Run r w) p) (enters (Poll f (Run r w)) (see (Polls f) q))
+      (begun_so d (takes.dropping wakes c f Closed (Run r w) p) good (last_of p.events (Drops f)))
+      (begun_so d (enters (Poll f (Run r w)) (see (Polls f) q))
+      (put_good (λ p. at taken_of p.runs r ≡ Some (n + 1)) (counts_last r (n + 1)) wakes f (abstract.begin_run (task f p)) p good)
+      (last_of q.events (Polls f)))
+
+  take_begins : (p : Plain T A) → at taken_of p.runs r ≡ Some n → any is_due p.due ≡ true
+      → (d : Due) × (Begun d (takes.take wakes c (Run r w) p) × (any (λ (e : Due). d.future == e.future) p.due ≡ true))
+  take_begins p good some =
+      by (find test p.due) refl (chosen_found r c p.due some)
+    where
+      test : Due → Bool
+      test = chosen (looks c (Run r w)) p.due
+
+      by : (o : Option Due) → find (chosen (looks c (Run r w)) p.due) p.due ≡ o → is_some o ≡ true
+          → (d : Due)
+          × (Begun d
+          (or o (λ d. takes.takes wakes c (Run r w) d (record p { due = without (chosen (looks c (Run r w)) p.due) p.due }))
+          (takes.nothing wakes c (Run r w) p))
+          × (any (λ (e : Due). d.future == e.future) p.due ≡ true))
+      by None is one = absurd cc
+      by (Some d) is one =
+          let p1 : Plain T A = record p { due = without (chosen (looks c (Run r w)) p.due) p.due } in
+          let p4 = takes.kept wakes c r (tell wakes c (up wakes c (ARun r) (takes.robbed wakes c r d.keeper p1))) in (
+            d,
+            (
+              run_begun d (takes.counted wakes c r p4) (counted_so r n p4 (taken_counts r n wakes c w d p1 good)),
+              found_due (chosen (looks c (Run r w)) p.due) p.due d is,
+            ),
+          )
+
+module _ {T A : Type 0} (wakes : A → Option ℕ) (c : Choice) (r : ℕ) (w : A) where
+  pub takes_due : (p : Plain T A) (rest : List (Code T A)) → p.inside ≡ PollOwn r w ∷ rest → is_some (slice_get p.runs r) ≡ true
+      → any is_due p.due ≡ true → TakesDue wakes c r p
+  takes_due p rest inside there some =
+      let p1 : Plain T A = record p { inside = rest } in
+      let it = take_begins wakes c r w (count r p) p1 (count_there r p there) some in (
+        it.0.future,
+        (
+          subst
+              (λ codes. cond (nat_lt (count r p) (count r (calls.innermost wakes c codes (calls.pends wakes c) p)))
+              (last_begun (calls.innermost wakes c codes (calls.pends wakes c) p).events) [] ≡ it.0.future ∷ []) (sym inside) it.1.0,
+          it.1.1,
+        ),
+      )

@@ -209,7 +209,7 @@ module _ {T X : Type 0} (number : X → ℕ) where
       ∙ ap (course wakes_in (acts_by a.left go.0 acts go.3)) (sym go.1.so)
 
 module _ {F T X : Type 0} (its : ℕ → Lent) (number : X → ℕ) where
-  pub unrefused_together : (limit : ℕ) (kind : MachineKind) (solo_kind : Kind) (parties : ℕ) (acts : List Act)
+  pub runless_together : (limit : ℕ) (kind : MachineKind) (solo_kind : Kind) (parties : ℕ) (acts : List Act)
       (cs : List (Choice × Call T (SoloWaker X))) (first last : Solo F T X) (shown : List (Event T (SoloWaker X)))
       (before : Who → ℕ) (after : Owner) → AreActs (start limit kind parties) acts → IsNew limit solo_kind first
       → counts solo_kind ≡ not (is_static_kind kind)
@@ -217,7 +217,7 @@ module _ {F T X : Type 0} (its : ℕ → Lent) (number : X → ℕ) where
       → AreActed number (start limit kind parties) acts (new limit (is_static_kind kind)) cs
       → Stands its last (course wakes cs (new limit (is_static_kind kind)))
       × (heard_in (left_of (start limit kind parties) acts).world.trace ≡ as_heard number shown)
-  unrefused_together limit kind solo_kind parties acts cs first last shown before after they is_new counted led are =
+  runless_together limit kind solo_kind parties acts cs first last shown before after they is_new counted led are =
       let s = start limit kind parties in
       let q : Plain Output Waker = new limit (is_static_kind kind) in
       let z : Plain T (SoloWaker X) = course wakes cs (new limit (is_static_kind kind)) in

@@ -41,7 +41,7 @@ use Rattle.two_roads.specs.Together.{as_heard, nothing, numbered}
 use Rattle.two_roads.specs.Turns.{poll_no_tick, polls_tick, turned, turned_in, turns_of}
 use Rattle.two_roads.proofs.Refusing.{lie_in}
 use Rattle.two_roads.proofs.ActTurns.{act_turns}
-use Rattle.two_roads.proofs.Acted.{one_same, unrefused_together}
+use Rattle.two_roads.proofs.Acted.{one_same, runless_together}
 use Rattle.two_roads.proofs.Inner.{seen_in}
 use Rattle.two_roads.proofs.SoloTurns.{calls_take_turns}
 
@@ -199,5 +199,5 @@ module _ {F T X : Type 0} (its : ℕ → Lent) (number : X → ℕ) where
       → Stands its last (course wakes cs (new limit (is_static_kind kind)))
       × (heard_in (left_of (start limit kind parties) acts).world.trace ≡ as_heard number shown)
   tickless_together limit kind solo_kind parties acts cs first last shown before after they is_new counted led none of =
-      unrefused_together its number limit kind solo_kind parties acts cs first last shown before after they is_new counted led
+      runless_together its number limit kind solo_kind parties acts cs first last shown before after they is_new counted led
       (tickless_acted limit kind solo_kind parties acts cs first last shown before after they is_new led none of)

@@ -100,7 +100,7 @@ pub fn nested_calls_end_alike<F, T, X>()
 /// owner shows, where each of these calls is what the machine's step begins, or the answer of a poll or the end of a drop that the step
 /// has; where a call that asks for memory is refused it as the machine's trace and world say of the act; and where futures of both marks
 /// are due, the executor looks first at the mark that the machine's turn names.
-pub fn unrefused_calls_show_alike<F, T, X>()
+pub fn runless_calls_show_alike<F, T, X>()
     ensures { (its : ℕ → Lent) (number : X → ℕ) (limit : ℕ) (kind : MachineKind) (solo_kind : Kind) (parties : ℕ) (acts : List Act)
         (calls : List (Choice × Call T (SoloWaker X))) (first last : Solo F T X) (shown : List (Event T (SoloWaker X)))
         (before : Who → ℕ) (after : Owner) → AreActs (start limit kind parties) acts
@@ -137,7 +137,7 @@ pub fn plain_calls_show_alike<F, T, X>()
 
 /// And so to the end: from the executor's drop on, once no call is in progress any more, with the calls made in the drops of its futures
 /// and behind it.
-pub fn unrefused_calls_end_alike<F, T, X>()
+pub fn runless_calls_end_alike<F, T, X>()
     ensures { (its : ℕ → Lent) (number : X → ℕ) (limit : ℕ) (kind : MachineKind) (solo_kind : Kind) (parties : ℕ) (acts : List Act)
         (a : Act) (later : List Act) (calls ends : List (Choice × Call T (SoloWaker X))) (first middle last : Solo F T X)
         (shown others : List (Event T (SoloWaker X))) (before : Who → ℕ) (after : Owner) → AreActs (start limit kind parties) acts

@@ -38,7 +38,8 @@ use Rattle.machine_roads.specs.Course.{IsChosen}
 use Rattle.machine_roads.specs.Losing.{StopsLosing, left_of}
 use Rattle.machine_roads.specs.Refused.{IsLaterAnew}
 use Rattle.machine_roads.specs.Stopped.{Stops}
-use Rattle.machine_roads.specs.Within.{ActsBy, GoesOnBy, IsCallIn, Nested, alike, by_tick, by_try, begins as begins_by, losing, may_stand_in, takes}
+use Rattle.machine_roads.specs.Within.{ActsBy, GoesOnBy, IsCallIn, Nested, alike, by_tick, by_try, begins as begins_by, losing}
+use Rattle.machine_roads.specs.Within.{may_stand_in, takes}
 use Rattle.machine_roads.specs.Within.{IsLeaving, going, listed, unlisted, drop_run}
 use Rattle.machine_roads.specs.Within.{cancel, copy, detach, drop_handle, drop_tick, is_empty, keep, leak, new_run, new_tick, poll_handle}
 use Rattle.machine_roads.specs.Within.{poll_run, poll_tick, polls_own, release, spawn, try_tick, use_waker, wake, wake_self}
@@ -62,7 +63,8 @@ use Rattle.machine_roads.proofs.OwnGoes.{Drops, drops_run, in_drop, at_once as g
 use Rattle.machine_roads.proofs.OwnPolls.{Polls, at_once, in_own, its_poll, polls_run}
 use Rattle.machine_roads.proofs.PollCalls.{polls}
 use Rattle.machine_roads.proofs.RunHere.{awake_here}
-use Rattle.machine_roads.proofs.RunsBeside.{cancel_runs, copy_runs, detach_runs, drop_runs, handle_runs, leak_runs, poll_runs, poll_tick_runs}
+use Rattle.machine_roads.proofs.RunsBeside.{cancel_runs, copy_runs, detach_runs, drop_runs, handle_runs, leak_runs, poll_runs}
+use Rattle.machine_roads.proofs.RunsBeside.{poll_tick_runs}
 use Rattle.machine_roads.proofs.RunsBeside.{release_runs, spawn_runs, tick_runs, try_runs, use_runs, wake_runs}
 use Rattle.machine_roads.proofs.RunsMade.{makes_run}
 use Rattle.machine_roads.proofs.Standing.{stops_so}
@@ -136,7 +138,8 @@ module _ (s : Machine) (reached : Reached s) (p : ℕ) (q : Plain Output Waker) 
 
   -- a call that comes to no user code
   quick : (c : Call) (x : plain_calls.Call Output Waker) (r : Refusal) → IsCallIn here s.world c x
-      → IsLaterAnew r x q (does wakes (choice r) x q) → (does wakes (choice r) x q).inside ≡ q.inside → Counted below (does wakes (choice r) x q).runs → (e : Done) → e.next ≡ below
+      → IsLaterAnew r x q (does wakes (choice r) x q) → (does wakes (choice r) x q).inside ≡ q.inside → Counted below
+      (does wakes (choice r) x q).runs → (e : Done) → e.next ≡ below
       → Follows e.world (does wakes (choice r) x q) → Comes c e
   quick c x r is anew inside count e at leaves =
       let z : Plain Output Waker = does wakes (choice r) x q in (
@@ -157,7 +160,8 @@ module _ (s : Machine) (reached : Reached s) (p : ℕ) (q : Plain Output Waker) 
       → LeavesAlike p below (begins p here c s.world) (does wakes (choice Granted) x q) → Leads c
   plainly c x is inside runs leaves hints all rests =
       let e = leaves hints tt all rests in
-      quick c x Granted is (granted_anew q (does wakes (choice Granted) x q) x) inside (stays (does wakes (choice Granted) x q) runs) (alone p hints (upon below (begins p here c s.world))) e.0 e.1
+      quick c x Granted is (granted_anew q (does wakes (choice Granted) x q) x) inside (stays (does wakes (choice Granted) x q) runs)
+      (alone p hints (upon below (begins p here c s.world))) e.0 e.1
 
   -- one that takes a future
   take : (c : Call) (x : plain_calls.Call Output Waker) (r : Refusal) → IsCallIn here s.world c x
@@ -227,7 +231,8 @@ module _ (s : Machine) (reached : Reached s) (p : ℕ) (q : Plain Output Waker) 
   -- a handle that goes
   detached : (f : ℕ) (o : Option Output) → (plain.task f q).output ≡ o → Leads (call.Detach f)
   detached f None off =
-      plainly (call.Detach f) (plain_calls.Detach f) (detach f) (detach_inside (choice Granted) q f None off) (detach_runs (choice Granted) q f)
+      plainly (call.Detach f) (plain_calls.Detach f) (detach f) (detach_inside (choice Granted) q f None off)
+      (detach_runs (choice Granted) q f)
       (detaches p below under here s.world q follows (choice Granted) f off many)
   detached f (Some v) some = λ hints all rests.
       let x : plain_calls.Call Output Waker = plain_calls.Detach f in (
@@ -258,7 +263,8 @@ module _ (s : Machine) (reached : Reached s) (p : ℕ) (q : Plain Output Waker) 
       let b = refused_first hints in
       let r = refused_as b in
       let e = spawns p below under here s.world q follows (choice r) m many hints (granted_as b) all rests in
-      quick (call.Spawn m) (plain_calls.Spawn m) r (spawn m) tt (spawn_inside (choice r) q m) (stays (does wakes (choice r) (plain_calls.Spawn m) q) (spawn_runs (choice r) q m))
+      quick (call.Spawn m) (plain_calls.Spawn m) r (spawn m) tt (spawn_inside (choice r) q m)
+      (stays (does wakes (choice r) (plain_calls.Spawn m) q) (spawn_runs (choice r) q m))
       (alone p hints (upon below (begins p here (call.Spawn m) s.world))) e.0 e.1
   one_begins call.TryTick on may = λ hints all rests.
       let e = alone p hints (upon below (begins p here call.TryTick s.world)) in
@@ -270,40 +276,47 @@ module _ (s : Machine) (reached : Reached s) (p : ℕ) (q : Plain Output Waker) 
       plainly call.IsEmpty plain_calls.IsEmpty is_empty refl refl (empty_alike p below under here s.world q follows (choice Granted))
   one_begins (call.Wake k) on may =
       let f = kept_one k (there (call.Wake k) may) in
-      plainly (call.Wake k) (plain_calls.Use f.0) (use_waker k f.0 f.1) (use_inside (choice Granted) q f.0) (use_runs (choice Granted) q f.0)
+      plainly (call.Wake k) (plain_calls.Use f.0) (use_waker k f.0 f.1) (use_inside (choice Granted) q f.0)
+      (use_runs (choice Granted) q f.0)
       (uses_alike p below under here s.world q follows (choice Granted) k f.0 f.1 many)
   one_begins (call.WakeByRef k) on may =
       let f = some_kept (kept s.world k) (there (call.WakeByRef k) may) in
-      plainly (call.WakeByRef k) (plain_calls.Wake f.0) (wake k f.0 f.1) (wake_inside (choice Granted) q f.0) (wake_runs (choice Granted) q f.0)
+      plainly (call.WakeByRef k) (plain_calls.Wake f.0) (wake k f.0 f.1) (wake_inside (choice Granted) q f.0)
+      (wake_runs (choice Granted) q f.0)
       (wakes_kept p below under here s.world q follows (choice Granted) k f.0 f.1 many)
   one_begins (call.Copy k) on may = λ hints all rests.
       let f = some_kept (kept s.world k) (there (call.Copy k) may) in
       let b = refuses_first hints (task s.world f.0) in
       let r = refused_as b in
       let e = copies_kept p below under here s.world q follows (choice r) k f.0 f.1 hints (granted_as b) all rests in
-      quick (call.Copy k) (plain_calls.Copy f.0) r (copy k f.0 f.1) tt (copy_inside (choice r) q f.0) (stays (does wakes (choice r) (plain_calls.Copy f.0) q) (copy_runs (choice r) q f.0))
+      quick (call.Copy k) (plain_calls.Copy f.0) r (copy k f.0 f.1) tt (copy_inside (choice r) q f.0)
+      (stays (does wakes (choice r) (plain_calls.Copy f.0) q) (copy_runs (choice r) q f.0))
       (alone p hints (upon below (begins p here (call.Copy k) s.world))) e.0 e.1
   one_begins (call.DropWaker k) on may =
       let f = kept_one k (there (call.DropWaker k) may) in
-      plainly (call.DropWaker k) (plain_calls.Release f.0) (release k f.0 f.1) (release_inside (choice Granted) q f.0) (release_runs (choice Granted) q f.0)
+      plainly (call.DropWaker k) (plain_calls.Release f.0) (release k f.0 f.1) (release_inside (choice Granted) q f.0)
+      (release_runs (choice Granted) q f.0)
       (waker_goes p below under here s.world q follows (choice Granted) k f.0 f.1 many)
   one_begins call.Keep on may = λ hints all rests.
       let f = some_kept (future_of here) (there call.Keep may) in
       let b = refuses_first hints (task s.world f.0) in
       let r = refused_as b in
       let e = keeps_own p below under here s.world q follows (choice r) f.0 f.1 hints (granted_as b) all rests in
-      quick call.Keep (plain_calls.Copy f.0) r (keep f.0 f.1) tt (copy_inside (choice r) q f.0) (stays (does wakes (choice r) (plain_calls.Copy f.0) q) (copy_runs (choice r) q f.0))
+      quick call.Keep (plain_calls.Copy f.0) r (keep f.0 f.1) tt (copy_inside (choice r) q f.0)
+      (stays (does wakes (choice r) (plain_calls.Copy f.0) q) (copy_runs (choice r) q f.0))
       (alone p hints (upon below (begins p here call.Keep s.world))) e.0 e.1
   one_begins call.WakeSelf on may =
       let f = some_kept (future_of here) (there call.WakeSelf may) in
-      plainly call.WakeSelf (plain_calls.Wake f.0) (wake_self f.0 f.1) (wake_inside (choice Granted) q f.0) (wake_runs (choice Granted) q f.0)
+      plainly call.WakeSelf (plain_calls.Wake f.0) (wake_self f.0 f.1) (wake_inside (choice Granted) q f.0)
+      (wake_runs (choice Granted) q f.0)
       (wakes_itself p below under here s.world q follows (choice Granted) f.0 f.1 many)
   one_begins (call.PollHandle f b) on may = λ hints all rests.
       let a = waker_of here b in
       let x = refuses_second hints s.world a in
       let r = refused_as x in
       let e = polls p here below s.world q under follows (choice r) f b many hints (λ waits. granted_as x) all rests in
-      quick (call.PollHandle f b) (plain_calls.PollHandle f a) r (poll_handle f b) tt (poll_inside (choice r) q f a) (stays (does wakes (choice r) (plain_calls.PollHandle f a) q) (poll_runs (choice r) q f a))
+      quick (call.PollHandle f b) (plain_calls.PollHandle f a) r (poll_handle f b) tt (poll_inside (choice r) q f a)
+      (stays (does wakes (choice r) (plain_calls.PollHandle f a) q) (poll_runs (choice r) q f a))
       (alone p hints (upon below (begins p here (call.PollHandle f b) s.world))) e.0 e.1
   one_begins (call.Cancel f) on may =
       plainly (call.Cancel f) (plain_calls.Cancel f) (cancel f) (cancel_inside (choice Granted) q f) (cancel_runs (choice Granted) q f)
@@ -314,7 +327,8 @@ module _ (s : Machine) (reached : Reached s) (p : ℕ) (q : Plain Output Waker) 
       let b = refused_first hints in
       let r = refused_as b in
       let e = makes_tick p here below s.world q under follows (choice r) hints (granted_as b) all rests in
-      quick call.NewTick plain_calls.NewTick r new_tick tt (tick_inside (choice r) q) (stays (does wakes (choice r) (plain_calls.NewTick) q) (tick_runs (choice r) q))
+      quick call.NewTick plain_calls.NewTick r new_tick tt (tick_inside (choice r) q)
+      (stays (does wakes (choice r) (plain_calls.NewTick) q) (tick_runs (choice r) q))
       (alone p hints (upon below (begins p here call.NewTick s.world))) e.0 e.1
   one_begins (call.PollTick t b) on may = λ hints all rests.
       let a = waker_of here b in
@@ -338,7 +352,8 @@ module _ (s : Machine) (reached : Reached s) (p : ℕ) (q : Plain Output Waker) 
       let a = waker_of here b in
       let x : plain_calls.Call Output Waker = plain_calls.PollRun r a in
       let e = alone p hints (upon below (begins p here (call.PollRun r b) s.world)) in
-      by r b e (polls_run p here below under s.world q follows (choice Granted) r b (undropped r b (there (call.PollRun r b) may)) hints all rests)
+      by r b e (polls_run p here below under s.world q follows (choice Granted) r b (undropped r b (there (call.PollRun r b) may)) hints
+      all rests)
     where
       undropped : (r : ℕ) (b : By) → has_all s.world s.parties its (call.PollRun r b) ≡ true → (run_of s.world r).dropped ≡ false
       undropped r b has =
@@ -355,7 +370,9 @@ module _ (s : Machine) (reached : Reached s) (p : ℕ) (q : Plain Output Waker) 
 
       by : (r : ℕ) (b : By) (e : Done) → Polls p here below under s.world q follows (choice Granted) r b e → Comes (call.PollRun r b) e
       by r b e (at_once next inside leaves) =
-          quick (call.PollRun r b) (plain_calls.PollRun r (waker_of here b)) Granted (poll_run r b) tt inside (stays (does wakes (choice Granted) (plain_calls.PollRun r (waker_of here b)) q) (polled_runs r (waker_of here b))) e next leaves
+          quick (call.PollRun r b) (plain_calls.PollRun r (waker_of here b)) Granted (poll_run r b) tt inside
+          (stays (does wakes (choice Granted) (plain_calls.PollRun r (waker_of here b)) q) (polled_runs r (waker_of here b))) e next
+          leaves
       by r b e (in_own next inside leaves) =
           let x : plain_calls.Call Output Waker = plain_calls.PollRun r (waker_of here b) in
           let z : Plain Output Waker = does wakes (choice Granted) x q in (
@@ -364,7 +381,8 @@ module _ (s : Machine) (reached : Reached s) (p : ℕ) (q : Plain Output Waker) 
             record {
               alike = alike
                   (subst (λ os. Nested os z.inside) (sym next)
-                  (subst (λ codes. Nested (op.User (user_op.PollOwn (its_poll p here below under s.world q follows (choice Granted) r b)) ∷ below) codes)
+                  (subst (λ codes. Nested (op.User (user_op.PollOwn (its_poll p here below under s.world q follows (choice Granted) r b))
+                  ∷ below) codes)
                   (sym inside)
                   (polls_own (its_poll p here below under s.world q follows (choice Granted) r b) below q.inside nested)))
                   leaves;
@@ -393,7 +411,11 @@ module _ (s : Machine) (reached : Reached s) (p : ℕ) (q : Plain Output Waker) 
           let z : Plain Output Waker = does wakes (choice Granted) x q in (
             z,
             acts (call.DropRun r) x Granted (drop_run r) tt,
-            record { alike = going r [] below q.inside nested stops; counted = in_going r stops.rest stops.leaving e stops.left z runs unover },
+            record {
+              alike = going r [] below q.inside nested stops;
+              counted = in_going r stops.rest stops.leaving e stops.left z runs
+                  unover;
+            },
           )
   one_begins call.Leak on may =
       plainly call.Leak plain_calls.Leak leak (leak_inside (choice Granted) q) (leak_runs (choice Granted) q)

@@ -32,7 +32,8 @@ use Rattle.executor_model.proofs.Steps.Reached.{Reached}
 use Rattle.executor_model.proofs.Steps.Stepping.{refusal-there}
 use Rattle.executor_laws.proofs.Termination.LoneEnds.{OthersRest}
 use Rattle.plain_scheduler.specs.State.{Done as DoneAnswer}
-use Rattle.plain_scheduler.specs.State.{Choice, Closed, Code, Drop, DropOwn, End, Future, Granted, Lose, Plain, Poll, PollOwn, Ready, Run, Taker}
+use Rattle.plain_scheduler.specs.State.{Choice, Closed, Code, Drop, DropOwn, End, Future, Granted, Lose, Plain, Poll, PollOwn, Ready, Run}
+use Rattle.plain_scheduler.specs.State.{Taker}
 use Rattle.plain_scheduler.specs.Lists.{on, or}
 use Rattle.plain_scheduler.specs.Moves.{is_kept}
 use Rattle.plain_scheduler.specs.Takes as plain_takes
@@ -342,7 +343,8 @@ module _ (s : Machine) (reached : Reached s) (p : ℕ) (there : p < length s.par
       from_forgotten f at it_is u ok = absurd cc
 
     -- the poll of a run's own future: with an output, or without
-    pub from_own_poll : (x : RunPoll) → reverse (stack s p) ≡ op.User (user_op.PollOwn x) ∷ below → q.inside ≡ PollOwn x.run x.waker ∷ inside
+    pub from_own_poll : (x : RunPoll) → reverse (stack s p) ≡ op.User (user_op.PollOwn x) ∷ below → q.inside ≡ PollOwn x.run x.waker ∷
+        inside
         → Follows s.world q → (u : UserEnd) → accepts (op.User (user_op.PollOwn x)) u ≡ true
         → Leads u (op.User (user_op.PollOwn x)) below
     from_own_poll x is at follows (end.Polled answer.Ready) ok = λ hints all rests.

@@ -26,7 +26,8 @@ use Rattle.machine_roads.specs.InLoss.{loss_ops}
 use Rattle.machine_roads.specs.Losing.{left_of}
 use Rattle.machine_roads.specs.Within.{going}
 use Rattle.machine_roads.specs.Within.{StandsAlike, alike, dropping, forgetting, losing, standing}
-use Rattle.machine_roads.proofs.ActCodes.{EndsSo, from_going, accepted, from_drop, from_forgotten, from_loss, from_own_drop, from_own_poll, from_poll}
+use Rattle.machine_roads.proofs.ActCodes.{EndsSo, from_going, accepted, from_drop, from_forgotten, from_loss, from_own_drop}
+use Rattle.machine_roads.proofs.ActCodes.{from_own_poll, from_poll}
 use Rattle.machine_roads.proofs.ActLosses.{ends_in_going, ends_in_loss}
 use Rattle.machine_roads.proofs.Counting.{Counted}
 use Rattle.machine_roads.proofs.Inmost.{Inmost, IsDropOf, drop, inmost, none, of_given, of_polled, of_queued, own_drop, own_poll, poll}
@@ -64,7 +65,8 @@ module _ (s : Machine) (reached : Reached s) (p : ℕ) (there : p < length s.par
     first = op.User (user_op.PollOwn x);
     rest = below;
     is = is;
-    leads = from_own_poll s reached p there open_still others q counted below inside nested x is at follows u (accepted s reached p there open_still others q counted u (op.User (user_op.PollOwn x)) below may is);
+    leads = from_own_poll s reached p there open_still others q counted below inside nested x is at follows u
+        (accepted s reached p there open_still others q counted u (op.User (user_op.PollOwn x)) below may is);
   }
   from_alike os codes (own_drop r below inside nested) is at follows u may =
       let xs = op.List (list_op.LockWrite (section.Unregister r reply.Ready)) ∷ below in
@@ -72,7 +74,8 @@ module _ (s : Machine) (reached : Reached s) (p : ℕ) (there : p < length s.par
         first = op.User (user_op.DropOwn r);
         rest = xs;
         is = is;
-        leads = from_own_drop s reached p there open_still others q counted below inside nested r is at follows u (accepted s reached p there open_still others q counted u (op.User (user_op.DropOwn r)) xs may is);
+        leads = from_own_drop s reached p there open_still others q counted below inside nested r is at follows u
+            (accepted s reached p there open_still others q counted u (op.User (user_op.DropOwn r)) xs may is);
       }
   from_alike os codes (poll taker final below inside f it nested) is at follows u may =
       let xs = op.User (user_op.Poll f) ∷ final ∷ below in
@@ -88,7 +91,8 @@ module _ (s : Machine) (reached : Reached s) (p : ℕ) (there : p < length s.par
               emptied = λ r. omega arith;
               alike = record { last = λ r. refl; left = λ r. refl };
             })
-            f refl at follows u (accepted s reached p there open_still others q counted u (op.User (user_op.Poll f)) (final ∷ below) may is);
+            f refl at follows u (accepted s reached p there open_still others q counted u (op.User (user_op.Poll f)) (final ∷ below) may
+            is);
       }
   from_alike os codes (drop taker final below inside f m why it how nested) is at follows u may =
       let xs = op.Table (table_op.LeaveTable f) ∷ op.Move m f ∷ final ∷ below in
@@ -97,7 +101,8 @@ module _ (s : Machine) (reached : Reached s) (p : ℕ) (there : p < length s.par
         rest = xs;
         is = is;
         leads =
-            from_drop s reached p there open_still others q counted below inside nested taker final it (op.User (user_op.Drop f) ∷ xs) is (drop_above f m why how final below)
+            from_drop s reached p there open_still others q counted below inside nested taker final it (op.User (user_op.Drop f) ∷ xs) is
+            (drop_above f m why how final below)
             f m why how refl at follows u (accepted s reached p there open_still others q counted u (op.User (user_op.Drop f)) xs may is);
       }
 
@@ -117,7 +122,8 @@ module _ (s : Machine) (reached : Reached s) (p : ℕ) (there : p < length s.par
     alike = record { last = λ r. refl; left = λ r. refl };
   }
 
-  pub code_ends : StandsAlike (standing s p) q → (u : UserEnd) → refusal s (Answer p u) ≡ None → EndsSo s reached p there open_still others q counted u
+  pub code_ends : StandsAlike (standing s p) q → (u : UserEnd) → refusal s (Answer p u) ≡ None → EndsSo s reached p there open_still
+      others q counted u
   code_ends (alike nested follows) u may =
       from_alike (reverse (stack s p)) q.inside (inmost (reverse (stack s p)) q.inside nested) refl refl follows u may
   code_ends (losing f fs below codes nested stops) u may =
@@ -158,7 +164,8 @@ module _ (s : Machine) (reached : Reached s) (p : ℕ) (there : p < length s.par
         rest = xs;
         is = next;
         leads =
-            from_loss s reached p there open_still others q counted below b.inside nested taker final it (op.User (user_op.DropOutput f) ∷ xs) next
+            from_loss s reached p there open_still others q counted below b.inside nested taker final it
+            (op.User (user_op.DropOutput f) ∷ xs) next
             (owed_above f final below (task s.world f).awaiter) f awaiter inside ending u
             (accepted s reached p there open_still others q counted u (op.User (user_op.DropOutput f)) xs may next);
       }
@@ -169,7 +176,8 @@ module _ (s : Machine) (reached : Reached s) (p : ℕ) (there : p < length s.par
         rest = xs;
         is = stops.left;
         leads =
-            from_forgotten s reached p there open_still others q counted below b.inside nested taker final it (op.User (user_op.Drop f) ∷ xs) stops.left
+            from_forgotten s reached p there open_still others q counted below b.inside nested taker final it
+            (op.User (user_op.Drop f) ∷ xs) stops.left
             (record {
               used = λ r. omega arith;
               polled = λ r. omega arith;

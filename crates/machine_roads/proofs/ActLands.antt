@@ -174,7 +174,8 @@ module _ (p : ℕ) (below : List Op) (q : Plain Output Waker) (nested : Nested b
         d1,
         refl,
         record {
-          alike = alike (takes (Run x.run x.waker) (goes_on_by x l) below e.next q.inside z.inside (by_run x l) nested st.stopped) st.follows;
+          alike = alike (takes (Run x.run x.waker) (goes_on_by x l) below e.next q.inside z.inside (by_run x l) nested st.stopped)
+              st.follows;
           counted = by d1 (comes (Run x.run x.waker) (goes_on_by x l) below q.inside e.next z.inside st.stopped)
               (has_taken below q x last count facts z.runs (λ r apart. (so d1).spares r apart) l
               (subst (λ n. n ≤ 200) (sym between.taken) between.most) (ap (λ n. nat_lt n 200) between.taken ∙ between.early));
@@ -211,7 +212,8 @@ module _ (p : ℕ) (below : List Op) (q : Plain Output Waker) (nested : Nested b
   module _ (taker : Taker Waker) (final : Op) (it : GoesOnBy taker final) (count : Counted (final ∷ below) q.runs)
       (facts : FactsOf below q taker final it) (so : AllEnd taker) where
     -- or more code has come before that
-    pub goes_lands : (So : Plain Output Waker → Type 0) → (So (will (telling c1.tells c1)) → RunsStay q (will (telling c1.tells c1)) → Lands)
+    pub goes_lands : (So : Plain Output Waker → Type 0) → (So (will (telling c1.tells c1)) → RunsStay q (will (telling c1.tells c1)) →
+        Lands)
         → GoesBy p taker final below q c1.tells e will So → Lands
     goes_lands So lands (passed pass) = passes_lands taker final it count facts so pass
     goes_lands So lands (stood stops stays) = lands (stops c1) (stays c1)

@@ -14,7 +14,8 @@ use Rattle.executor_model.specs.declared.step.Step.{Step}
 use Rattle.executor_model.specs.declared.step.Step.TheVariants.{Answer, Begin, Go}
 use Rattle.executor_model.specs.declared.step.StepError.TheVariants.{NoSuch, Waits, WrongAnswer}
 use Rattle.executor_model.specs.Executions.{run_all}
-use Rattle.executor_model.specs.Steps.{Machine, after, begun, end_of, go_refusal, is_locked_out, is_on_executor, is_static_kind, mine, part_refusal}
+use Rattle.executor_model.specs.Steps.{Machine, after, begun, end_of, go_refusal, is_locked_out, is_on_executor, is_static_kind, mine}
+use Rattle.executor_model.specs.Steps.{part_refusal}
 use Rattle.executor_model.specs.Steps.{party_of, refusal, stack, start, top, unless, waits}
 use Rattle.executor_model.specs.Trace.{is_drop_begun}
 use Rattle.executor_model.specs.World.{Done, done, log}
@@ -34,7 +35,8 @@ use Rattle.machine_roads.specs.Dropped.{answered, loses, rest_of}
 use Rattle.machine_roads.specs.InLoss.{loss_ops}
 use Rattle.machine_roads.specs.Within.{IsLeaving, going, listed, unlisted}
 use Rattle.machine_roads.specs.Within.{Act, ActAlike, ActsBy, AreActs, ListsActAlike, Nested, StandsAlike, alike, calls_outside}
-use Rattle.machine_roads.specs.Within.{dropping, forgetting, goes_on, is_on_way, losing, may_begin_in, may_stand_in, nowhere, rests_after, standing}
+use Rattle.machine_roads.specs.Within.{dropping, forgetting, goes_on, is_on_way, losing, may_begin_in, may_stand_in, nowhere, rests_after}
+use Rattle.machine_roads.specs.Within.{standing}
 use Rattle.machine_roads.proofs.ActBegins.{one_begins}
 use Rattle.machine_roads.proofs.ActEnds.{code_ends}
 use Rattle.machine_roads.proofs.ActLosses.{begins_in_going, begins_in_loss}
@@ -214,7 +216,8 @@ lists (a ∷ acts) s reached p others open_now q so are =
     (part_refusal s.world s.parties (stack s (party_of a.first)) a.first) k.0)) in
     let now = subst (λ e. StandsSo e q) (taken_over s p a.party others it.others (p == a.party) refl) so in
     let one =
-    one_act s reached a.party q now a.left (sym (tells a.left next) ∙ later) (sym (tells s reached) ∙ open_now) it.others there a.first a.steps
+    one_act s reached a.party q now a.left (sym (tells a.left next) ∙ later) (sym (tells s reached) ∙ open_now) it.others there a.first
+    a.steps
     it.its are.1 it.rests it.made in (
       one.0,
       one.1,

@@ -1,6 +1,7 @@
 -- A poll of a run, made where a party does nothing or stands in user code: it is answered where the run is over, or comes to the poll of
 -- the run's own future. And the end of that with an output, and of that future's drop.
-use Rattle.std.proofs.Common.{◌≡◌, ℕ, ◌≤◌, ◌++◌, ◌||◌, Bool, true, false, List, ◌∷◌, length, Option, if◌then◌else◌, refl, sym, ap, subst, ◌∙◌}
+use Rattle.std.proofs.Common.{◌≡◌, ℕ, ◌≤◌, ◌++◌, ◌||◌, Bool, true, false, List, ◌∷◌, length, Option, if◌then◌else◌, refl, sym, ap, subst}
+use Rattle.std.proofs.Common.{◌∙◌}
 use Rattle.executor_model.specs.declared.call.By.{By}
 use Rattle.executor_model.specs.declared.call.Call.TheVariants as call
 use Rattle.executor_model.specs.declared.call.Reply.TheVariants as reply

@@ -154,7 +154,8 @@ module _ (c : Choice) where
       test = chosen (looks c by) q.due
 
       found : (o : Option Due)
-          → Goes by q (or o (λ d. plain_takes.takes wakes c by d (record q { due = without test q.due })) (plain_takes.nothing wakes c by q))
+          → Goes by q (or o (λ d. plain_takes.takes wakes c by d (record q { due = without test q.due }))
+          (plain_takes.nothing wakes c by q))
       found None = inr (nothing_by by q)
       found (Some d) =
           let g = takes_by by d (record q { due = without test q.due }) in inl (record { inside = g.inside; runs = g.runs })
@@ -306,7 +307,8 @@ module _ (c : Choice) where
       let y = plain_takes.given_up wakes c f (plain.changed (λ future. record future { is_dropped = true }) f q) in
       ended_ends f (plain_takes.left_by wakes c why (task f y)) by q y (given_up_sight c f q)
 
-  pended_ends : (e : abstract.PendingEnd) (f : ℕ) (by : Taker Waker) (q : Plain Output Waker) → Ends by q (calls.pending_by wakes c e f by q)
+  pended_ends : (e : abstract.PendingEnd) (f : ℕ) (by : Taker Waker) (q : Plain Output Waker) → Ends by q
+      (calls.pending_by wakes c e f by q)
   pended_ends abstract.PendingEnd.Drops f by q = enters_more by (Drop f Closed by) q (see (Drops f) q) refl
   pended_ends abstract.PendingEnd.Forgets f by q =
       let new : AbstractTask Output Waker = record (task f q) { phase = abstract.Phase.Finished; closed = true } in

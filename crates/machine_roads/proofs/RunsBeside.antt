@@ -11,7 +11,8 @@ use Rattle.plain_scheduler.specs.Lists.{each, on, or}
 use Rattle.plain_scheduler.specs.Moves.{answers, appended, becomes, called, copied, enters, let_go, put, see, task, tell}
 use Rattle.plain_scheduler.specs.Takes as plain_takes
 use Rattle.plain_scheduler.specs.Calls.{cancel, detach, does, entered, freed, handle_by, is_granted, living_from, registered}
-use Rattle.plain_scheduler.specs.Calls.{Cancel, Copy, Detach, DropHandle, DropTick, Leak, NewRun, NewTick, PollHandle, PollTick, Release, Spawn}
+use Rattle.plain_scheduler.specs.Calls.{Cancel, Copy, Detach, DropHandle, DropTick, Leak, NewRun, NewTick, PollHandle, PollTick, Release}
+use Rattle.plain_scheduler.specs.Calls.{Spawn}
 use Rattle.plain_scheduler.specs.Calls.{TryTick, Use, Wake}
 use Rattle.machine_roads.specs.View.{Output, wakes}
 use Rattle.machine_roads.specs.Stopped.{taken_by}

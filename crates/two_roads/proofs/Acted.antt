@@ -35,7 +35,7 @@ use Rattle.two_roads.specs.Renaming.{AreBothDue, CallsAlike, GoesOnAlike, Innerm
 use Rattle.two_roads.specs.Renaming.{renamed}
 use Rattle.two_roads.specs.Together.{as_heard, nothing, numbered}
 use Rattle.two_roads.proofs.Both.{map_twice, wakes_so}
-use Rattle.two_roads.proofs.Calling.{calls_same}
+use Rattle.two_roads.proofs.Calling.{calls_same, setting}
 use Rattle.two_roads.proofs.Inner.{acts_seen, seen_in}
 use Rattle.two_roads.proofs.Meant.{is_begin, is_take, one_made, takes_begin}
 use Rattle.two_roads.proofs.PlainCalls.{call_plain, never_two}
@@ -126,7 +126,7 @@ module _ {T X : Type 0} (number : X → ℕ) where
       → heard_in a.left.world.trace ≡ map shown_alike r.events → Lie a.left.world r → (p : Plain T (SoloWaker X)) (c : Choice)
       (call : Call T (SoloWaker X)) → renamed nothing (numbered number) p ≡ q → IsActed number s a p c call → length p.lying ≤ c.tells
       → renamed nothing (numbered number) (does wakes c call p) ≡ r
-  one_same s a q r by lie seen lie_then p c call is are tells = whether (asks_memory call) refl
+  one_same s a q r by lie seen lie_then p c call is are tells = whether (asks_memory p call) refl
     where
       same_call : Call Output Waker
       same_call = call_as nothing (numbered number) call
@@ -158,9 +158,14 @@ module _ {T X : Type 0} (number : X → ℕ) where
           ∙ (ap (λ n. refused_so (ends_refused r.events) (nat_lt n (length a.left.world.sleepers.wakers))) lie
           ∙ ap (λ n. refused_so (ends_refused r.events) (nat_lt (length (uncalled q.lying)) n)) lie_then)
 
-      whether : (b : Bool) → asks_memory call ≡ b → renamed nothing (numbered number) (does wakes c call p) ≡ r
+      asks_it : asks_memory (renamed nothing (numbered number) p) same_call ≡ asks_memory p call
+      asks_it = asks_so (setting nothing (numbered number) wakes wakes_in (wakes_so number) c c p tells tells refl) call p
+
+      whether : (b : Bool) → asks_memory p call ≡ b → renamed nothing (numbered number) (does wakes c call p) ≡ r
       whether true asks =
           let d : Choice = record by.choice { refusal = c.refusal } in
+          let asks_there : asks_memory q same_call ≡ true =
+          ap (λ (z : Plain Output Waker). asks_memory z same_call) (sym is) ∙ (asks_it ∙ asks) in
           calls_same nothing (numbered number) wakes wakes_in (wakes_so number) c d call p
           (record {
             refusal = refl;
@@ -169,7 +174,7 @@ module _ {T X : Type 0} (number : X → ℕ) where
             takes = chosen_alike s p c d call are.first are.step.runless first;
           })
           ∙ (ap (λ (z : Plain Output Waker). does wakes_in d same_call z) is
-          ∙ (seen_refused by.choice c.refusal same_call q (asks_so nothing (numbered number) call ∙ asks)
+          ∙ (seen_refused by.choice c.refusal same_call q asks_there
           (subst (λ (z : Plain Output Waker). IsLaterAnew by.choice.refusal same_call q z) (sym so)
           (subst (λ (x : Call Output Waker). IsLaterAnew by.choice.refusal x q r) call_is by.anew))
           (subst
@@ -204,7 +209,7 @@ module _ {T X : Type 0} (number : X → ℕ) where
       ∙ ap (course wakes_in (acts_by a.left go.0 acts go.3)) (sym go.1.so)
 
 module _ {F T X : Type 0} (its : ℕ → Lent) (number : X → ℕ) where
-  pub unrefused_together : (limit : ℕ) (kind : MachineKind) (solo_kind : Kind) (parties : ℕ) (acts : List Act)
+  pub runless_together : (limit : ℕ) (kind : MachineKind) (solo_kind : Kind) (parties : ℕ) (acts : List Act)
       (cs : List (Choice × Call T (SoloWaker X))) (first last : Solo F T X) (shown : List (Event T (SoloWaker X)))
       (before : Who → ℕ) (after : Owner) → AreActs (start limit kind parties) acts → IsNew limit solo_kind first
       → counts solo_kind ≡ not (is_static_kind kind)
@@ -212,7 +217,7 @@ module _ {F T X : Type 0} (its : ℕ → Lent) (number : X → ℕ) where
       → AreActed number (start limit kind parties) acts (new limit (is_static_kind kind)) cs
       → Stands its last (course wakes cs (new limit (is_static_kind kind)))
       × (heard_in (left_of (start limit kind parties) acts).world.trace ≡ as_heard number shown)
-  unrefused_together limit kind solo_kind parties acts cs first last shown before after they is_new counted led are =
+  runless_together limit kind solo_kind parties acts cs first last shown before after they is_new counted led are =
       let s = start limit kind parties in
       let q : Plain Output Waker = new limit (is_static_kind kind) in
       let z : Plain T (SoloWaker X) = course wakes cs (new limit (is_static_kind kind)) in

@@ -102,7 +102,7 @@ module _ {T X : Type 0} (number : X → ℕ) where
       (drop_acted a.left r1 later (on x.0).1 (does wakes x.0 x.1 p) xs (lie_in_drop (standing a.left a.party) r1 (on x.0).0) one are.1 tell.1))
 
 module _ {F T X : Type 0} (its : ℕ → Lent) (number : X → ℕ) where
-  pub unrefused_end_together : (limit : ℕ) (kind : MachineKind) (solo_kind : Kind) (parties : ℕ) (acts : List Act) (a : Act)
+  pub runless_end_together : (limit : ℕ) (kind : MachineKind) (solo_kind : Kind) (parties : ℕ) (acts : List Act) (a : Act)
       (later : List Act) (cs ends : List (Choice × Call T (SoloWaker X))) (first middle last : Solo F T X)
       (shown others : List (Event T (SoloWaker X))) (before : Who → ℕ) (after : Owner) → AreActs (start limit kind parties) acts
       → IsQuiet (left_by (start limit kind parties) acts).world.trace → IsAct (left_by (start limit kind parties) acts) a
@@ -115,7 +115,7 @@ module _ {F T X : Type 0} (its : ℕ → Lent) (number : X → ℕ) where
       → EndActed number a later (course wakes cs (new limit (is_static_kind kind))) ends
       → IsClosed its last (course wakes (cs ++ ends) (new limit (is_static_kind kind)))
       × (heard_in (left_of a.left later).world.trace ≡ as_heard number (shown ++ others))
-  unrefused_end_together limit kind solo_kind parties acts a later cs ends first middle last shown others before after they quiet acts_so
+  runless_end_together limit kind solo_kind parties acts a later cs ends first middle last shown others before after they quiet acts_so
       begins they_too is_new counted led then_so nowhere are end_are =
       let s = start limit kind parties in
       let q : Plain Output Waker = new limit (is_static_kind kind) in

@@ -396,7 +396,7 @@ module _ {T U A B : Type 0} (k : Setting T U A B) where
 
 module _ {T U A B : Type 0} (output : T → U) (waker : A → B) (wakes : A → Option ℕ) (wakes_as : B → Option ℕ)
     (same : (a : A) → wakes_as (waker a) ≡ wakes a) where
-  abbrev setting : (c d : Choice) (p : Plain T A) → length p.lying ≤ c.tells → length p.lying ≤ d.tells
+  abbrev pub setting : (c d : Choice) (p : Plain T A) → length p.lying ≤ c.tells → length p.lying ≤ d.tells
       → c.refusal ≡ d.refusal → Setting T U A B
   setting c d p tells tells_so refusal = record {
     output = output;

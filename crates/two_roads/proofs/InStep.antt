@@ -49,7 +49,7 @@ use Rattle.two_roads.specs.Together.{as_heard, nothing, numbered}
 use Rattle.two_roads.specs.Turns.{TicksGranted, lies_uncalled, polls_tick, turned, turned_in, turns_of}
 use Rattle.two_roads.proofs.Refusing.{lie_in}
 use Rattle.two_roads.proofs.ActTurns.{act_turns}
-use Rattle.two_roads.proofs.Acted.{one_same, unrefused_together}
+use Rattle.two_roads.proofs.Acted.{one_same, runless_together}
 use Rattle.two_roads.proofs.Inner.{seen_in}
 use Rattle.two_roads.proofs.SoloTurns.{call_turns}
 
@@ -71,9 +71,9 @@ same_mark zero r is =
 same_mark (suc n) r is =
     let other : (r == 7) ≡ false = grind (arith, nat_tests, is) in ap (λ (b : Bool). choose b PlainMark Urgent) other
 
-tick_asks : {T A : Type 0} (call : Call T A) → polls_tick call ≡ true → asks_memory call ≡ true
-tick_asks (calls.PollTick t w) is = refl
-tick_asks _ is = absurd cc
+tick_asks : {T A : Type 0} (p : Plain T A) (call : Call T A) → polls_tick call ≡ true → asks_memory p call ≡ true
+tick_asks p (calls.PollTick t w) is = refl
+tick_asks p _ is = absurd cc
 
 module _ {T A U B : Type 0} (output : T → U) (waker : A → B) where
   tick_as : (call : Call T A) → polls_tick (call_as output waker call) ≡ polls_tick call
@@ -184,8 +184,8 @@ module _ {F T X : Type 0} (its : ℕ → Lent) (number : X → ℕ) where
       (ap (λ (q : Plain Output Waker). takes_for_run q made) (sym is) ∙ (takes_as nothing (numbered number) p call ∙ of.0.runless))
       ∙ ap (λ n. turned n s.world.urgent_turns)
       (ap (λ (q : Plain Output Waker). turns_of q made) (sym is) ∙ turns_as nothing (numbered number) p call) in
-      let granted_by : (asks_memory call ≡ true → c.refusal ≡ refused_in s a) → polls_tick call ≡ true → c.refusal ≡ Granted =
-      λ same is_tick. same (tick_asks call is_tick)
+      let granted_by : (asks_memory p call ≡ true → c.refusal ≡ refused_in s a) → polls_tick call ≡ true → c.refusal ≡ Granted =
+      λ same is_tick. same (tick_asks p call is_tick)
       ∙ ap (λ b. refused_so b (nat_lt (length s.world.sleepers.wakers) (length a.left.world.sleepers.wakers))) (calm.0 is_tick) in
       let its_own : u.lines.turn ≡ turned_in (turns_of p call) t.lines.turn =
       call_turns its b c t p now u call first known tells acts_so (granted_by of.0.refused) of.0.runless in
@@ -235,5 +235,5 @@ module _ {F T X : Type 0} (its : ℕ → Lent) (number : X → ℕ) where
       → Stands its last (course wakes cs (new limit (is_static_kind kind)))
       × (heard_in (left_of (start limit kind parties) acts).world.trace ≡ as_heard number shown)
   steps_together limit kind solo_kind parties acts cs first last shown before after they is_new counted led calm of =
-      unrefused_together its number limit kind solo_kind parties acts cs first last shown before after they is_new counted led
+      runless_together its number limit kind solo_kind parties acts cs first last shown before after they is_new counted led
       (steps_acted limit kind solo_kind parties acts cs first last shown before after they is_new counted led calm of)

@@ -26,7 +26,7 @@ use Rattle.solo_laws.specs.Owner.{Owner, new_owner}
 use Rattle.solo_laws.specs.Road.{wakes}
 use Rattle.two_roads.specs.Acting.{AreActed, AreOfSteps, EndActed, EndOfSteps, IsActed, IsOfStep, left_of, looks_first}
 use Rattle.two_roads.specs.Together.{as_heard}
-use Rattle.two_roads.proofs.ActedToEnd.{unrefused_end_together}
+use Rattle.two_roads.proofs.ActedToEnd.{runless_end_together}
 use Rattle.two_roads.specs.Turns.{TicksGranted}
 use Rattle.two_roads.proofs.InStep.{steps_acted}
 
@@ -101,7 +101,7 @@ module _ {F T X : Type 0} (its : ℕ → Lent) (number : X → ℕ) where
       × (heard_in (left_of a.left later).world.trace ≡ as_heard number (shown ++ others))
   steps_end_together limit kind solo_kind parties acts a later cs ends first middle last shown others before after they quiet acts_so
       begins they_too is_new counted led then_so nowhere calm of end_of =
-      unrefused_end_together its number limit kind solo_kind parties acts a later cs ends first middle last shown others before after they
+      runless_end_together its number limit kind solo_kind parties acts a later cs ends first middle last shown others before after they
       quiet acts_so begins they_too is_new counted led then_so nowhere
       (steps_acted its number limit kind solo_kind parties acts cs first middle shown before after they is_new counted led calm of)
       (last_acted a later middle (course wakes cs (new limit (is_static_kind kind))) ends others last then_so end_of)

@@ -6,6 +6,7 @@ use Rattle.executor_parts.specs.declared.mark.Mark.{Mark}
 use Rattle.executor_model.specs.declared.op.Waker.{Waker}
 use Rattle.executor_model.specs.World.{Done, World}
 use Rattle.task_moves.specs.AbstractTask as abstract
+use Rattle.task_moves.specs.AbstractTask.{AbstractTask}
 use Rattle.plain_scheduler.specs.State.{Answers, ATick, AtOnce, Choice, Close, Closed, Code, Drop, DropOwn, Due, Event, Full, Gave, Granted}
 use Rattle.plain_scheduler.specs.State.{Later, Lose, Made, NoMemory, Pending, Plain, Poll, PollOwn, Refusal, Run, Running, Taker, Tick, Try}
 use Rattle.plain_scheduler.specs.Lists.{on, or, without}
@@ -27,8 +28,10 @@ use Rattle.machine_roads.specs.Within.{StandsAlike, alike, dropping, forgetting,
 use Rattle.machine_roads.proofs.InLoss.{sleepers_through}
 use Rattle.machine_roads.proofs.Puts.{put_by}
 use Rattle.two_roads.specs.Acting.{goes_on_in, is_runs, takes_for_run}
-use Rattle.two_roads.specs.Refusing.{asks_memory, ends_refused, refused_so}
+use Rattle.two_roads.specs.Refusing.{asks_memory, ends_refused, has_to_wait, refused_so}
 use Rattle.two_roads.specs.Renaming.{call_as, is_refusal}
+use Rattle.two_roads.proofs.Moving.{Setting, now, task_alike}
+use Rattle.two_roads.proofs.Tasks.{polled_as, asks_so as polled_so}
 use Rattle.two_roads.proofs.Words.{length_map}
 
 module _ {T A : Type 0} where
@@ -55,30 +58,38 @@ same_test : (n : ℕ) → nat_lt n n ≡ false
 same_test n = grind (arith, nat_tests)
 
 -- the same but for the names of outputs and wakers
-pub asks_so : {T U A B : Type 0} (output : T → U) (waker : A → B) (call : Call T A)
-    → asks_memory (call_as output waker call) ≡ asks_memory call
-asks_so output waker (calls.Spawn m) = refl
-asks_so output waker calls.TryTick = refl
-asks_so output waker calls.IsEmpty = refl
-asks_so output waker (calls.Wake f) = refl
-asks_so output waker (calls.Use f) = refl
-asks_so output waker (calls.Copy f) = refl
-asks_so output waker (calls.Release f) = refl
-asks_so output waker (calls.PollHandle f w) = refl
-asks_so output waker (calls.Cancel f) = refl
-asks_so output waker (calls.Detach f) = refl
-asks_so output waker (calls.DropHandle f) = refl
-asks_so output waker calls.NewTick = refl
-asks_so output waker (calls.PollTick t w) = refl
-asks_so output waker (calls.DropTick t) = refl
-asks_so output waker calls.NewRun = refl
-asks_so output waker (calls.PollRun r w) = refl
-asks_so output waker (calls.DropRun r) = refl
-asks_so output waker calls.Leak = refl
-asks_so output waker calls.DropExecutor = refl
-asks_so output waker calls.Pends = refl
-asks_so output waker (calls.EndsWith v) = refl
-asks_so output waker calls.Ends = refl
+module _ {T U A B : Type 0} (k : Setting T U A B) where
+  pub asks_so : (call : Call T A) (p : Plain T A) → asks_memory (now k p) (call_as k.output k.waker call) ≡ asks_memory p call
+  asks_so (calls.PollHandle f w) p =
+      ap has_to_wait
+      (sym (polled_so k.output k.waker (task f p) ∙ ap (λ (t : AbstractTask U B). abstract.polled t) (task_alike k f p)))
+      ∙ by (abstract.polled (task f p))
+    where
+      by : (o : abstract.Polled T) → has_to_wait (polled_as k.output k.waker o) ≡ has_to_wait o
+      by (abstract.Polled.Output v) = refl
+      by abstract.Polled.Cancelled = refl
+      by abstract.Polled.Waits = refl
+  asks_so (calls.Spawn m) p = refl
+  asks_so calls.TryTick p = refl
+  asks_so calls.IsEmpty p = refl
+  asks_so (calls.Wake f) p = refl
+  asks_so (calls.Use f) p = refl
+  asks_so (calls.Copy f) p = refl
+  asks_so (calls.Release f) p = refl
+  asks_so (calls.Cancel f) p = refl
+  asks_so (calls.Detach f) p = refl
+  asks_so (calls.DropHandle f) p = refl
+  asks_so calls.NewTick p = refl
+  asks_so (calls.PollTick t w) p = refl
+  asks_so (calls.DropTick t) p = refl
+  asks_so calls.NewRun p = refl
+  asks_so (calls.PollRun r w) p = refl
+  asks_so (calls.DropRun r) p = refl
+  asks_so calls.Leak p = refl
+  asks_so calls.DropExecutor p = refl
+  asks_so calls.Pends p = refl
+  asks_so (calls.EndsWith v) p = refl
+  asks_so calls.Ends p = refl
 
 -- a call that asks for memory
 module _ (d : Choice) (x : Refusal) where
@@ -167,7 +178,7 @@ module _ (d : Choice) (x : Refusal) where
       by None anew is = rested t w q d.refusal anew is
       by (Some due) anew is = refl
 
-  pub seen_refused : (call : Call Output Waker) (q : Plain Output Waker) → asks_memory call ≡ true
+  pub seen_refused : (call : Call Output Waker) (q : Plain Output Waker) → asks_memory q call ≡ true
       → IsLaterAnew d.refusal call q (does wakes_in d call q) → IsSeen q (does wakes_in d call q)
       → does wakes_in e call q ≡ does wakes_in d call q
   seen_refused (calls.Spawn m) q asks anew is = spawned m q is
@@ -241,13 +252,19 @@ module _ {T A : Type 0} (wakes : A → Option ℕ) (c : Choice) (x : Refusal) wh
   closes_on [] all p = refl
   closes_on (f ∷ fs) all p = refl
 
-  pub unasked : (call : Call T A) (p : Plain T A) → asks_memory call ≡ false → takes_for_run p call ≡ false
+  pub unasked : (call : Call T A) (p : Plain T A) → asks_memory p call ≡ false → takes_for_run p call ≡ false
       → does wakes (otherwise c x) call p ≡ does wakes c call p
   unasked calls.TryTick p asks off = refl
   unasked calls.IsEmpty p asks off = refl
   unasked (calls.Wake f) p asks off = refl
   unasked (calls.Use f) p asks off = refl
   unasked (calls.Release f) p asks off = refl
+  unasked (calls.PollHandle f w) p asks off = by (abstract.polled (task f p)) asks
+    where
+      by : (o : abstract.Polled T) → has_to_wait o ≡ false → calls.handle_by wakes (otherwise c x) f w o p ≡ calls.handle_by wakes c f w o p
+      by (abstract.Polled.Output v) asks = refl
+      by abstract.Polled.Cancelled asks = refl
+      by abstract.Polled.Waits asks = absurd cc
   unasked (calls.Cancel f) p asks off = refl
   unasked (calls.Detach f) p asks off = refl
   unasked (calls.DropHandle f) p asks off = refl

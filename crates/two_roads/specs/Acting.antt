@@ -57,7 +57,7 @@ module _ {T X : Type 0} (number : X → ℕ) where
   -- in the act; and no run takes a future
   pub record IsOfStep (s : Machine) (a : Act) (p : Plain T (SoloWaker X)) (c : Choice) (call : Call T (SoloWaker X)) : Type 0 where
     pub made : IsMade s a.party a.first (call_as nothing (numbered number) call)
-    pub refused : asks_memory call ≡ true → c.refusal ≡ refused_in s a
+    pub refused : asks_memory p call ≡ true → c.refusal ≡ refused_in s a
     pub runless : takes_for_run p call ≡ false
 
   -- and where a try or a tick's poll looks for a future while futures of both marks are due, it looks first at the mark that the other's

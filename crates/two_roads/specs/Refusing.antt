@@ -1,21 +1,27 @@
 -- What the machine's own trace and world say of the memory that is refused in an act.
 use Rattle.std.specs.Prelude.{nat_lt, Bool, true, false, List, [], ◌∷◌, length}
 use Rattle.executor_model.specs.Steps.{Machine}
-use Rattle.plain_scheduler.specs.State.{AtOnce, Event, Granted, Later, Refusal}
+use Rattle.task_moves.specs.AbstractTask as abstract
+use Rattle.plain_scheduler.specs.State.{AtOnce, Event, Granted, Later, Plain, Refusal}
+use Rattle.plain_scheduler.specs.Moves.{task}
 use Rattle.plain_scheduler.specs.Calls.{Call, Copy, NewRun, NewTick, PollHandle, PollTick, Spawn}
 use Rattle.machine_roads.specs.Seeing.{heard_in}
 use Rattle.machine_roads.specs.Within.{Act}
 use Rattle.two_roads.specs.Renaming.{is_refusal}
 
--- where no run takes a future these calls alone ask for memory
-abbrev pub asks_memory : {T A : Type 0} → Call T A → Bool
-asks_memory (Spawn m) = true
-asks_memory (Copy f) = true
-asks_memory (PollHandle f w) = true
-asks_memory NewTick = true
-asks_memory (PollTick t w) = true
-asks_memory NewRun = true
-asks_memory _ = false
+abbrev pub has_to_wait : {T : Type 0} → abstract.Polled T → Bool
+has_to_wait abstract.Polled.Waits = true
+has_to_wait _ = false
+
+-- where no run takes a future these calls alone ask for memory, a poll of a handle where it has to wait
+abbrev pub asks_memory : {T A : Type 0} → Plain T A → Call T A → Bool
+asks_memory p (Spawn m) = true
+asks_memory p (Copy f) = true
+asks_memory p (PollHandle f w) = has_to_wait (abstract.polled (task f p))
+asks_memory p NewTick = true
+asks_memory p (PollTick t w) = true
+asks_memory p NewRun = true
+asks_memory p _ = false
 
 -- the last of these is the answer that there is no memory
 abbrev pub ends_refused : {T A : Type 0} → List (Event T A) → Bool

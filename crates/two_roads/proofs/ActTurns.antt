@@ -43,12 +43,11 @@ use Rattle.executor_model.specs.declared.op.TickOrRun.{TickOrRun}
 use Rattle.executor_model.specs.declared.op.TickOrRun.TheVariants as tick_or_run
 use Rattle.executor_model.specs.Steps.{waker_of}
 use Rattle.executor_model.proofs.Sleepers.SleepersFollowingExecutions.{agree}
-use Rattle.plain_scheduler.specs.Lists.{any}
 use Rattle.std.specs.Prelude.{not, ◌||◌, ◌&&◌}
 use Rattle.machine_roads.specs.Within.{is_on_way, lets_begin, may_begin_in, may_stand_in, owes}
 use Rattle.machine_roads.proofs.Changing.{logs}
 use Rattle.machine_roads.proofs.Lists.{clash}
-use Rattle.machine_roads.proofs.LoneRuns.{both_true, not_true}
+use Rattle.machine_roads.proofs.LoneRuns.{both_true}
 use Rattle.machine_roads.proofs.LoneTicks.{can_poll, may_begin}
 use Rattle.machine_roads.specs.Dropped.{answered as drop_answered, loses, rest_of}
 use Rattle.machine_roads.specs.InLoss.{loss_ops}

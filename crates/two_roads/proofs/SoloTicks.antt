@@ -1,6 +1,6 @@
 -- How many turns a tick's poll takes in the executor of one owner: one where it finds a future or lies with a waker, else two.
 use Rattle.std.proofs.Common.{◌≡◌, ◌≤◌, ◌+◌, ◌^◌, ◌%◌, ℕ, suc, List, Bool, true, false, not, Option, Some, None, length, [], ◌∷◌}
-use Rattle.std.proofs.Common.{refl, sym, ap, ◌∙◌, subst, arith, if◌then◌else◌}
+use Rattle.std.proofs.Common.{refl, sym, ap, ◌∙◌, arith, if◌then◌else◌}
 use Rattle.std.specs.Prelude.{find, is_some}
 use Rattle.executor_parts.specs.Marks.{other}
 use Rattle.executor_parts.specs.declared.mark.Mark.{Mark}
@@ -12,7 +12,7 @@ use Rattle.solo.specs.declared.owed.Lent.{Lent}
 use Rattle.solo.specs.declared.solo.Solo.{Solo}
 use Rattle.solo.specs.declared.ticks.Ticked.{Ticked}
 use Rattle.solo.specs.declared.ticks.Ticker.{Ticker}
-use Rattle.solo.specs.declared.ticks.Ticker.TheVariants.{Awake, Asleep}
+use Rattle.solo.specs.declared.ticks.Ticker.TheVariants.{Awake}
 use Rattle.solo.specs.Cells.{choose}
 use Rattle.solo.specs.Lines as lines
 use Rattle.solo.specs.Lines.{mark_of_turn}
@@ -20,14 +20,14 @@ use Rattle.solo.specs.Solo as solo
 use Rattle.solo.specs.Ticks as ticks
 use Rattle.plain_scheduler.specs.State.{ATick, Choice, Due, Lying, Plain, Who}
 use Rattle.plain_scheduler.specs.Lists.{any, or}
-use Rattle.plain_scheduler.specs.Moves.{chosen as chosen_of, copied, is_common, lies}
+use Rattle.plain_scheduler.specs.Moves.{chosen as chosen_of, is_common, lies}
 use Rattle.machine_roads.proofs.Due.{find_never, find_same}
 use Rattle.machine_roads.proofs.Lists.{clash}
 use Rattle.machine_roads.proofs.TickPolls.{both_marks}
 use Rattle.solo_laws.specs.Alike.{copies}
 use Rattle.solo_laws.specs.Numbered.{IsNumbered, ticker_of}
 use Rattle.solo_laws.specs.Owner.{HasRoom}
-use Rattle.solo_laws.specs.Road.{HasLife, IsNamed, tests, wakes}
+use Rattle.solo_laws.specs.Road.{HasLife, IsNamed, tests}
 use Rattle.solo_laws.specs.Tabled.{Stands, named}
 use Rattle.solo_laws.specs.Ticking.{looks_again, rested, slept_answer, slept_once}
 use Rattle.solo_laws.proofs.Lines.{searched_empty}

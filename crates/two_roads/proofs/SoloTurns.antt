@@ -171,9 +171,9 @@ pub call_turns : {F T X : Type 0} (its : ℕ → Lent) (owner : Owner) (c : Choi
 call_turns its owner c s p now z call shown known many (courses.makes call' shown' z' how) granted alone =
     makes_turns its c s z' p call' shown' how
 call_turns its owner c s p now z call shown known many (courses.makes_tick t new may) granted alone = refl
-call_turns its owner c s p now z call shown known many (courses.tick_takes t w task lives found first life) granted alone = 
+call_turns its owner c s p now z call shown known many (courses.tick_takes t w task lives found first life) granted alone =
     taken_turns its owner.number s p known.stands known.numbered c t w first task found
-call_turns its owner c s p now z call shown known many (courses.tick_rests t w lives found first may names more life) granted alone = 
+call_turns its owner c s p now z call shown known many (courses.tick_rests t w lives found first may names more life) granted alone =
     rested_turns its owner.number s p known.stands known.numbered c t w first found
     (tick_room its owner s p known.stands known.numbered known.housed t lives) (λ u same. ((names u same).0, (names u same).1.0)) more life
 call_turns its owner c s p now z call shown known many (courses.makes_run may few) granted alone = refl

@@ -1,10 +1,10 @@
 -- How many turns a tick's poll takes in the machine: one where it finds a future or lies with a waker, else two.
 use Rattle.std.proofs.Common.{◌≡◌, ◌<◌, ◌++◌, ℕ, zero, suc, List, [], ◌∷◌, Bool, true, false, nat_lt, length, get_or, Option, Some, None}
 use Rattle.std.proofs.Common.{append_assoc, refl, sym, ap, ◌∙◌, subst, arith, if◌then◌else◌}
-use Rattle.std.specs.Prelude.{find, is_some}
+use Rattle.std.specs.Prelude.{is_some}
 use Rattle.std.proofs.lemmas.List.{get_or-set_same}
 use Rattle.executor_parts.specs.Marks.{first_of, other, turn_after}
-use Rattle.executor_parts.specs.Sleepers.{listed, next_number, position_of, put_to_sleep, waker_at}
+use Rattle.executor_parts.specs.Sleepers.{next_number, position_of, waker_at}
 use Rattle.executor_parts.specs.declared.mark.Mark.{Mark}
 use Rattle.executor_parts.specs.declared.mark.Mark.TheVariants.{Plain as PlainMark, Urgent}
 use Rattle.executor_model.specs.declared.event.Event.TheVariants as event
@@ -17,7 +17,6 @@ use Rattle.executor_model.specs.declared.op.Op.{Op}
 use Rattle.executor_model.specs.declared.op.Op.TheVariants as op
 use Rattle.executor_model.specs.declared.op.Sleeping.{Sleeping}
 use Rattle.executor_model.specs.declared.op.TickOp.TheVariants as tick_op
-use Rattle.executor_model.specs.declared.op.TickOrRun.{TickOrRun}
 use Rattle.executor_model.specs.declared.op.TickOrRun.TheVariants as tick_or_run
 use Rattle.executor_model.specs.declared.op.UserOp.TheVariants as user_op
 use Rattle.executor_model.specs.declared.op.Waker.{Waker}
@@ -27,14 +26,14 @@ use Rattle.executor_model.specs.Acts.{copied, is_copy_refused, turned, waker_goe
 use Rattle.executor_model.specs.ActsOfSleepers.{copy_sleeper_by, fall_asleep_by, look_tick_by, pend_as, sleep_again_by, sleep_anew_by}
 use Rattle.executor_model.specs.ActsOfSleepers.{sleep_listed_by, sleeper_goes}
 use Rattle.executor_model.specs.SleepersAgree.{sleeps}
-use Rattle.executor_model.specs.Steps.{lives, waits}
+use Rattle.executor_model.specs.Steps.{lives}
 use Rattle.executor_model.specs.Trace.{Trace}
 use Rattle.executor_model.specs.Weights.{weigh}
-use Rattle.executor_model.specs.World.{Asleep, Awake, Left, Ticker, World, done, log, place_of, put_place, put_sleepers, queue_of, tick_of}
-use Rattle.plain_scheduler.specs.State.{ATick, Answers, NoMemory, Event as Sight, Lying, Plain}
+use Rattle.executor_model.specs.World.{Asleep, Awake, Left, Ticker, World, done, log, queue_of, tick_of}
+use Rattle.plain_scheduler.specs.State.{ATick, Answers, NoMemory, Event as Sight, Plain}
 use Rattle.plain_scheduler.specs.Lists.{any, or}
 use Rattle.plain_scheduler.specs.Moves.{is_common, lies}
-use Rattle.machine_roads.specs.Alone.{SleepsAlone, alone, is_outside, is_resting, one_by}
+use Rattle.machine_roads.specs.Alone.{SleepsAlone, alone, is_resting}
 use Rattle.machine_roads.specs.Road.{Follows}
 use Rattle.machine_roads.specs.Seeing.{heard, heard_in}
 use Rattle.machine_roads.specs.Ticking.{CanPoll}
@@ -42,7 +41,6 @@ use Rattle.machine_roads.specs.View.{Output}
 use Rattle.machine_roads.proofs.Due.{nothing}
 use Rattle.machine_roads.proofs.Lain.{Lies, below_test, found, none_found, one_lies, place_called, place_uncalled, room_called, split_uncalled}
 use Rattle.machine_roads.proofs.Lists.{clash}
-use Rattle.machine_roads.proofs.LoneRuns.{both_true, not_true}
 use Rattle.machine_roads.proofs.Numbers.{IsNamed, Rests, down, rests_if, up}
 use Rattle.machine_roads.proofs.Replacing.{position_last}
 use Rattle.machine_roads.proofs.TickPolls.{none_in}
@@ -240,91 +238,91 @@ module _ (p : ℕ) (below : List Op) (under : is_resting below ≡ true) (t : �
       (again hs (sleep_listed_by true w n s).world n (length w.sleepers.wakers) empty is (position_last n s w.sleepers.wakers))))
 
   module _ (w : World) (q : Plain Output Waker) (follows : Follows w q) (can : CanPoll w t) (apart : SleepsAlone w (tick_or_run.Tick t))
-      where
-    abbrev v : World
-    v = copied (turned p w) a
+    where
+      abbrev v : World
+      v = copied (turned p w) a
 
-    abbrev Goal : List Hint → Bool → Type 0
-    Goal hs b = Comes hs v (op.Tick (tick_op.FallAsleep s) ∷ below) (if b then v.urgent_turns else turn_after v.urgent_turns)
+      abbrev Goal : List Hint → Bool → Type 0
+      Goal hs b = Comes hs v (op.Tick (tick_op.FallAsleep s) ∷ below) (if b then v.urgent_turns else turn_after v.urgent_turns)
 
-    lies_by : (b : Bool) → lies_uncalled (ATick t) q.lying ≡ b → IsEmpty v → (hs : List Hint)
-        → Comes hs v (op.Tick (tick_op.FallAsleep s) ∷ below) (if b then v.urgent_turns else turn_after v.urgent_turns)
-    lies_by b so empty hs = by (rests_if (tick_or_run.Tick t) w q follows (λ n is. apart))
-      where
-        here : tick_of v t ≡ tick_of w t
-        here = copied_ticks (turned p w) a t
+      lies_by : (b : Bool) → lies_uncalled (ATick t) q.lying ≡ b → IsEmpty v → (hs : List Hint)
+          → Comes hs v (op.Tick (tick_op.FallAsleep s) ∷ below) (if b then v.urgent_turns else turn_after v.urgent_turns)
+      lies_by b so empty hs = by (rests_if (tick_or_run.Tick t) w q follows (λ n is. apart))
+        where
+          here : tick_of v t ≡ tick_of w t
+          here = copied_ticks (turned p w) a t
 
-        sleepers : v.sleepers ≡ w.sleepers
-        sleepers = copied_sleepers (turned p w) a
+          sleepers : v.sleepers ≡ w.sleepers
+          sleepers = copied_sleepers (turned p w) a
 
-        up_by : (x : Ticker) → tick_of w t ≡ x → sleeps x ≡ 0 → lives x ≡ true → any (lies (ATick t)) q.lying ≡ false → Goal hs b
-        up_by Awake is awake living none =
-            subst (λ b. Goal hs b) (sym (ap (λ o. or o (λ l. is_some l.waker) false) (none_found (lies (ATick t)) q.lying none)) ∙ so)
-            (lies_anew hs v empty (here ∙ is)
-            (ap (λ sl. nat_lt sl.count sl.rooms) sleepers ∙ below_test w.sleepers.count w.sleepers.rooms (can.roomed is)))
-        up_by (Asleep n) is awake living none = absurd (omega (arith, awake))
-        up_by Left is awake living none = absurd cc
+          up_by : (x : Ticker) → tick_of w t ≡ x → sleeps x ≡ 0 → lives x ≡ true → any (lies (ATick t)) q.lying ≡ false → Goal hs b
+          up_by Awake is awake living none =
+              subst (λ b. Goal hs b) (sym (ap (λ o. or o (λ l. is_some l.waker) false) (none_found (lies (ATick t)) q.lying none)) ∙ so)
+              (lies_anew hs v empty (here ∙ is)
+              (ap (λ sl. nat_lt sl.count sl.rooms) sleepers ∙ below_test w.sleepers.count w.sleepers.rooms (can.roomed is)))
+          up_by (Asleep n) is awake living none = absurd (omega (arith, awake))
+          up_by Left is awake living none = absurd cc
 
-        down_by : (n : ℕ) → tick_of w t ≡ Asleep n → (named : IsNamed n (ATick t) w.sleepers.wakers) → (l : Lies (ATick t) q.lying)
-            → (o : Option Waker) → l.one.waker ≡ o → Goal hs b
-        down_by n is named l None waker =
-            subst (λ b. Goal hs b)
-            (sym (ap (λ o. or o (λ l. is_some l.waker) false) (found n (ATick t) w q follows named l)
-            ∙ ap (λ (o : Option Waker). is_some o) waker) ∙ so)
-            (lies_listed hs v n empty (here ∙ is)
-            (ap (λ sl. position_of n sl.wakers) sleepers ∙ place_called n (ATick t) w q follows named l waker)
-            (ap (λ sl. nat_lt (length sl.wakers) sl.count) sleepers ∙ room_called n (ATick t) w q follows named l waker))
-        down_by n is named l (Some x) waker =
-            subst (λ b. Goal hs b)
-            (sym (ap (λ o. or o (λ l. is_some l.waker) false) (found n (ATick t) w q follows named l)
-            ∙ ap (λ (o : Option Waker). is_some o) waker) ∙ so)
-            (lies_again hs v n (length (split_uncalled n (ATick t) w q follows named l x waker).first) (here ∙ is)
-            (ap (λ sl. position_of n sl.wakers) sleepers ∙ place_uncalled n (ATick t) w q follows named l x waker))
+          down_by : (n : ℕ) → tick_of w t ≡ Asleep n → (named : IsNamed n (ATick t) w.sleepers.wakers) → (l : Lies (ATick t) q.lying)
+              → (o : Option Waker) → l.one.waker ≡ o → Goal hs b
+          down_by n is named l None waker =
+              subst (λ b. Goal hs b)
+              (sym (ap (λ o. or o (λ l. is_some l.waker) false) (found n (ATick t) w q follows named l)
+              ∙ ap (λ (o : Option Waker). is_some o) waker) ∙ so)
+              (lies_listed hs v n empty (here ∙ is)
+              (ap (λ sl. position_of n sl.wakers) sleepers ∙ place_called n (ATick t) w q follows named l waker)
+              (ap (λ sl. nat_lt (length sl.wakers) sl.count) sleepers ∙ room_called n (ATick t) w q follows named l waker))
+          down_by n is named l (Some x) waker =
+              subst (λ b. Goal hs b)
+              (sym (ap (λ o. or o (λ l. is_some l.waker) false) (found n (ATick t) w q follows named l)
+              ∙ ap (λ (o : Option Waker). is_some o) waker) ∙ so)
+              (lies_again hs v n (length (split_uncalled n (ATick t) w q follows named l x waker).first) (here ∙ is)
+              (ap (λ sl. position_of n sl.wakers) sleepers ∙ place_uncalled n (ATick t) w q follows named l x waker))
 
-        by : Rests w q (tick_or_run.Tick t) → Goal hs b
-        by (up awake none) = up_by (tick_of w t) refl awake can.living none
-        by (down n is named one) =
-            let l = one_lies (ATick t) q.lying one in down_by n is named l l.one.waker refl
+          by : Rests w q (tick_or_run.Tick t) → Goal hs b
+          by (up awake none) = up_by (tick_of w t) refl awake can.living none
+          by (down n is named one) =
+              let l = one_lies (ATick t) q.lying one in down_by n is named l l.one.waker refl
 
-    empties : (m : Mark) → (queue_of w m).items ≡ [] → any (is_common m) q.due ≡ false
-    empties m is = (nothing (is_common m) q.due (sym (follows.common m) ∙ is)).none
+      empties : (m : Mark) → (queue_of w m).items ≡ [] → any (is_common m) q.due ≡ false
+      empties m is = (nothing (is_common m) q.due (sym (follows.common m) ∙ is)).none
 
-    some_due : (m : Mark) (f : ℕ) (rest : List ℕ) → (queue_of w m).items ≡ f ∷ rest → any (is_common m) q.due ≡ true
-    some_due m f rest is = by (any (is_common m) q.due) refl
-      where
-        by : (b : Bool) → any (is_common m) q.due ≡ b → b ≡ true
-        by true so = refl
-        by false so =
-            let no : ◌≡◌ {A = List ℕ} (f ∷ rest) [] = sym is ∙ (follows.common m ∙ none_in (is_common m) q.due so) in absurd cc
+      some_due : (m : Mark) (f : ℕ) (rest : List ℕ) → (queue_of w m).items ≡ f ∷ rest → any (is_common m) q.due ≡ true
+      some_due m f rest is = by (any (is_common m) q.due) refl
+        where
+          by : (b : Bool) → any (is_common m) q.due ≡ b → b ≡ true
+          by true so = refl
+          by false so =
+              let no : ◌≡◌ {A = List ℕ} (f ∷ rest) [] = sym is ∙ (follows.common m ∙ none_in (is_common m) q.due so) in absurd cc
 
-    one_turn : (m : Mark) → any (is_common m) q.due ≡ true → tick_turns t q ≡ 1
-    one_turn PlainMark some =
-        ap (λ b. if b then 1 else (if any (is_common Urgent) q.due then 1 else (if lies_uncalled (ATick t) q.lying then 1 else 2))) some
-    one_turn Urgent some =
-        ap (λ b. if any (is_common PlainMark) q.due then 1 else (if b then 1 else (if lies_uncalled (ATick t) q.lying then 1 else 2))) some
-        ∙ same (any (is_common PlainMark) q.due)
-      where
-        same : (b : Bool) → ◌≡◌ {A = ℕ} (if b then 1 else 1) 1
-        same true = refl
-        same false = refl
+      one_turn : (m : Mark) → any (is_common m) q.due ≡ true → tick_turns t q ≡ 1
+      one_turn PlainMark some =
+          ap (λ b. if b then 1 else (if any (is_common Urgent) q.due then 1 else (if lies_uncalled (ATick t) q.lying then 1 else 2))) some
+      one_turn Urgent some =
+          ap (λ b. if any (is_common PlainMark) q.due then 1 else (if b then 1 else (if lies_uncalled (ATick t) q.lying then 1 else 2))) some
+          ∙ same (any (is_common PlainMark) q.due)
+        where
+          same : (b : Bool) → ◌≡◌ {A = ℕ} (if b then 1 else 1) 1
+          same true = refl
+          same false = refl
 
-    by_lying : any (is_common PlainMark) q.due ≡ false → any (is_common Urgent) q.due ≡ false
-        → tick_turns t q ≡ (if lies_uncalled (ATick t) q.lying then 1 else 2)
-    by_lying none nor =
-        ap (λ b. if b then 1 else (if any (is_common Urgent) q.due then 1 else (if lies_uncalled (ATick t) q.lying then 1 else 2))) none
-        ∙ ap (λ b. if b then 1 else (if lies_uncalled (ATick t) q.lying then 1 else 2)) nor
+      by_lying : any (is_common PlainMark) q.due ≡ false → any (is_common Urgent) q.due ≡ false
+          → tick_turns t q ≡ (if lies_uncalled (ATick t) q.lying then 1 else 2)
+      by_lying none nor =
+          ap (λ b. if b then 1 else (if any (is_common Urgent) q.due then 1 else (if lies_uncalled (ATick t) q.lying then 1 else 2))) none
+          ∙ ap (λ b. if b then 1 else (if lies_uncalled (ATick t) q.lying then 1 else 2)) nor
 
-    pub polled : (hs : List Hint) → Comes hs w (op.Tick (tick_op.Search s) ∷ below) (turned_by (tick_turns t q) w.urgent_turns)
-    polled hs =
-        search hs w (turned_by (tick_turns t q) w.urgent_turns)
-        (λ m f rest is. ap (λ n. turned_by n w.urgent_turns) (sym (one_turn m (some_due m f rest is))))
-        (λ empty hs. copies hs (turned p w) (turned_by (tick_turns t q) w.urgent_turns)
-        (λ hs. subst (Comes hs v (op.Tick (tick_op.FallAsleep s) ∷ below))
-        (counted (lies_uncalled (ATick t) q.lying)
-        ∙ ap (λ n. turned_by n w.urgent_turns) (sym (by_lying (empties PlainMark (empty PlainMark)) (empties Urgent (empty Urgent)))))
-        (lies_by (lies_uncalled (ATick t) q.lying) refl (λ m. ap (λ l. l.items) (copied_queues (turned p w) a m) ∙ empty m) hs)))
-      where
-        counted : (b : Bool)
-            → (if b then v.urgent_turns else turn_after v.urgent_turns) ≡ turned_by (if b then 1 else 2) w.urgent_turns
-        counted true = copied_turns (turned p w) a
-        counted false = ap (λ n. turn_after n) (copied_turns (turned p w) a)
+      pub polled : (hs : List Hint) → Comes hs w (op.Tick (tick_op.Search s) ∷ below) (turned_by (tick_turns t q) w.urgent_turns)
+      polled hs =
+          search hs w (turned_by (tick_turns t q) w.urgent_turns)
+          (λ m f rest is. ap (λ n. turned_by n w.urgent_turns) (sym (one_turn m (some_due m f rest is))))
+          (λ empty hs. copies hs (turned p w) (turned_by (tick_turns t q) w.urgent_turns)
+          (λ hs. subst (Comes hs v (op.Tick (tick_op.FallAsleep s) ∷ below))
+          (counted (lies_uncalled (ATick t) q.lying)
+          ∙ ap (λ n. turned_by n w.urgent_turns) (sym (by_lying (empties PlainMark (empty PlainMark)) (empties Urgent (empty Urgent)))))
+          (lies_by (lies_uncalled (ATick t) q.lying) refl (λ m. ap (λ l. l.items) (copied_queues (turned p w) a m) ∙ empty m) hs)))
+        where
+          counted : (b : Bool)
+              → (if b then v.urgent_turns else turn_after v.urgent_turns) ≡ turned_by (if b then 1 else 2) w.urgent_turns
+          counted true = copied_turns (turned p w) a
+          counted false = ap (λ n. turn_after n) (copied_turns (turned p w) a)

@@ -23,7 +23,8 @@ use Rattle.executor_model.specs.declared.step.UserEnd.{UserEnd}
 use Rattle.executor_model.specs.declared.step.UserEnd.TheVariants.{Done as Over, Polled}
 use Rattle.executor_model.specs.Carried.{awaiter_ops}
 use Rattle.executor_model.specs.Executions.{run_all}
-use Rattle.executor_model.specs.Steps.{Machine, accepts, after, answer_refusal, begun, mine, part_refusal, party_of, react, stack, start, top}
+use Rattle.executor_model.specs.Steps.{Machine, accepts, after, answer_refusal, begun, mine, part_refusal, party_of, react, stack, start}
+use Rattle.executor_model.specs.Steps.{top}
 use Rattle.executor_model.specs.World.{Done, World, log, task}
 use Rattle.executor_model.proofs.OwnQueues.Using.{mild-aside}
 use Rattle.executor_model.proofs.Steps.Asides.{aside-awaiter}
@@ -307,7 +308,8 @@ module _ (s : Machine) (reached : Reached s) (p : ℕ) (q : Plain Output Waker) 
           let light = subst (λ xs. Rests q.inside xs) is (alike_rests (standing s p) q stands) in
           answer_leads_of (λ w o. Unit {0}) (λ s. Unit {0}) walks p (λ e. e.world.urgent_turns ≡ s.world.urgent_turns) new tt u o os ts s
           reached there is
-          (λ hints all over. alone_still p hints (react p o u s.world).world ((react p o u s.world).next ++ os) (light u fits none p s.world)
+          (λ hints all over. alone_still p hints (react p o u s.world).world ((react p o u s.world).next ++ os)
+          (light u fits none p s.world)
           ∙ reacts_still p o u s.world) rests made
 
   there : (t : Step) (ts : List Step) → party_of t ≡ p → run_all (t ∷ ts) s ≡ Ok new → p < length s.parties

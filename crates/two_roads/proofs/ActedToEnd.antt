@@ -99,7 +99,8 @@ module _ {T X : Type 0} (number : X → ℕ) where
       drop_acts_seen a.left r1 later (on x.0).1 (drop_seen (standing a.left a.party) r1 (on x.0).0)
       ∙ ap (λ (z : Plain Output Waker). map shown_alike z.events)
       (sym
-      (drop_acted a.left r1 later (on x.0).1 (does wakes x.0 x.1 p) xs (lie_in_drop (standing a.left a.party) r1 (on x.0).0) one are.1 tell.1))
+      (drop_acted a.left r1 later (on x.0).1 (does wakes x.0 x.1 p) xs (lie_in_drop (standing a.left a.party) r1 (on x.0).0) one are.1
+      tell.1))
 
 module _ {F T X : Type 0} (its : ℕ → Lent) (number : X → ℕ) where
   pub runless_end_together : (limit : ℕ) (kind : MachineKind) (solo_kind : Kind) (parties : ℕ) (acts : List Act) (a : Act)

@@ -168,7 +168,8 @@ module _ (d : Choice) (x : Refusal) where
       (λ due. takes.takes wakes_in d (Tick t w) due (record q { due = without (chosen (looks d (Tick t w)) q.due) q.due }))
       (takes.rests wakes_in d r (ATick t) w q)
 
-  ticked : (t : ℕ) (w : Waker) (q : Plain Output Waker) → IsLaterAnew d.refusal (calls.PollTick t w) q (does wakes_in d (calls.PollTick t w) q)
+  ticked : (t : ℕ) (w : Waker) (q : Plain Output Waker) → IsLaterAnew d.refusal (calls.PollTick t w) q
+      (does wakes_in d (calls.PollTick t w) q)
       → IsSeen q (does wakes_in d (calls.PollTick t w) q)
       → does wakes_in e (calls.PollTick t w) q ≡ does wakes_in d (calls.PollTick t w) q
   ticked t w q anew is = by (find (chosen (looks d (Tick t w)) q.due) q.due) anew is
@@ -210,9 +211,11 @@ module _ {T A : Type 0} (wakes : A → Option ℕ) (c : Choice) (x : Refusal) wh
       nexts by (moves.becomes wakes (tell wakes c) f (abstract.end_pending (task f p)).task p) off
 
   pends_on : (codes : List (Code T A)) (p : Plain T A) → goes_on_in codes ≡ false
-      → calls.innermost wakes (otherwise c x) codes (calls.pends wakes (otherwise c x)) p ≡ calls.innermost wakes c codes (calls.pends wakes c) p
+      → calls.innermost wakes (otherwise c x) codes (calls.pends wakes (otherwise c x)) p ≡ calls.innermost wakes c codes
+      (calls.pends wakes c) p
   pends_on [] p off = refl
-  pends_on (Poll f by ∷ rest) p off = pending (abstract.pending_end (task f (record p { inside = rest }))) f by (record p { inside = rest }) off
+  pends_on (Poll f by ∷ rest) p off = pending (abstract.pending_end (task f (record p { inside = rest }))) f by
+      (record p { inside = rest }) off
   pends_on (PollOwn r w ∷ rest) p off = absurd cc
   pends_on (Drop f end by ∷ rest) p off = refl
   pends_on (Lose awaiter by ∷ rest) p off = refl
@@ -220,7 +223,8 @@ module _ {T A : Type 0} (wakes : A → Option ℕ) (c : Choice) (x : Refusal) wh
   pends_on (Close fs all ∷ rest) p off = refl
 
   gives_on : (v : T) (codes : List (Code T A)) (p : Plain T A)
-      → calls.innermost wakes (otherwise c x) codes (calls.gives wakes (otherwise c x) v) p ≡ calls.innermost wakes c codes (calls.gives wakes c v) p
+      → calls.innermost wakes (otherwise c x) codes (calls.gives wakes (otherwise c x) v) p ≡ calls.innermost wakes c codes
+      (calls.gives wakes c v) p
   gives_on v [] p = refl
   gives_on v (Poll f by ∷ rest) p = refl
   gives_on v (PollOwn r w ∷ rest) p = refl
@@ -230,7 +234,8 @@ module _ {T A : Type 0} (wakes : A → Option ℕ) (c : Choice) (x : Refusal) wh
   gives_on v (Close fs all ∷ rest) p = refl
 
   ends_on : (codes : List (Code T A)) (p : Plain T A) → goes_on_in codes ≡ false
-      → calls.innermost wakes (otherwise c x) codes (calls.ends wakes (otherwise c x)) p ≡ calls.innermost wakes c codes (calls.ends wakes c) p
+      → calls.innermost wakes (otherwise c x) codes (calls.ends wakes (otherwise c x)) p ≡ calls.innermost wakes c codes
+      (calls.ends wakes c) p
   ends_on [] p off = refl
   ends_on (Poll f by ∷ rest) p off = refl
   ends_on (PollOwn r w ∷ rest) p off = refl

@@ -39,7 +39,8 @@ use Rattle.two_roads.specs.Acting.{goes_on_in, takes_for_run}
 use Rattle.two_roads.specs.Turns.{CallsTakeTurns, polls_tick, turned_in, turns_of}
 
 -- one that a run took ends, behind which the run goes on
-for_run : {T X : Type 0} (p : Plain T (SoloWaker X)) (stage : Stage T (SoloWaker X)) (r : ℕ) (w : SoloWaker X) (rest : List (Code T (SoloWaker X)))
+for_run : {T X : Type 0} (p : Plain T (SoloWaker X)) (stage : Stage T (SoloWaker X)) (r : ℕ) (w : SoloWaker X)
+    (rest : List (Code T (SoloWaker X)))
     (call : Call T (SoloWaker X)) → IsEnding stage call → p.inside ≡ code_at stage (Run r w) ∷ rest → takes_for_run p call ≡ false → ⊥
 for_run p stage r w rest call (poll_ends f) is alone = clash alone (ap (λ codes. goes_on_in codes) is)
 for_run p stage r w rest call (drop_ends f end) is alone = clash alone (ap (λ codes. goes_on_in codes) is)
@@ -98,7 +99,8 @@ module _ {F T X : Type 0} where
 
     after_at : (owed : Owed F T X) (s : Solo F T X) → At t s → At t (after_drop owed s)
     after_at owed s at =
-        chosen (At t) _ s (calls owed.awaiter (lets_go owed.old s)) at (calls_at owed.awaiter (lets_go owed.old s) (lets_go_at owed.old s at))
+        chosen (At t) _ s (calls owed.awaiter (lets_go owed.old s)) at
+        (calls_at owed.awaiter (lets_go owed.old s) (lets_go_at owed.old s at))
 
     ready_at : (lent : Lent) (v : T) (s : Solo F T X) → At t s → At t (solo.settled_ready lent v s)
     ready_at lent v s at = left_at t lent.place s at
@@ -167,7 +169,8 @@ module _ {F T X : Type 0} where
 
 pub call_turns : {F T X : Type 0} (its : ℕ → Lent) (owner : Owner) (c : Choice) (s : Solo F T X) (p : Plain T (SoloWaker X)) (now : Owner)
     (z : Solo F T X) (call : Call T (SoloWaker X)) (shown : List (Event T (SoloWaker X))) → Known its owner s p → length p.lying ≤ c.tells
-    → Acts its owner c s p call shown now z → (polls_tick call ≡ true → c.refusal ≡ Granted) → takes_for_run p call ≡ false → Turns p call s z
+    → Acts its owner c s p call shown now z → (polls_tick call ≡ true → c.refusal ≡ Granted) → takes_for_run p call ≡ false → Turns p call
+    s z
 call_turns its owner c s p now z call shown known many (courses.makes call' shown' z' how) granted alone =
     makes_turns its c s z' p call' shown' how
 call_turns its owner c s p now z call shown known many (courses.makes_tick t new may) granted alone = refl
@@ -183,7 +186,8 @@ call_turns its owner c s p now z call shown known many (courses.over_polled r w 
 call_turns its owner c s p now z call shown known many (courses.own_ready r w v rest is) granted alone = refl
 call_turns its owner c s p now z call shown known many (courses.run_looks runner w rest shown' now' z' mine is how) granted alone =
     absurd (clash alone (ap (λ codes. goes_on_in codes) is))
-call_turns its owner c s p now z call shown known many (courses.run_goes_on stage runner w rest call' first more now' y z' o is ends how goes) granted alone =
+call_turns its owner c s p now z call shown known many (courses.run_goes_on stage runner w rest call' first more now' y z' o is ends how
+    goes) granted alone =
     absurd (for_run p stage runner.number w rest call' ends is alone)
 call_turns its owner c s p now z call shown known many (courses.run_drops stage r w rest call' first f z' is ends how) granted alone =
     absurd (for_run p stage r w rest call' ends is alone)
@@ -195,8 +199,10 @@ call_turns its owner c s p now z call shown known many (courses.run_leaves runne
     drains_at s.lines.turn (suc (own.count_of runner.number s.runs))
     (runs.leave_answer runner (ticker_of owner.number (ARun runner.number) p.lying) s) (runs.left runner s) refl
 call_turns its owner c s p now z call shown known many (courses.makes_no_tick refused) granted alone = refl
-call_turns its owner c s p now z call shown known many (courses.tick_refused t w lives found first refused) granted alone = let no : ◌≡◌ {A = Refusal} Granted AtOnce = sym (granted refl) ∙ refused in absurd cc
-call_turns its owner c s p now z call shown known many (courses.tick_lies_refused t w lives found first refused names again more life) granted alone =
+call_turns its owner c s p now z call shown known many (courses.tick_refused t w lives found first refused) granted alone = let no : ◌≡◌
+    {A = Refusal} Granted AtOnce = sym (granted refl) ∙ refused in absurd cc
+call_turns its owner c s p now z call shown known many (courses.tick_lies_refused t w lives found first refused names again more life)
+    granted alone =
     let no : ◌≡◌ {A = Refusal} Granted Later = sym (granted refl) ∙ refused in absurd cc
 call_turns its owner c s p now z call shown known many (courses.tick_leaves t lives life) granted alone =
     tick_left_at s.lines.turn (ticker_of owner.number (ATick t) p.lying) s refl

@@ -39,7 +39,8 @@ use Rattle.machine_roads.specs.Seeing.{heard, heard_in}
 use Rattle.machine_roads.specs.Ticking.{CanPoll}
 use Rattle.machine_roads.specs.View.{Output}
 use Rattle.machine_roads.proofs.Due.{nothing}
-use Rattle.machine_roads.proofs.Lain.{Lies, below_test, found, none_found, one_lies, place_called, place_uncalled, room_called, split_uncalled}
+use Rattle.machine_roads.proofs.Lain.{Lies, below_test, found, none_found, one_lies, place_called, place_uncalled, room_called}
+use Rattle.machine_roads.proofs.Lain.{split_uncalled}
 use Rattle.machine_roads.proofs.Lists.{clash}
 use Rattle.machine_roads.proofs.Numbers.{IsNamed, Rests, down, rests_if, up}
 use Rattle.machine_roads.proofs.Replacing.{position_last}
@@ -299,7 +300,8 @@ module _ (p : ℕ) (below : List Op) (under : is_resting below ≡ true) (t : �
       one_turn PlainMark some =
           ap (λ b. if b then 1 else (if any (is_common Urgent) q.due then 1 else (if lies_uncalled (ATick t) q.lying then 1 else 2))) some
       one_turn Urgent some =
-          ap (λ b. if any (is_common PlainMark) q.due then 1 else (if b then 1 else (if lies_uncalled (ATick t) q.lying then 1 else 2))) some
+          ap (λ b. if any (is_common PlainMark) q.due then 1 else (if b then 1 else (if lies_uncalled (ATick t) q.lying then 1 else 2)))
+          some
           ∙ same (any (is_common PlainMark) q.due)
         where
           same : (b : Bool) → ◌≡◌ {A = ℕ} (if b then 1 else 1) 1

@@ -1,5 +1,6 @@
 -- How many turns of the executor's two queues a call takes, as the plain scheduler has it, where no run goes on.
-use Rattle.std.specs.Prelude.{◌≡◌, ℕ, zero, suc, ◌+◌, ◌^◌, ◌%◌, Bool, true, false, List, ◌∷◌, Ok, find, if◌then◌else◌, is_some, reverse, length, ◌≤◌}
+use Rattle.std.specs.Prelude.{◌≡◌, ℕ, zero, suc, ◌+◌, ◌^◌, ◌%◌, Bool, true, false, List, ◌∷◌, Ok, find, if◌then◌else◌, is_some, reverse}
+use Rattle.std.specs.Prelude.{length, ◌≤◌}
 use Rattle.executor_parts.specs.Marks.{turn_after}
 use Rattle.executor_model.specs.declared.kind.Kind.{Kind}
 use Rattle.executor_model.specs.declared.op.Waker.{Waker}

@@ -1,6 +1,6 @@
 -- How many turns the executor of one owner takes in a call in which no run goes on.
 use Rattle.std.proofs.Common.{◌≡◌, ◌+◌, ◌^◌, ◌%◌, ℕ, zero, suc, List, ◌∷◌, Bool, false, Option, Some, None}
-use Rattle.std.proofs.Common.{◌≤◌, true, refl, sym, ap, ◌∙◌, length, slice_get}
+use Rattle.std.proofs.Common.{◌≤◌, refl, sym, ap, ◌∙◌, length, slice_get}
 use Rattle.solo.specs.declared.names.Task.{Task}
 use Rattle.solo.specs.declared.names.SoloWaker.{SoloWaker}
 use Rattle.solo.specs.declared.names.SoloWaker.TheVariants.{Task as OfTask, Outside}

@@ -27,13 +27,12 @@ use Rattle.two_roads.specs.Refusing.{refused_in}
 abbrev pub lies_uncalled : {A : Type 0} → Who → List (Lying A) → Bool
 lies_uncalled who ls = or (find (lies who) ls) (λ l. is_some l.waker) false
 
--- a search is made once where memory is refused at once
+-- a tick that lies down searches again; one to which memory is refused at once doesn't lie down
 abbrev pub searches_by : Refusal → ℕ
 searches_by AtOnce = 1
 searches_by _ = 2
 
--- a tick's poll takes one where a future without a keeper is due, where it lies with a waker, and where memory is refused to it at once;
--- else it lies down and searches again
+-- a tick's poll takes one turn where a future without a keeper is due, or where it lies with a waker; else one in each search
 abbrev pub tick_turns : {T A : Type 0} → Refusal → ℕ → Plain T A → ℕ
 tick_turns r t p =
     if any (is_common PlainMark) p.due then 1

@@ -30,7 +30,7 @@ use Rattle.solo_laws.specs.Tabled.{Stands}
 use Rattle.solo_laws.proofs.Showing.Courses.{leads_alike, new_known}
 use Rattle.two_roads.specs.Acting.{IsOfStep, acts_by, goes_on_in, is_runs, left_of, takes_for_run}
 use Rattle.two_roads.specs.Refusing.{asks_memory, ends_refused, refused_in, refused_so}
-use Rattle.two_roads.specs.Renaming.{AreBothDue, CallsAlike, GoesOnAlike, InnermostAlike, call_as, event_as, is_refusal, lying_as}
+use Rattle.two_roads.specs.Renaming.{CallsAlike, GoesOnAlike, InnermostAlike, call_as, event_as, is_refusal, lying_as}
 use Rattle.two_roads.specs.Renaming.{renamed}
 use Rattle.two_roads.specs.Together.{as_heard, nothing, numbered}
 use Rattle.two_roads.proofs.Both.{map_twice, wakes_so}
@@ -47,11 +47,10 @@ looks_first (calls.PollTick t w) = true
 looks_first _ = false
 
 module _ {T X : Type 0} (number : X → ℕ) where
-  -- a call is of the machine's step, and where it looks for a future while futures of both marks are due, it looks first at the mark that
-  -- the machine's turn names
+  -- a call is of the machine's step, and where it looks for a future, it looks first at the mark that the machine's turn names
   pub record IsActed (s : Machine) (a : Act) (p : Plain T (SoloWaker X)) (c : Choice) (call : Call T (SoloWaker X)) : Type 0 where
     pub step : IsOfStep number s a p c call
-    pub first : looks_first call ≡ true → AreBothDue p.due → c.first ≡ first_of s.world.urgent_turns
+    pub first : looks_first call ≡ true → c.first ≡ first_of s.world.urgent_turns
 
   abbrev pub AreActed : Machine → List Act → Plain T (SoloWaker X) → List (Choice × Call T (SoloWaker X)) → Type 0
   AreActed s [] p [] = Unit {0}
@@ -106,15 +105,15 @@ tells_at w q d (Answer p u) chosen = chosen
 module _ {T X : Type 0} (number : X → ℕ) where
   -- what has to be the same of what is chosen
   chosen_alike : (s : Machine) (p : Plain T (SoloWaker X)) (c d : Choice) (call : Call T (SoloWaker X))
-      → (looks_first call ≡ true → AreBothDue p.due → c.first ≡ first_of s.world.urgent_turns) → takes_for_run p call ≡ false
+      → (looks_first call ≡ true → c.first ≡ first_of s.world.urgent_turns) → takes_for_run p call ≡ false
       → (is_take (call_as nothing (numbered number) call) ≡ true → d.first ≡ first_of s.world.urgent_turns) → CallsAlike c d p call
   chosen_alike s p c d call = by call
     where
       by : (call : Call T (SoloWaker X))
-          → (looks_first call ≡ true → AreBothDue p.due → c.first ≡ first_of s.world.urgent_turns) → takes_for_run p call ≡ false
+          → (looks_first call ≡ true → c.first ≡ first_of s.world.urgent_turns) → takes_for_run p call ≡ false
           → (is_take (call_as nothing (numbered number) call) ≡ true → d.first ≡ first_of s.world.urgent_turns) → CallsAlike c d p call
-      by calls.TryTick looks alone takes = λ both. looks refl both ∙ sym (takes refl)
-      by (calls.PollTick t w) looks alone takes = λ both. looks refl both ∙ sym (takes refl)
+      by calls.TryTick looks alone takes = λ both. looks refl ∙ sym (takes refl)
+      by (calls.PollTick t w) looks alone takes = λ both. looks refl ∙ sym (takes refl)
       by calls.Pends looks alone takes = ends_alone c d p.inside alone
       by calls.Ends looks alone takes = ends_alone c d p.inside alone
       by (calls.Spawn m) looks alone takes = tt

@@ -194,7 +194,7 @@ module _ {F T X : Type 0} (its : ℕ → Lent) (number : X → ℕ) where
       let next : Known its now u (does wakes c call p) =
       (leads_alike its ((c, call) ∷ []) b now t u p (first ++ []) known
       (leads c call [] b now now t u u p first [] tells acts_so (stays now u (does wakes c call p)))).0 in
-      let acted : IsActed number s a p c call = record { step = of.0; first = λ look two. looks look } in
+      let acted : IsActed number s a p c call = record { step = of.0; first = looks } in
       let one =
       one_same number s a q go.0 go.1 (lie_in (standing s a.party) q here) (seen_in (standing a.left a.party) go.0 go.2)
       (lie_in (standing a.left a.party) go.0 go.2) p c call is acted tells in (

@@ -38,7 +38,7 @@ task_looks _ on = refl
 module _ {T X : Type 0} (number : X → ℕ) where
   unlooked : (s : Machine) (a : Act) (p : Plain T (SoloWaker X)) (c : Choice) (call : Call T (SoloWaker X)) → looks_first call ≡ false
       → IsOfStep number s a p c call → IsActed number s a p c call
-  unlooked s a p c call none of = record { step = of; first = λ looks two. absurd (clash none looks) }
+  unlooked s a p c call none of = record { step = of; first = λ looks. absurd (clash none looks) }
 
 module _ {F T X : Type 0} (its : ℕ → Lent) (number : X → ℕ) where
   meanwhile_looks : (c : Choice) (y : Solo F T X) (p : Plain T (SoloWaker X)) (call : Call T (SoloWaker X))

@@ -32,12 +32,11 @@ use Rattle.executor_model.proofs.Steps.Lists.{weigh-append}
 use Rattle.executor_model.proofs.Steps.Reached.{Reached, reached-more, run-first}
 use Rattle.executor_model.proofs.Steps.Stepping.{refusal-there}
 use Rattle.task_moves.specs.Moves.{notify_if}
-use Rattle.plain_scheduler.specs.State.{Code, Drop, Lose, Plain, Poll, PollOwn, Taker}
+use Rattle.plain_scheduler.specs.State.{Code, Drop, Lose, Plain, Poll, PollOwn, Refusal, Taker}
 use Rattle.plain_scheduler.specs.Calls as plain
 use Rattle.machine_roads.specs.Alike.{begins as begins_alike, upon}
 use Rattle.machine_roads.specs.Alone.{SleepsAlone, alone, is_resting}
 use Rattle.machine_roads.specs.Road.{Follows}
-use Rattle.machine_roads.specs.Seeing.{heard_in}
 use Rattle.executor_model.specs.SleepersAgree.{SleepersAgree}
 use Rattle.executor_model.specs.declared.call.By.{By}
 use Rattle.executor_model.specs.declared.op.TickOrRun.{TickOrRun}
@@ -65,11 +64,11 @@ use Rattle.machine_roads.proofs.LoneRuns.{Walks, passed, within as is_within}
 use Rattle.machine_roads.proofs.Tying.{top_of}
 use Rattle.machine_roads.proofs.Walked.{answer_leads_of, begun_leads_of, no_answer}
 use Rattle.two_roads.specs.Acting.{goes_on_in, is_runs, takes_for_run}
-use Rattle.two_roads.specs.Refusing.{ends_refused}
-use Rattle.two_roads.specs.Turns.{ActsTakeTurns, polls_tick, tick_turns, turned, turns_of}
+use Rattle.two_roads.specs.Refusing.{refused_in}
+use Rattle.two_roads.specs.Turns.{ActsTakeTurns, tick_turns, turned, turns_of}
 use Rattle.two_roads.proofs.Seeking.{alone_still, begins_none, begins_still, due, due_push, due_resting, is_still, mild_seeks, seeks}
 use Rattle.two_roads.proofs.Seeking.{reacts_still, try_turned}
-use Rattle.two_roads.proofs.TickTurns.{polled}
+use Rattle.two_roads.proofs.TickTurns.{polled, refused_at}
 
 -- nothing is asked of what is done
 walks : Walks (λ w o. Unit {0}) (λ s. Unit {0})
@@ -227,6 +226,12 @@ module _ (s : Machine) (reached : Reached s) (p : ℕ) (q : Plain Output Waker) 
   abbrev Turns : ℕ → Type 0
   Turns n = new.world.urgent_turns ≡ turned n s.world.urgent_turns
 
+  abbrev many : ℕ
+  many = length s.world.sleepers.wakers
+
+  abbrev refusal : Refusal
+  refusal = refused_at many new.world
+
   began : (c : Call) (ts : List Step) → p < length s.parties → rests_after p ts (after s (Begin p c)) ≡ true
       → run_all (Begin p c ∷ ts) s ≡ Ok new → (n : ℕ)
       → ((hints : List Hint) → let d = upon (reverse (stack s p)) (begins_alike p (mine (top (stack s p))) c s.world) in
@@ -249,9 +254,8 @@ module _ (s : Machine) (reached : Reached s) (p : ℕ) (q : Plain Output Waker) 
 
   -- a tick is polled
   tick_polled : (t : ℕ) (b : By) (ts : List Step) → p < length s.parties → rests_after p ts (after s (Begin p (call.PollTick t b))) ≡ true
-      → run_all (Begin p (call.PollTick t b) ∷ ts) s ≡ Ok new → owes (reverse (stack s p)) ≡ false
-      → ends_refused (heard_in new.world.trace) ≡ false → Turns (tick_turns t q)
-  tick_polled t b ts there rests made even unrefused =
+      → run_all (Begin p (call.PollTick t b) ∷ ts) s ≡ Ok new → owes (reverse (stack s p)) ≡ false → Turns (tick_turns refusal t q)
+  tick_polled t b ts there rests made even =
       let begun_so = event.CallBegun p (call.PollTick t b) in
       let polled_so = event.TickPolled p t in
       let a = waker_of (mine (top (stack s p))) b in
@@ -259,40 +263,39 @@ module _ (s : Machine) (reached : Reached s) (p : ℕ) (q : Plain Output Waker) 
       let follows = follows_here (standing s p) q stands even in
       let can = can_poll s reached p t b (may_begin s p (call.PollTick t b) (run-first (Begin p (call.PollTick t b)) ts s new made).0) in
       begun_leads_of (λ w o. Unit {0}) (λ s. Unit {0}) walks p
-      (λ e. ends_refused (heard_in e.world.trace) ≡ false → e.world.urgent_turns ≡ turned (tick_turns t q) s.world.urgent_turns) new tt
-      (call.PollTick t b) ts s reached there
-      (λ hints all over. polled p (reverse (stack s p)) (rests_alike (standing s p) q stands) t a (length (log s.world begun_so).trace) w q
-      (logs (log s.world begun_so) q (logs s.world q follows begun_so refl) polled_so refl)
-      (record { living = can.living; roomed = can.roomed }) (apart_here s reached (tick_or_run.Tick t)) hints over) rests made unrefused
+      (λ e. e.world.urgent_turns ≡ turned (tick_turns (refused_at many e.world) t q) s.world.urgent_turns) new tt (call.PollTick t b) ts s
+      reached there
+      (λ hints all over. polled p (reverse (stack s p)) (rests_alike (standing s p) q stands) t a (length (log s.world begun_so).trace) many
+      w q (logs (log s.world begun_so) q (logs s.world q follows begun_so refl) polled_so refl)
+      (record { living = can.living; roomed = can.roomed }) (apart_here s reached (tick_or_run.Tick t)) refl hints over) rests made
 
   by_call : (c : Call) (ts : List Step) (x : plain.Call Output Waker) → IsCallIn (mine (top (stack s p))) s.world c x
       → p < length s.parties → rests_after p ts (after s (Begin p c)) ≡ true → run_all (Begin p c ∷ ts) s ≡ Ok new
-      → may_begin_in (reverse (stack s p)) c ≡ true → (polls_tick x ≡ true → ends_refused (heard_in new.world.trace) ≡ false)
-      → Turns (turns_of q x)
-  by_call c ts x within.try_tick there rests made none granted =
+      → may_begin_in (reverse (stack s p)) c ≡ true → Turns (turns_of refusal q x)
+  by_call c ts x within.try_tick there rests made none =
       began c ts there rests made 1
       (λ hints over. try_turned p hints (log s.world (event.CallBegun p call.TryTick)) (reverse (stack s p))
       (rests_alike (standing s p) q stands) over)
-  by_call c ts x (within.poll_tick t b) there rests made none granted =
-      tick_polled t b ts there rests made (owes_none (owes (reverse (stack s p))) (lets_begin (reverse (stack s p))) none) (granted refl)
-  by_call c ts x (within.spawn m) there rests made none granted = still c ts there rests made refl
-  by_call c ts x within.is_empty there rests made none granted = still c ts there rests made refl
-  by_call c ts x (within.use_waker k f is) there rests made none granted = still c ts there rests made refl
-  by_call c ts x (within.wake k f is) there rests made none granted = still c ts there rests made refl
-  by_call c ts x (within.copy k f is) there rests made none granted = still c ts there rests made refl
-  by_call c ts x (within.release k f is) there rests made none granted = still c ts there rests made refl
-  by_call c ts x (within.keep f is) there rests made none granted = still c ts there rests made refl
-  by_call c ts x (within.wake_self f is) there rests made none granted = still c ts there rests made refl
-  by_call c ts x (within.poll_handle f b) there rests made none granted = still c ts there rests made refl
-  by_call c ts x (within.cancel f) there rests made none granted = still c ts there rests made refl
-  by_call c ts x (within.detach f) there rests made none granted = still c ts there rests made refl
-  by_call c ts x (within.drop_handle f) there rests made none granted = still c ts there rests made refl
-  by_call c ts x within.new_tick there rests made none granted = still c ts there rests made refl
-  by_call c ts x (within.drop_tick t) there rests made none granted = still c ts there rests made refl
-  by_call c ts x within.new_run there rests made none granted = still c ts there rests made refl
-  by_call c ts x (within.poll_run r b) there rests made none granted = still c ts there rests made refl
-  by_call c ts x (within.drop_run r) there rests made none granted = still c ts there rests made refl
-  by_call c ts x within.leak there rests made none granted = still c ts there rests made refl
+  by_call c ts x (within.poll_tick t b) there rests made none =
+      tick_polled t b ts there rests made (owes_none (owes (reverse (stack s p))) (lets_begin (reverse (stack s p))) none)
+  by_call c ts x (within.spawn m) there rests made none = still c ts there rests made refl
+  by_call c ts x within.is_empty there rests made none = still c ts there rests made refl
+  by_call c ts x (within.use_waker k f is) there rests made none = still c ts there rests made refl
+  by_call c ts x (within.wake k f is) there rests made none = still c ts there rests made refl
+  by_call c ts x (within.copy k f is) there rests made none = still c ts there rests made refl
+  by_call c ts x (within.release k f is) there rests made none = still c ts there rests made refl
+  by_call c ts x (within.keep f is) there rests made none = still c ts there rests made refl
+  by_call c ts x (within.wake_self f is) there rests made none = still c ts there rests made refl
+  by_call c ts x (within.poll_handle f b) there rests made none = still c ts there rests made refl
+  by_call c ts x (within.cancel f) there rests made none = still c ts there rests made refl
+  by_call c ts x (within.detach f) there rests made none = still c ts there rests made refl
+  by_call c ts x (within.drop_handle f) there rests made none = still c ts there rests made refl
+  by_call c ts x within.new_tick there rests made none = still c ts there rests made refl
+  by_call c ts x (within.drop_tick t) there rests made none = still c ts there rests made refl
+  by_call c ts x within.new_run there rests made none = still c ts there rests made refl
+  by_call c ts x (within.poll_run r b) there rests made none = still c ts there rests made refl
+  by_call c ts x (within.drop_run r) there rests made none = still c ts there rests made refl
+  by_call c ts x within.leak there rests made none = still c ts there rests made refl
 
   -- user code ends
   ended : (u : UserEnd) (ts : List Step) → p < length s.parties → rests_after p ts (after s (Answer p u)) ≡ true
@@ -320,24 +323,21 @@ module _ (s : Machine) (reached : Reached s) (p : ℕ) (q : Plain Output Waker) 
       (run-first t ts s new made).0))
 
   one : (t : Step) (ts : List Step) (x : plain.Call Output Waker) → IsMade s p t x → rests_after p ts (after s t) ≡ true
-      → run_all (t ∷ ts) s ≡ Ok new → is_on_way (reverse (stack s p)) t ≡ true
-      → (polls_tick x ≡ true → ends_refused (heard_in new.world.trace) ≡ false) → takes_for_run q x ≡ false → Turns (turns_of q x)
-  one t ts x (within.begins c y is) rests made on granted alone =
-      by_call c ts y is (there t ts refl made) rests made
-      (both_true (may_stand_in c) (may_begin_in (reverse (stack s p)) c) on).1 granted
-  one t ts x within.pends rests made on granted alone = ended (Polled Pending) ts (there t ts refl made) rests made alone
-  one t ts x within.gives rests made on granted alone = ended (Polled Ready) ts (there t ts refl made) rests made refl
-  one t ts x within.ends rests made on granted alone = ended Over ts (there t ts refl made) rests made alone
+      → run_all (t ∷ ts) s ≡ Ok new → is_on_way (reverse (stack s p)) t ≡ true → takes_for_run q x ≡ false → Turns (turns_of refusal q x)
+  one t ts x (within.begins c y is) rests made on alone =
+      by_call c ts y is (there t ts refl made) rests made (both_true (may_stand_in c) (may_begin_in (reverse (stack s p)) c) on).1
+  one t ts x within.pends rests made on alone = ended (Polled Pending) ts (there t ts refl made) rests made alone
+  one t ts x within.gives rests made on alone = ended (Polled Ready) ts (there t ts refl made) rests made refl
+  one t ts x within.ends rests made on alone = ended Over ts (there t ts refl made) rests made alone
 
 pub act_turns : (s : Machine) → Reached s → (q : Plain Output Waker) (a : Act) (x : plain.Call Output Waker)
     → StandsAlike (standing s a.party) q → IsAct s a → is_on_way (reverse (stack s a.party)) a.first ≡ true → IsMade s a.party a.first x
-    → (polls_tick x ≡ true → ends_refused (heard_in a.left.world.trace) ≡ false) → takes_for_run q x ≡ false
-    → a.left.world.urgent_turns ≡ turned (turns_of q x) s.world.urgent_turns
-act_turns s reached q a x stands is on made unrefused alone =
-    one s reached a.party q stands a.left a.first a.steps x made is.rests is.made on unrefused alone
+    → takes_for_run q x ≡ false → a.left.world.urgent_turns ≡ turned (turns_of (refused_in s a) q x) s.world.urgent_turns
+act_turns s reached q a x stands is on made alone =
+    one s reached a.party q stands a.left a.first a.steps x made is.rests is.made on alone
 
 pub acts_take_turns : ActsTakeTurns
-acts_take_turns limit kind parties steps s made q a x stands is on so unrefused alone =
+acts_take_turns limit kind parties steps s made q a x stands is on so alone =
     act_turns s
     (reached-more steps (start limit kind parties) s
-    (record { limit = limit; kind = kind; parties = parties; steps = []; is = refl }) made) q a x stands is on so unrefused alone
+    (record { limit = limit; kind = kind; parties = parties; steps = []; is = refl }) made) q a x stands is on so alone

@@ -1,4 +1,4 @@
--- So where no run takes a future, what the machine's steps begin and answer, and what it refuses, says it all.
+-- So where no run takes a future, what the machine's steps begin and answer, what it refuses, and where it looks first, says it all.
 use Rattle.std.proofs.Common.{◌≡◌, ℕ, ◌<◌, ◌≤◌, nat_lt, not, Bool, true, false, List, [], ◌∷◌, length, map, Some, None}
 use Rattle.std.proofs.Common.{refl, sym, ap, subst, ◌∙◌, arith}
 use Rattle.executor_parts.specs.Marks.{first_of}
@@ -28,20 +28,34 @@ use Rattle.solo_laws.specs.Owner.{Owner, new_owner}
 use Rattle.solo_laws.specs.Road.{wakes}
 use Rattle.solo_laws.specs.Tabled.{Stands}
 use Rattle.solo_laws.proofs.Showing.Courses.{leads_alike, new_known}
-use Rattle.two_roads.specs.Acting.{AreActed, AreOfSteps, IsActed, acts_by, goes_on_in, is_runs, left_of, looks_first, takes_for_run}
-use Rattle.two_roads.specs.Plainly.{are_plain, is_plain_call}
+use Rattle.two_roads.specs.Acting.{IsOfStep, acts_by, goes_on_in, is_runs, left_of, takes_for_run}
 use Rattle.two_roads.specs.Refusing.{asks_memory, ends_refused, refused_in, refused_so}
-use Rattle.two_roads.specs.Renaming.{AreBothDue, CallsAlike, GoesOnAlike, InnermostAlike, call_as, event_as, is_refusal, lying_as}
+use Rattle.two_roads.specs.Renaming.{CallsAlike, GoesOnAlike, InnermostAlike, call_as, event_as, is_refusal, lying_as}
 use Rattle.two_roads.specs.Renaming.{renamed}
 use Rattle.two_roads.specs.Together.{as_heard, nothing, numbered}
 use Rattle.two_roads.proofs.Both.{map_twice, wakes_so}
 use Rattle.two_roads.proofs.Calling.{calls_same, setting}
 use Rattle.two_roads.proofs.Inner.{acts_seen, seen_in}
 use Rattle.two_roads.proofs.Meant.{is_begin, is_take, one_made, takes_begin}
-use Rattle.two_roads.proofs.PlainCalls.{call_plain, never_two}
-use Rattle.two_roads.proofs.Plainly.{IsPlain, both_true}
 use Rattle.two_roads.proofs.Refusing.{Lie, asks_so, lie_in, map_last, seen_refused, unasked}
 use Rattle.two_roads.proofs.Words.{length_map}
+
+-- a try and a poll of a tick look first at the one mark or the other
+abbrev pub looks_first : {T A : Type 0} → Call T A → Bool
+looks_first calls.TryTick = true
+looks_first (calls.PollTick t w) = true
+looks_first _ = false
+
+module _ {T X : Type 0} (number : X → ℕ) where
+  -- a call is of the machine's step, and where it looks for a future, it looks first at the mark that the machine's turn names
+  pub record IsActed (s : Machine) (a : Act) (p : Plain T (SoloWaker X)) (c : Choice) (call : Call T (SoloWaker X)) : Type 0 where
+    pub step : IsOfStep number s a p c call
+    pub first : looks_first call ≡ true → c.first ≡ first_of s.world.urgent_turns
+
+  abbrev pub AreActed : Machine → List Act → Plain T (SoloWaker X) → List (Choice × Call T (SoloWaker X)) → Type 0
+  AreActed s [] p [] = Unit {0}
+  AreActed s (a ∷ acts) p (x ∷ xs) = IsActed s a p x.0 x.1 × AreActed a.left acts (does wakes x.0 x.1 p) xs
+  AreActed s acts p xs = ⊥
 
 refusal_shown : (e : Event Output Waker) → is_refusal (shown_alike e) ≡ is_refusal e
 refusal_shown (Answers (Gives v)) = refl
@@ -91,15 +105,15 @@ tells_at w q d (Answer p u) chosen = chosen
 module _ {T X : Type 0} (number : X → ℕ) where
   -- what has to be the same of what is chosen
   chosen_alike : (s : Machine) (p : Plain T (SoloWaker X)) (c d : Choice) (call : Call T (SoloWaker X))
-      → (looks_first call ≡ true → AreBothDue p.due → c.first ≡ first_of s.world.urgent_turns) → takes_for_run p call ≡ false
+      → (looks_first call ≡ true → c.first ≡ first_of s.world.urgent_turns) → takes_for_run p call ≡ false
       → (is_take (call_as nothing (numbered number) call) ≡ true → d.first ≡ first_of s.world.urgent_turns) → CallsAlike c d p call
   chosen_alike s p c d call = by call
     where
       by : (call : Call T (SoloWaker X))
-          → (looks_first call ≡ true → AreBothDue p.due → c.first ≡ first_of s.world.urgent_turns) → takes_for_run p call ≡ false
+          → (looks_first call ≡ true → c.first ≡ first_of s.world.urgent_turns) → takes_for_run p call ≡ false
           → (is_take (call_as nothing (numbered number) call) ≡ true → d.first ≡ first_of s.world.urgent_turns) → CallsAlike c d p call
-      by calls.TryTick looks alone takes = λ both. looks refl both ∙ sym (takes refl)
-      by (calls.PollTick t w) looks alone takes = λ both. looks refl both ∙ sym (takes refl)
+      by calls.TryTick looks alone takes = λ both. looks refl ∙ sym (takes refl)
+      by (calls.PollTick t w) looks alone takes = λ both. looks refl ∙ sym (takes refl)
       by calls.Pends looks alone takes = ends_alone c d p.inside alone
       by calls.Ends looks alone takes = ends_alone c d p.inside alone
       by (calls.Spawn m) looks alone takes = tt
@@ -232,17 +246,4 @@ module _ {F T X : Type 0} (its : ℕ → Lent) (number : X → ℕ) where
         acts_seen s q acts go refl
             ∙ (ap (λ (r : Plain Output Waker). map shown_alike r.events) (sym named)
             ∙ (map_twice (event_as nothing (numbered number)) shown_alike z.events ∙ ap (λ es. as_heard number es) both.1)),
-      )
-
-module _ {T X : Type 0} (number : X → ℕ) where
-  -- where each future is spawned plain nothing is asked of turns
-  pub plainly_acted : (s : Machine) (acts : List Act) (p : Plain T (SoloWaker X)) (cs : List (Choice × Call T (SoloWaker X))) → IsPlain p
-      → are_plain cs ≡ true → AreOfSteps number s acts p cs → AreActed number s acts p cs
-  plainly_acted s [] p [] plain are of = tt
-  plainly_acted s [] p (x ∷ xs) plain are of = absurd of
-  plainly_acted s (a ∷ acts) p [] plain are of = absurd of
-  plainly_acted s (a ∷ acts) p (x ∷ xs) plain are of =
-      let both = both_true (is_plain_call x.1) (are_plain xs) are in (
-        record { step = of.0; first = λ looks (two : AreBothDue p.due). absurd (never_two p plain two) },
-        plainly_acted a.left acts (does wakes x.0 x.1 p) xs (call_plain wakes x.0 x.1 both.0 p plain) both.1 of.1,
       )

@@ -1,5 +1,6 @@
--- So where no run takes a future, what the machine's steps begin and answer, and what it refuses, says it all to the end.
-use Rattle.std.proofs.Common.{◌≡◌, ℕ, ◌++◌, not, List, [], ◌∷◌, map, refl, sym, ap, subst, ◌∙◌, true}
+-- So where no run takes a future, what the machine's steps begin and answer, what it refuses, and where it looks first, says it all to
+-- the end.
+use Rattle.std.proofs.Common.{◌≡◌, ℕ, ◌++◌, not, List, [], ◌∷◌, map, refl, sym, ap, subst, ◌∙◌}
 use Rattle.executor_model.specs.declared.call.Call.TheVariants as call
 use Rattle.executor_model.specs.declared.kind.Kind.{Kind as MachineKind}
 use Rattle.executor_model.specs.declared.op.Waker.{Waker}
@@ -28,17 +29,19 @@ use Rattle.solo_laws.specs.Road.{wakes}
 use Rattle.solo_laws.proofs.Showing.AllThere.{none_lost}
 use Rattle.solo_laws.proofs.Showing.Courses.{leads_alike, new_known}
 use Rattle.solo_laws.proofs.Showing.LastCalls.{last_calls_alike}
-use Rattle.two_roads.specs.Acting.{AreActed, EndActed, EndOfSteps, drop_acts_by, left_of}
-use Rattle.two_roads.specs.Plainly.{are_plain, is_plain_call}
+use Rattle.two_roads.specs.Acting.{drop_acts_by, left_of}
 use Rattle.two_roads.specs.Renaming.{code_as, event_as, renamed}
 use Rattle.two_roads.specs.Together.{as_heard, nothing, numbered}
-use Rattle.two_roads.proofs.Acted.{AllTell, acted, all_tell, one_same, plainly_acted}
-use Rattle.two_roads.proofs.PlainCalls.{call_plain}
-use Rattle.two_roads.proofs.Plainly.{IsPlain, both_true}
+use Rattle.two_roads.proofs.Acted.{AllTell, AreActed, acted, all_tell, one_same}
 use Rattle.two_roads.proofs.Both.{course_of_both, map_twice, wakes_so}
 use Rattle.two_roads.proofs.Calling.{calls_same}
 use Rattle.two_roads.proofs.InDrop.{acts_come, drop_acts_seen, drop_seen}
 use Rattle.two_roads.proofs.Refusing.{Lie, lie_in_drop}
+
+module _ {T X : Type 0} (number : X → ℕ) where
+  abbrev pub EndActed : Act → List Act → Plain T (SoloWaker X) → List (Choice × Call T (SoloWaker X)) → Type 0
+  EndActed a acts p [] = ⊥
+  EndActed a acts p (x ∷ xs) = (x.1 ≡ calls.DropExecutor) × AreActed number a.left acts (does wakes x.0 x.1 p) xs
 
 module _ {F T X : Type 0} (its : ℕ → Lent) where
   after_tell : (cs : List (Choice × Call T (SoloWaker X))) (s z : Solo F T X) (p : Plain T (SoloWaker X))
@@ -146,12 +149,3 @@ module _ {F T X : Type 0} (its : ℕ → Lent) (number : X → ℕ) where
             ∙ (ap (λ (z : Plain T (SoloWaker X)). map shown_alike (renamed nothing (numbered number) z).events) (sym together)
             ∙ (map_twice (event_as nothing (numbered number)) shown_alike z.events ∙ ap (λ es. as_heard number es) events)),
       )
-
--- where each future is spawned plain nothing is asked of turns
-module _ {T X : Type 0} (number : X → ℕ) where
-  pub plainly_ends : (a : Act) (later : List Act) (p : Plain T (SoloWaker X)) (ends : List (Choice × Call T (SoloWaker X))) → IsPlain p
-      → are_plain ends ≡ true → EndOfSteps number a later p ends → EndActed number a later p ends
-  plainly_ends a later p [] plain are of = absurd of
-  plainly_ends a later p (x ∷ xs) plain are of =
-      let both = both_true (is_plain_call x.1) (are_plain xs) are in
-      (of.0, plainly_acted number a.left later (does wakes x.0 x.1 p) xs (call_plain wakes x.0 x.1 both.0 p plain) both.1 of.1)

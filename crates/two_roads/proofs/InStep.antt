@@ -20,7 +20,7 @@ use Rattle.solo.specs.Cells.{choose}
 use Rattle.solo.specs.Lines.{LinesValue, mark_of_turn}
 use Rattle.solo.specs.Solo.{IsNew, counts}
 use Rattle.plain_scheduler.specs.State.{Choice, Close, Code, Drop, DropOwn, Event, Lose, Plain, Poll, PollOwn, Run, Taker, Tick, Try, Who}
-use Rattle.plain_scheduler.specs.State.{ATick, Lying}
+use Rattle.plain_scheduler.specs.State.{ATick, Lying, Refusal}
 use Rattle.plain_scheduler.specs.Lists.{any, or}
 use Rattle.plain_scheduler.specs.Moves.{is_common, lies}
 use Rattle.std.specs.Prelude.{find, is_some, if◌then◌else◌}
@@ -40,16 +40,14 @@ use Rattle.solo_laws.specs.Owner.{Owner, new_owner}
 use Rattle.solo_laws.specs.Road.{wakes}
 use Rattle.solo_laws.specs.RunGoing.{IsEnding, Stage, drop_ends, loss_ends, poll_ends}
 use Rattle.solo_laws.specs.Tabled.{Stands}
-use Rattle.two_roads.specs.Acting.{AreActed, AreOfSteps, IsActed, goes_on_in, is_runs, left_of, looks_first, takes_for_run}
+use Rattle.two_roads.specs.Acting.{AreOfSteps, goes_on_in, is_runs, left_of, takes_for_run}
 use Rattle.two_roads.specs.Renaming.{call_as, code_as, lying_as, renamed, taker_as}
-use Rattle.two_roads.specs.Refusing.{asks_memory, refused_in, refused_so}
-use Rattle.plain_scheduler.specs.State.{Granted}
-use Rattle.std.proofs.Common.{length, nat_lt}
+use Rattle.two_roads.specs.Refusing.{asks_memory, refused_in}
 use Rattle.two_roads.specs.Together.{as_heard, nothing, numbered}
-use Rattle.two_roads.specs.Turns.{TicksGranted, lies_uncalled, polls_tick, turned, turned_in, turns_of}
+use Rattle.two_roads.specs.Turns.{lies_uncalled, searches_by, tick_turns, turned, turned_in, turns_of}
 use Rattle.two_roads.proofs.Refusing.{lie_in}
 use Rattle.two_roads.proofs.ActTurns.{act_turns}
-use Rattle.two_roads.proofs.Acted.{one_same, runless_together}
+use Rattle.two_roads.proofs.Acted.{AreActed, IsActed, looks_first, one_same, runless_together}
 use Rattle.two_roads.proofs.Inner.{seen_in}
 use Rattle.two_roads.proofs.SoloTurns.{call_turns}
 
@@ -71,15 +69,14 @@ same_mark zero r is =
 same_mark (suc n) r is =
     let other : (r == 7) ≡ false = grind (arith, nat_tests, is) in ap (λ (b : Bool). choose b PlainMark Urgent) other
 
-tick_asks : {T A : Type 0} (p : Plain T A) (call : Call T A) → polls_tick call ≡ true → asks_memory p call ≡ true
-tick_asks p (calls.PollTick t w) is = refl
-tick_asks p _ is = absurd cc
+-- only in a tick's poll it matters what memory is refused
+turns_by : {T A : Type 0} (r x : Refusal) (p : Plain T A) (call : Call T A) → (asks_memory p call ≡ true → r ≡ x)
+    → turns_of r p call ≡ turns_of x p call
+turns_by r x p (calls.PollTick t w) same = ap (λ r. tick_turns r t p) (same refl)
+turns_by r x p calls.TryTick same = refl
+turns_by r x p _ same = refl
 
 module _ {T A U B : Type 0} (output : T → U) (waker : A → B) where
-  tick_as : (call : Call T A) → polls_tick (call_as output waker call) ≡ polls_tick call
-  tick_as (calls.PollTick t w) = refl
-  tick_as _ = refl
-
   here_as : (o : Option A) → is_some (option_map waker o) ≡ is_some o
   here_as (Some w) = refl
   here_as None = refl
@@ -94,12 +91,14 @@ module _ {T A U B : Type 0} (output : T → U) (waker : A → B) where
       by true rest = here_as l.waker
       by false rest = rest
 
-  turns_as : (p : Plain T A) (call : Call T A) → turns_of (renamed output waker p) (call_as output waker call) ≡ turns_of p call
-  turns_as p calls.TryTick = refl
-  turns_as p (calls.PollTick t w) =
-      ap (λ b. if any (is_common PlainMark) p.due then 1 else (if any (is_common Urgent) p.due then 1 else (if b then 1 else 2)))
+  turns_as : (r : Refusal) (p : Plain T A) (call : Call T A)
+      → turns_of r (renamed output waker p) (call_as output waker call) ≡ turns_of r p call
+  turns_as r p calls.TryTick = refl
+  turns_as r p (calls.PollTick t w) =
+      ap
+      (λ b. if any (is_common PlainMark) p.due then 1 else (if any (is_common Urgent) p.due then 1 else (if b then 1 else searches_by r)))
       (lies_as (ATick t) p.lying)
-  turns_as p _ = refl
+  turns_as r p _ = refl
 
   runs_as : (by : Taker A) → is_runs (taker_as waker by) ≡ is_runs by
   runs_as Try = refl
@@ -165,12 +164,12 @@ module _ {F T X : Type 0} (its : ℕ → Lent) (number : X → ℕ) where
       → StandsAlike (standing s before) q → AreActs s acts → ActAlike s q acts → (p : Plain T (SoloWaker X))
       → renamed nothing (numbered number) p ≡ q → (cs : List (Choice × Call T (SoloWaker X))) (owner last : Owner) (y z : Solo F T X)
       (shown : List (Event T (SoloWaker X))) → Leads its cs owner y p shown last z → Known its owner y p
-      → IsInStep s.world.urgent_turns y.lines.turn → TicksGranted acts cs → AreOfSteps number s acts p cs → AreActed number s acts p cs
-  in_step [] s reached before others q stands are go p is [] owner last y z shown led known step calm of = tt
-  in_step [] s reached before others q stands are go p is (x ∷ xs) owner last y z shown led known step calm of = absurd of
-  in_step (a ∷ acts) s reached before others q stands are go p is [] owner last y z shown led known step calm of = absurd of
+      → IsInStep s.world.urgent_turns y.lines.turn → AreOfSteps number s acts p cs → AreActed number s acts p cs
+  in_step [] s reached before others q stands are go p is [] owner last y z shown led known step of = tt
+  in_step [] s reached before others q stands are go p is (x ∷ xs) owner last y z shown led known step of = absurd of
+  in_step (a ∷ acts) s reached before others q stands are go p is [] owner last y z shown led known step of = absurd of
   in_step (a ∷ acts) s reached before others q stands are go p is (x ∷ xs) owner last y z shown
-      (leads c call rest b now e t u v r first more tells acts_so on) known step calm of =
+      (leads c call rest b now e t u v r first more tells acts_so on) known step of =
       let it = are.0 in
       let k = run-first a.first a.steps s a.left it.made in
       let here : StandsAlike (standing s a.party) q =
@@ -179,31 +178,30 @@ module _ {F T X : Type 0} (its : ℕ → Lent) (number : X → ℕ) where
       λ looks. first_by its b c t p now u call first acts_so looks
       ∙ same_mark s.world.urgent_turns (t.lines.turn % 8) step in
       let made = call_as nothing (numbered number) call in
-      let theirs : a.left.world.urgent_turns ≡ turned (turns_of p call) s.world.urgent_turns =
-      act_turns s reached q a made here it are.1 of.0.made (λ is_tick. calm.0 (sym (tick_as nothing (numbered number) call) ∙ is_tick))
+      let refusal : Refusal = refused_in s a in
+      let theirs : a.left.world.urgent_turns ≡ turned (turns_of refusal p call) s.world.urgent_turns =
+      act_turns s reached q a made here it are.1 of.0.made
       (ap (λ (q : Plain Output Waker). takes_for_run q made) (sym is) ∙ (takes_as nothing (numbered number) p call ∙ of.0.runless))
       ∙ ap (λ n. turned n s.world.urgent_turns)
-      (ap (λ (q : Plain Output Waker). turns_of q made) (sym is) ∙ turns_as nothing (numbered number) p call) in
-      let granted_by : (asks_memory p call ≡ true → c.refusal ≡ refused_in s a) → polls_tick call ≡ true → c.refusal ≡ Granted =
-      λ same is_tick. same (tick_asks p call is_tick)
-      ∙ ap (λ b. refused_so b (nat_lt (length s.world.sleepers.wakers) (length a.left.world.sleepers.wakers))) (calm.0 is_tick) in
-      let its_own : u.lines.turn ≡ turned_in (turns_of p call) t.lines.turn =
-      call_turns its b c t p now u call first known tells acts_so (granted_by of.0.refused) of.0.runless in
+      (ap (λ (q : Plain Output Waker). turns_of refusal q made) (sym is) ∙ turns_as nothing (numbered number) refusal p call) in
+      let its_own : u.lines.turn ≡ turned_in (turns_of refusal p call) t.lines.turn =
+      call_turns its b c t p now u call first known tells acts_so of.0.runless
+      ∙ ap (λ n. turned_in n t.lines.turn) (turns_by c.refusal refusal p call of.0.refused) in
       let later : IsInStep a.left.world.urgent_turns u.lines.turn =
       ap (λ n. n + u.lines.turn % 8) theirs
-      ∙ (ap (λ n. turned (turns_of p call) s.world.urgent_turns + n % 8) its_own
-      ∙ still_in_step (turns_of p call) s.world.urgent_turns t.lines.turn step) in
+      ∙ (ap (λ n. turned (turns_of refusal p call) s.world.urgent_turns + n % 8) its_own
+      ∙ still_in_step (turns_of refusal p call) s.world.urgent_turns t.lines.turn step) in
       let next : Known its now u (does wakes c call p) =
       (leads_alike its ((c, call) ∷ []) b now t u p (first ++ []) known
       (leads c call [] b now now t u u p first [] tells acts_so (stays now u (does wakes c call p)))).0 in
-      let acted : IsActed number s a p c call = record { step = of.0; first = λ look two. looks look } in
+      let acted : IsActed number s a p c call = record { step = of.0; first = looks } in
       let one =
       one_same number s a q go.0 go.1 (lie_in (standing s a.party) q here) (seen_in (standing a.left a.party) go.0 go.2)
       (lie_in (standing a.left a.party) go.0 go.2) p c call is acted tells in (
         acted,
         in_step acts a.left (reached-more (a.first ∷ a.steps) s a.left reached it.made) a.party
             (goes_rest a.steps (after_step s a.first) a.left a.party it.rests k.1 (rest_still a.party s a.first it.its it.others)) go.0 go.2
-            are.2 go.3 (does wakes c call p) one xs now last u z more on next later calm.1 of.1,
+            are.2 go.3 (does wakes c call p) one xs now last u z more on next later of.1,
       )
 
   -- from new ones on
@@ -211,10 +209,10 @@ module _ {F T X : Type 0} (its : ℕ → Lent) (number : X → ℕ) where
       (cs : List (Choice × Call T (SoloWaker X))) (first last : Solo F T X) (shown : List (Event T (SoloWaker X)))
       (before : Who → ℕ) (after : Owner) → AreActs (start limit kind parties) acts → IsNew limit solo_kind first
       → counts solo_kind ≡ not (is_static_kind kind)
-      → Leads its cs (new_owner before) first (new limit (is_static_kind kind)) shown after last → TicksGranted acts cs
+      → Leads its cs (new_owner before) first (new limit (is_static_kind kind)) shown after last
       → AreOfSteps number (start limit kind parties) acts (new limit (is_static_kind kind)) cs
       → AreActed number (start limit kind parties) acts (new limit (is_static_kind kind)) cs
-  steps_acted limit kind solo_kind parties acts cs first last shown before after they is_new counted led calm of =
+  steps_acted limit kind solo_kind parties acts cs first last shown before after they is_new counted led of =
       let s = start limit kind parties in
       let reached : Reached s = record { limit = limit; kind = kind; parties = parties; steps = []; is = refl } in
       let empty : (n : ℕ) → stack s n ≡ [] = rests s (deep-here s reached) (λ party. refl) in
@@ -224,16 +222,16 @@ module _ {F T X : Type 0} (its : ℕ → Lent) (number : X → ℕ) where
       in_step acts s reached 0 (λ n apart. empty n) q stands they (acts_alike limit kind parties acts they)
       (new limit (is_static_kind kind)) refl cs (new_owner before) after first last shown led
       (new_known its before limit solo_kind (is_static_kind kind) first is_new counted)
-      (ap (λ (l : LinesValue). 7 + l.turn % 8) is_new.lines) calm of
+      (ap (λ (l : LinesValue). 7 + l.turn % 8) is_new.lines) of
 
   pub steps_together : (limit : ℕ) (kind : MachineKind) (solo_kind : Kind) (parties : ℕ) (acts : List Act)
       (cs : List (Choice × Call T (SoloWaker X))) (first last : Solo F T X) (shown : List (Event T (SoloWaker X)))
       (before : Who → ℕ) (after : Owner) → AreActs (start limit kind parties) acts → IsNew limit solo_kind first
       → counts solo_kind ≡ not (is_static_kind kind)
-      → Leads its cs (new_owner before) first (new limit (is_static_kind kind)) shown after last → TicksGranted acts cs
+      → Leads its cs (new_owner before) first (new limit (is_static_kind kind)) shown after last
       → AreOfSteps number (start limit kind parties) acts (new limit (is_static_kind kind)) cs
       → Stands its last (course wakes cs (new limit (is_static_kind kind)))
       × (heard_in (left_of (start limit kind parties) acts).world.trace ≡ as_heard number shown)
-  steps_together limit kind solo_kind parties acts cs first last shown before after they is_new counted led calm of =
+  steps_together limit kind solo_kind parties acts cs first last shown before after they is_new counted led of =
       runless_together its number limit kind solo_kind parties acts cs first last shown before after they is_new counted led
-      (steps_acted limit kind solo_kind parties acts cs first last shown before after they is_new counted led calm of)
+      (steps_acted limit kind solo_kind parties acts cs first last shown before after they is_new counted led of)

@@ -24,10 +24,10 @@ use Rattle.solo_laws.specs.LastCalls.{After, Closes, LastCalls, Meanwhile, and_t
 use Rattle.solo_laws.specs.LastCalls.{meanwhile, next_drop, no_drop, on_task, over}
 use Rattle.solo_laws.specs.Owner.{Owner, new_owner}
 use Rattle.solo_laws.specs.Road.{wakes}
-use Rattle.two_roads.specs.Acting.{AreActed, AreOfSteps, EndActed, EndOfSteps, IsActed, IsOfStep, left_of, looks_first}
+use Rattle.two_roads.specs.Acting.{AreOfSteps, EndOfSteps, IsOfStep, left_of}
 use Rattle.two_roads.specs.Together.{as_heard}
-use Rattle.two_roads.proofs.ActedToEnd.{runless_end_together}
-use Rattle.two_roads.specs.Turns.{TicksGranted}
+use Rattle.two_roads.proofs.Acted.{AreActed, IsActed, looks_first}
+use Rattle.two_roads.proofs.ActedToEnd.{EndActed, runless_end_together}
 use Rattle.two_roads.proofs.InStep.{steps_acted}
 
 task_looks : {T A : Type 0} (call : Call T A) → is_on_task call ≡ true → looks_first call ≡ false
@@ -38,7 +38,7 @@ task_looks _ on = refl
 module _ {T X : Type 0} (number : X → ℕ) where
   unlooked : (s : Machine) (a : Act) (p : Plain T (SoloWaker X)) (c : Choice) (call : Call T (SoloWaker X)) → looks_first call ≡ false
       → IsOfStep number s a p c call → IsActed number s a p c call
-  unlooked s a p c call none of = record { step = of; first = λ looks two. absurd (clash none looks) }
+  unlooked s a p c call none of = record { step = of; first = λ looks. absurd (clash none looks) }
 
 module _ {F T X : Type 0} (its : ℕ → Lent) (number : X → ℕ) where
   meanwhile_looks : (c : Choice) (y : Solo F T X) (p : Plain T (SoloWaker X)) (call : Call T (SoloWaker X))
@@ -94,14 +94,14 @@ module _ {F T X : Type 0} (its : ℕ → Lent) (number : X → ℕ) where
       → counts solo_kind ≡ not (is_static_kind kind)
       → Leads its cs (new_owner before) first (new limit (is_static_kind kind)) shown after middle
       → LastCalls its middle (course wakes cs (new limit (is_static_kind kind))) ends others last
-      → (course wakes cs (new limit (is_static_kind kind))).inside ≡ [] → TicksGranted acts cs
+      → (course wakes cs (new limit (is_static_kind kind))).inside ≡ []
       → AreOfSteps number (start limit kind parties) acts (new limit (is_static_kind kind)) cs
       → EndOfSteps number a later (course wakes cs (new limit (is_static_kind kind))) ends
       → IsClosed its last (course wakes (cs ++ ends) (new limit (is_static_kind kind)))
       × (heard_in (left_of a.left later).world.trace ≡ as_heard number (shown ++ others))
   steps_end_together limit kind solo_kind parties acts a later cs ends first middle last shown others before after they quiet acts_so
-      begins they_too is_new counted led then_so nowhere calm of end_of =
+      begins they_too is_new counted led then_so nowhere of end_of =
       runless_end_together its number limit kind solo_kind parties acts a later cs ends first middle last shown others before after they
       quiet acts_so begins they_too is_new counted led then_so nowhere
-      (steps_acted its number limit kind solo_kind parties acts cs first middle shown before after they is_new counted led calm of)
+      (steps_acted its number limit kind solo_kind parties acts cs first middle shown before after they is_new counted led of)
       (last_acted a later middle (course wakes cs (new limit (is_static_kind kind))) ends others last then_so end_of)

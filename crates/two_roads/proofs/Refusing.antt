@@ -35,7 +35,7 @@ use Rattle.two_roads.proofs.Tasks.{polled_as, asks_so as polled_so}
 use Rattle.two_roads.proofs.Words.{length_map}
 
 module _ {T A : Type 0} where
-  last_is : (es : List (Event T A)) (e : Event T A) → ends_refused (es ++ e ∷ []) ≡ is_refusal e
+  pub last_is : (es : List (Event T A)) (e : Event T A) → ends_refused (es ++ e ∷ []) ≡ is_refusal e
   last_is [] e = refl
   last_is (x ∷ []) e = refl
   last_is (x ∷ y ∷ ys) e = last_is (y ∷ ys) e
@@ -51,10 +51,10 @@ granted_so false m = refl
 granted_so true false = refl
 granted_so true true = refl
 
-more_test : (n m : ℕ) → n < m → nat_lt n m ≡ true
+pub more_test : (n m : ℕ) → n < m → nat_lt n m ≡ true
 more_test n m is = grind (arith, nat_tests)
 
-same_test : (n : ℕ) → nat_lt n n ≡ false
+pub same_test : (n : ℕ) → nat_lt n n ≡ false
 same_test n = grind (arith, nat_tests)
 
 -- the same but for the names of outputs and wakers

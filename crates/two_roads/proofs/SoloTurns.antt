@@ -1,6 +1,6 @@
 -- How many turns the executor of one owner takes in a call in which no run goes on.
 use Rattle.std.proofs.Common.{◌≡◌, ◌+◌, ◌^◌, ◌%◌, ℕ, zero, suc, List, ◌∷◌, Bool, false, Option, Some, None}
-use Rattle.std.proofs.Common.{◌≤◌, true, refl, sym, ap, ◌∙◌, length, slice_get}
+use Rattle.std.proofs.Common.{◌≤◌, refl, sym, ap, ◌∙◌, length, slice_get}
 use Rattle.solo.specs.declared.names.Task.{Task}
 use Rattle.solo.specs.declared.names.SoloWaker.{SoloWaker}
 use Rattle.solo.specs.declared.names.SoloWaker.TheVariants.{Task as OfTask, Outside}
@@ -17,7 +17,7 @@ use Rattle.solo.specs.Closing as closing
 use Rattle.solo.specs.Runs as runs
 use Rattle.solo.specs.Solo as solo
 use Rattle.solo.specs.Turns as turns
-use Rattle.plain_scheduler.specs.State.{ARun, ATick, AtOnce, Choice, Granted, Later, Refusal, Code, Event, Plain, Run}
+use Rattle.plain_scheduler.specs.State.{ARun, ATick, Choice, Code, Event, Plain, Run}
 use Rattle.plain_scheduler.specs.Lists.{on, repeat}
 use Rattle.plain_scheduler.specs.Calls.{Call, is_granted}
 use Rattle.solo_laws.specs.Alike.{calls, cancelled, copies, handle_polled, lets_go, registered, replaced_by}
@@ -34,9 +34,9 @@ use Rattle.solo_laws.proofs.Prompt.{chosen}
 use Rattle.solo_laws.proofs.Showing.Courses.{Known, led_known, tick_room}
 use Rattle.solo_laws.proofs.Turning.{At, begun_at, left_at, let_go_at, lined_if_at, run_drained_at, scheduled_at, scheduled_if_at}
 use Rattle.solo_laws.proofs.Turning.{searched_turn, tick_left_at, told_at}
-use Rattle.two_roads.proofs.SoloTicks.{rested_turns, taken_turns}
+use Rattle.two_roads.proofs.SoloTicks.{later_turns, refused_turns, rested_turns, taken_turns}
 use Rattle.two_roads.specs.Acting.{goes_on_in, takes_for_run}
-use Rattle.two_roads.specs.Turns.{CallsTakeTurns, polls_tick, turned_in, turns_of}
+use Rattle.two_roads.specs.Turns.{CallsTakeTurns, tick_turns, turned_in, turns_of}
 
 -- one that a run took ends, behind which the run goes on
 for_run : {T X : Type 0} (p : Plain T (SoloWaker X)) (stage : Stage T (SoloWaker X)) (r : ℕ) (w : SoloWaker X)
@@ -133,11 +133,11 @@ module _ {F T X : Type 0} where
         by (Some more) on here = on more here
         by None on here = here
 
-  abbrev Turns : Plain T (SoloWaker X) → Call T (SoloWaker X) → Solo F T X → Solo F T X → Type 0
-  Turns p call s z = z.lines.turn ≡ turned_in (turns_of p call) s.lines.turn
+  abbrev Turns : Choice → Plain T (SoloWaker X) → Call T (SoloWaker X) → Solo F T X → Solo F T X → Type 0
+  Turns c p call s z = z.lines.turn ≡ turned_in (turns_of c.refusal p call) s.lines.turn
 
   makes_turns : (its : ℕ → Lent) (c : Choice) (s z : Solo F T X) (p : Plain T (SoloWaker X)) (call : Call T (SoloWaker X))
-      (shown : List (Event T (SoloWaker X))) → Makes its c s p call shown z → Turns p call s z
+      (shown : List (Event T (SoloWaker X))) → Makes its c s p call shown z → Turns c p call s z
   makes_turns its c s z p call shown (courses.spawns mark future spawned y so name granted life few) =
       ap (λ (y : Solo F T X). y.lines.turn) so.2
       ∙ scheduled_at s.lines.turn spawned.task so.0 (ap (λ (y : Solo F T X). y.lines.turn) so.1.1)
@@ -169,44 +169,47 @@ module _ {F T X : Type 0} where
 
 pub call_turns : {F T X : Type 0} (its : ℕ → Lent) (owner : Owner) (c : Choice) (s : Solo F T X) (p : Plain T (SoloWaker X)) (now : Owner)
     (z : Solo F T X) (call : Call T (SoloWaker X)) (shown : List (Event T (SoloWaker X))) → Known its owner s p → length p.lying ≤ c.tells
-    → Acts its owner c s p call shown now z → (polls_tick call ≡ true → c.refusal ≡ Granted) → takes_for_run p call ≡ false → Turns p call
-    s z
-call_turns its owner c s p now z call shown known many (courses.makes call' shown' z' how) granted alone =
+    → Acts its owner c s p call shown now z → takes_for_run p call ≡ false → Turns c p call s z
+call_turns its owner c s p now z call shown known many (courses.makes call' shown' z' how) alone =
     makes_turns its c s z' p call' shown' how
-call_turns its owner c s p now z call shown known many (courses.makes_tick t new may) granted alone = refl
-call_turns its owner c s p now z call shown known many (courses.tick_takes t w task lives found first life) granted alone =
-    taken_turns its owner.number s p known.stands known.numbered c t w first task found
-call_turns its owner c s p now z call shown known many (courses.tick_rests t w lives found first may names more life) granted alone =
+call_turns its owner c s p now z call shown known many (courses.makes_tick t new may) alone = refl
+call_turns its owner c s p now z call shown known many (courses.tick_takes t w task lives found first life) alone =
+    taken_turns its owner.number s p known.stands known.numbered c t w first c.refusal task found
+call_turns its owner c s p now z call shown known many (courses.tick_rests t w lives found first may names more life) alone =
     rested_turns its owner.number s p known.stands known.numbered c t w first found
     (tick_room its owner s p known.stands known.numbered known.housed t lives) (λ u same. ((names u same).0, (names u same).1.0)) more life
-call_turns its owner c s p now z call shown known many (courses.makes_run may few) granted alone = refl
-call_turns its owner c s p now z call shown known many (courses.makes_no_run refused) granted alone = refl
-call_turns its owner c s p now z call shown known many (courses.run_polled runner w going free) granted alone = refl
-call_turns its owner c s p now z call shown known many (courses.over_polled r w over) granted alone = refl
-call_turns its owner c s p now z call shown known many (courses.own_ready r w v rest is) granted alone = refl
-call_turns its owner c s p now z call shown known many (courses.run_looks runner w rest shown' now' z' mine is how) granted alone =
+    ∙ ap (λ r. turned_in (tick_turns r t p) s.lines.turn) (sym may)
+call_turns its owner c s p now z call shown known many (courses.makes_run may few) alone = refl
+call_turns its owner c s p now z call shown known many (courses.makes_no_run refused) alone = refl
+call_turns its owner c s p now z call shown known many (courses.run_polled runner w going free) alone = refl
+call_turns its owner c s p now z call shown known many (courses.over_polled r w over) alone = refl
+call_turns its owner c s p now z call shown known many (courses.own_ready r w v rest is) alone = refl
+call_turns its owner c s p now z call shown known many (courses.run_looks runner w rest shown' now' z' mine is how) alone =
     absurd (clash alone (ap (λ codes. goes_on_in codes) is))
 call_turns its owner c s p now z call shown known many (courses.run_goes_on stage runner w rest call' first more now' y z' o is ends how
-    goes) granted alone =
+    goes) alone =
     absurd (for_run p stage runner.number w rest call' ends is alone)
-call_turns its owner c s p now z call shown known many (courses.run_drops stage r w rest call' first f z' is ends how) granted alone =
+call_turns its owner c s p now z call shown known many (courses.run_drops stage r w rest call' first f z' is ends how) alone =
     absurd (for_run p stage r w rest call' ends is alone)
-call_turns its owner c s p now z call shown known many (courses.run_loses stage r w rest call' first v z' is ends how) granted alone =
+call_turns its owner c s p now z call shown known many (courses.run_loses stage r w rest call' first v z' is ends how) alone =
     absurd (for_run p stage r w rest call' ends is alone)
-call_turns its owner c s p now z call shown known many (courses.run_dropped r going free) granted alone = refl
-call_turns its owner c s p now z call shown known many (courses.over_dropped r over) granted alone = refl
-call_turns its owner c s p now z call shown known many (courses.run_leaves runner answer rest is life) granted alone =
+call_turns its owner c s p now z call shown known many (courses.run_dropped r going free) alone = refl
+call_turns its owner c s p now z call shown known many (courses.over_dropped r over) alone = refl
+call_turns its owner c s p now z call shown known many (courses.run_leaves runner answer rest is life) alone =
     drains_at s.lines.turn (suc (own.count_of runner.number s.runs))
     (runs.leave_answer runner (ticker_of owner.number (ARun runner.number) p.lying) s) (runs.left runner s) refl
-call_turns its owner c s p now z call shown known many (courses.makes_no_tick refused) granted alone = refl
-call_turns its owner c s p now z call shown known many (courses.tick_refused t w lives found first refused) granted alone = let no : ◌≡◌
-    {A = Refusal} Granted AtOnce = sym (granted refl) ∙ refused in absurd cc
+call_turns its owner c s p now z call shown known many (courses.makes_no_tick refused) alone = refl
+call_turns its owner c s p now z call shown known many (courses.tick_refused t w lives found first refused) alone =
+    refused_turns its owner.number s p known.stands known.numbered c t w first found
+    ∙ ap (λ r. turned_in (tick_turns r t p) s.lines.turn) (sym refused)
 call_turns its owner c s p now z call shown known many (courses.tick_lies_refused t w lives found first refused names again more life)
-    granted alone =
-    let no : ◌≡◌ {A = Refusal} Granted Later = sym (granted refl) ∙ refused in absurd cc
-call_turns its owner c s p now z call shown known many (courses.tick_leaves t lives life) granted alone =
+    alone =
+    later_turns its owner.number s p known.stands known.numbered c t w first found
+    (tick_room its owner s p known.stands known.numbered known.housed t lives) names more life again
+    ∙ ap (λ r. turned_in (tick_turns r t p) s.lines.turn) (sym refused)
+call_turns its owner c s p now z call shown known many (courses.tick_leaves t lives life) alone =
     tick_left_at s.lines.turn (ticker_of owner.number (ATick t) p.lying) s refl
 
 pub calls_take_turns : {F T X : Type 0} → CallsTakeTurns F T X
-calls_take_turns its owner c s p now z call shown led many acts granted alone =
-    call_turns its owner c s p now z call shown (led_known its owner s p led) many acts granted alone
+calls_take_turns its owner c s p now z call shown led many acts alone =
+    call_turns its owner c s p now z call shown (led_known its owner s p led) many acts alone

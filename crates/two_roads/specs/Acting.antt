@@ -1,17 +1,16 @@
 -- Calls of the machine one inside another, as calls of the plain scheduler.
 use Rattle.std.specs.Prelude.{◌≡◌, ℕ, Bool, true, false, List, [], ◌∷◌, Some}
-use Rattle.executor_parts.specs.Marks.{first_of}
 use Rattle.executor_model.specs.declared.op.Waker.{Waker}
 use Rattle.executor_model.specs.Steps.{Machine}
 use Rattle.solo.specs.declared.names.SoloWaker.{SoloWaker}
 use Rattle.plain_scheduler.specs.State.{Choice, Code, Drop, Lose, Plain, Poll, PollOwn, Run, Taker}
-use Rattle.plain_scheduler.specs.Calls.{Call, DropExecutor, Ends, Pends, PollTick, TryTick, does}
+use Rattle.plain_scheduler.specs.Calls.{Call, DropExecutor, Ends, Pends, does}
 use Rattle.machine_roads.specs.DropActs.{DropActAlike}
 use Rattle.machine_roads.specs.View.{Output}
 use Rattle.machine_roads.specs.Within.{Act, ActAlike, IsMade}
 use Rattle.solo_laws.specs.Road.{wakes}
 use Rattle.two_roads.specs.Refusing.{asks_memory, refused_in}
-use Rattle.two_roads.specs.Renaming.{AreBothDue, call_as}
+use Rattle.two_roads.specs.Renaming.{call_as}
 use Rattle.two_roads.specs.Together.{nothing, numbered}
 
 -- each act is a call, or the end of the innermost code as the machine's step has it
@@ -46,12 +45,6 @@ takes_for_run p Pends = goes_on_in p.inside
 takes_for_run p Ends = goes_on_in p.inside
 takes_for_run p _ = false
 
--- a try and a poll of a tick look first at the one mark or the other
-abbrev pub looks_first : {T A : Type 0} → Call T A → Bool
-looks_first TryTick = true
-looks_first (PollTick t w) = true
-looks_first _ = false
-
 module _ {T X : Type 0} (number : X → ℕ) where
   -- a call of an executor of one owner is what the machine's step begins or ends. Where it asks for memory, this is refused to it as it is
   -- in the act; and no run takes a future
@@ -60,27 +53,12 @@ module _ {T X : Type 0} (number : X → ℕ) where
     pub refused : asks_memory p call ≡ true → c.refusal ≡ refused_in s a
     pub runless : takes_for_run p call ≡ false
 
-  -- and where a try or a tick's poll looks for a future while futures of both marks are due, it looks first at the mark that the other's
-  -- turn names
-  pub record IsActed (s : Machine) (a : Act) (p : Plain T (SoloWaker X)) (c : Choice) (call : Call T (SoloWaker X)) : Type 0 where
-    pub step : IsOfStep s a p c call
-    pub first : looks_first call ≡ true → AreBothDue p.due → c.first ≡ first_of s.world.urgent_turns
-
   abbrev pub AreOfSteps : Machine → List Act → Plain T (SoloWaker X) → List (Choice × Call T (SoloWaker X)) → Type 0
   AreOfSteps s [] p [] = Unit {0}
   AreOfSteps s (a ∷ acts) p (x ∷ xs) = IsOfStep s a p x.0 x.1 × AreOfSteps a.left acts (does wakes x.0 x.1 p) xs
   AreOfSteps s acts p xs = ⊥
 
-  abbrev pub AreActed : Machine → List Act → Plain T (SoloWaker X) → List (Choice × Call T (SoloWaker X)) → Type 0
-  AreActed s [] p [] = Unit {0}
-  AreActed s (a ∷ acts) p (x ∷ xs) = IsActed s a p x.0 x.1 × AreActed a.left acts (does wakes x.0 x.1 p) xs
-  AreActed s acts p xs = ⊥
-
   -- and from the executor's drop on
-  abbrev pub EndActed : Act → List Act → Plain T (SoloWaker X) → List (Choice × Call T (SoloWaker X)) → Type 0
-  EndActed a acts p [] = ⊥
-  EndActed a acts p (x ∷ xs) = (x.1 ≡ DropExecutor) × AreActed a.left acts (does wakes x.0 x.1 p) xs
-
   abbrev pub EndOfSteps : Act → List Act → Plain T (SoloWaker X) → List (Choice × Call T (SoloWaker X)) → Type 0
   EndOfSteps a acts p [] = ⊥
   EndOfSteps a acts p (x ∷ xs) = (x.1 ≡ DropExecutor) × AreOfSteps a.left acts (does wakes x.0 x.1 p) xs

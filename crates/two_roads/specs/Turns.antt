@@ -1,5 +1,5 @@
 -- How many turns of the executor's two queues a call takes, as the plain scheduler has it, where no run goes on.
-use Rattle.std.specs.Prelude.{◌≡◌, ℕ, zero, suc, ◌+◌, ◌^◌, ◌%◌, Bool, true, false, List, ◌∷◌, Ok, find, if◌then◌else◌, is_some, reverse}
+use Rattle.std.specs.Prelude.{◌≡◌, ℕ, zero, suc, ◌+◌, ◌^◌, ◌%◌, Bool, true, false, List, Ok, find, if◌then◌else◌, is_some, reverse}
 use Rattle.std.specs.Prelude.{length, ◌≤◌}
 use Rattle.executor_parts.specs.Marks.{turn_after}
 use Rattle.executor_model.specs.declared.kind.Kind.{Kind}
@@ -11,35 +11,38 @@ use Rattle.solo.specs.declared.names.SoloWaker.{SoloWaker}
 use Rattle.solo.specs.declared.owed.Lent.{Lent}
 use Rattle.solo.specs.declared.solo.Solo.{Solo}
 use Rattle.executor_parts.specs.declared.mark.Mark.TheVariants.{Plain as PlainMark, Urgent}
-use Rattle.plain_scheduler.specs.State.{ATick, Choice, Event, Granted, Lying, Plain, Who}
+use Rattle.plain_scheduler.specs.State.{ATick, AtOnce, Choice, Event, Lying, Plain, Refusal, Who}
 use Rattle.plain_scheduler.specs.Lists.{any, or}
 use Rattle.plain_scheduler.specs.Moves.{is_common, lies}
 use Rattle.plain_scheduler.specs.Calls.{Call, PollTick, TryTick}
-use Rattle.machine_roads.specs.Seeing.{heard_in}
 use Rattle.machine_roads.specs.View.{Output}
 use Rattle.machine_roads.specs.Within.{Act, IsAct, IsMade, StandsAlike, is_on_way, standing}
 use Rattle.solo_laws.specs.Courses.{Acts}
 use Rattle.solo_laws.specs.Led.{IsLed}
 use Rattle.solo_laws.specs.Owner.{Owner}
 use Rattle.two_roads.specs.Acting.{takes_for_run}
-use Rattle.two_roads.specs.Refusing.{ends_refused}
+use Rattle.two_roads.specs.Refusing.{refused_in}
 
 -- it lies, and wasn't called
 abbrev pub lies_uncalled : {A : Type 0} → Who → List (Lying A) → Bool
 lies_uncalled who ls = or (find (lies who) ls) (λ l. is_some l.waker) false
 
--- a tick's poll that isn't refused takes one where a future without a keeper is due, or where it lies with a waker; else it lies down and
--- searches again
-abbrev pub tick_turns : {T A : Type 0} → ℕ → Plain T A → ℕ
-tick_turns t p =
+-- a tick that lies down searches again; one to which memory is refused at once doesn't lie down
+abbrev pub searches_by : Refusal → ℕ
+searches_by AtOnce = 1
+searches_by _ = 2
+
+-- a tick's poll takes one turn where a future without a keeper is due, or where it lies with a waker; else one in each search
+abbrev pub tick_turns : {T A : Type 0} → Refusal → ℕ → Plain T A → ℕ
+tick_turns r t p =
     if any (is_common PlainMark) p.due then 1
-    else (if any (is_common Urgent) p.due then 1 else (if lies_uncalled (ATick t) p.lying then 1 else 2))
+    else (if any (is_common Urgent) p.due then 1 else (if lies_uncalled (ATick t) p.lying then 1 else searches_by r))
 
 -- a try takes one, and no other call than these takes any
-abbrev pub turns_of : {T A : Type 0} → Plain T A → Call T A → ℕ
-turns_of p TryTick = 1
-turns_of p (PollTick t w) = tick_turns t p
-turns_of p _ = 0
+abbrev pub turns_of : {T A : Type 0} → Refusal → Plain T A → Call T A → ℕ
+turns_of r p TryTick = 1
+turns_of r p (PollTick t w) = tick_turns r t p
+turns_of r p _ = 0
 
 -- what the machine's turn is so many later, and that of the executor of one owner
 abbrev pub turned : ℕ → ℕ → ℕ
@@ -50,28 +53,18 @@ abbrev pub turned_in : ℕ → ℕ → ℕ
 turned_in zero n = n
 turned_in (suc k) n = turned_in k ((n + 1) % 2 ^ 64)
 
-abbrev pub polls_tick : {T A : Type 0} → Call T A → Bool
-polls_tick (PollTick t w) = true
-polls_tick _ = false
-
--- no tick that is polled is refused memory
-abbrev pub TicksGranted : {T A : Type 0} → List Act → List (Choice × Call T A) → Type 0
-TicksGranted (a ∷ acts) (x ∷ xs) = (polls_tick x.1 ≡ true → ends_refused (heard_in a.left.world.trace) ≡ false) × TicksGranted acts xs
-TicksGranted acts xs = Unit {0}
-
--- so many the machine takes in the act that is this call, where that is no tick's poll to which memory is refused
+-- so many the machine takes in the act that is this call
 abbrev pub ActsTakeTurns : Type 0
 ActsTakeTurns =
     (limit : ℕ) (kind : Kind) (parties : ℕ) (steps : List Step) (s : Machine) → run_all steps (start limit kind parties) ≡ Ok s
     → (q : Plain Output Waker) (a : Act) (call : Call Output Waker) → StandsAlike (standing s a.party) q → IsAct s a
-    → is_on_way (reverse (stack s a.party)) a.first ≡ true → IsMade s a.party a.first call
-    → (polls_tick call ≡ true → ends_refused (heard_in a.left.world.trace) ≡ false) → takes_for_run q call ≡ false
-    → a.left.world.urgent_turns ≡ turned (turns_of q call) s.world.urgent_turns
+    → is_on_way (reverse (stack s a.party)) a.first ≡ true → IsMade s a.party a.first call → takes_for_run q call ≡ false
+    → a.left.world.urgent_turns ≡ turned (turns_of (refused_in s a) q call) s.world.urgent_turns
 
 -- and so many the executor of one owner
 abbrev pub CallsTakeTurns : Type 0 → Type 0 → Type 0 → Type 0
 CallsTakeTurns F T X =
     (its : ℕ → Lent) (owner : Owner) (c : Choice) (s : Solo F T X) (p : Plain T (SoloWaker X)) (now : Owner) (z : Solo F T X)
     (call : Call T (SoloWaker X)) (shown : List (Event T (SoloWaker X))) → IsLed its owner s p → length p.lying ≤ c.tells
-    → Acts its owner c s p call shown now z → (polls_tick call ≡ true → c.refusal ≡ Granted)
-    → takes_for_run p call ≡ false → z.lines.turn ≡ turned_in (turns_of p call) s.lines.turn
+    → Acts its owner c s p call shown now z → takes_for_run p call ≡ false
+    → z.lines.turn ≡ turned_in (turns_of c.refusal p call) s.lines.turn

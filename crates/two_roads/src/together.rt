@@ -23,11 +23,9 @@ ghost use Rattle.solo_laws.specs.LastCalls.{LastCalls};
 ghost use Rattle.solo_laws.specs.Owner.{Owner, new_owner};
 ghost use Rattle.solo_laws.specs.Road.{wakes};
 ghost use Rattle.solo_laws.specs.Tabled.{Stands};
-ghost use Rattle.two_roads.specs.Acting.{AreActed, AreOfSteps, EndActed, EndOfSteps, acts_by, drop_acts_by, left_of};
-ghost use Rattle.two_roads.specs.Plainly.{are_plain};
+ghost use Rattle.two_roads.specs.Acting.{AreOfSteps, EndOfSteps, acts_by, drop_acts_by, left_of};
 ghost use Rattle.two_roads.specs.Renaming.{AreSame};
 ghost use Rattle.two_roads.specs.Together.{TellsOf, as_heard, left_by, made_by, nothing, numbered};
-ghost use Rattle.two_roads.specs.Turns.{TicksGranted};
 
 /// A list of lone calls of a new machine is one of the plain scheduler's, and so is a list of calls of a new executor of one owner.
 /// Where these are the same calls, with the same ends of polls and drops and the same refusals, both then stand where one plain
@@ -98,39 +96,15 @@ pub fn nested_calls_end_alike<F, T, X>()
 
 /// And so, where no run takes a future, each list of such acts of a new machine tells of what a list of calls of a new executor of one
 /// owner shows, where each of these calls is what the machine's step begins, or the answer of a poll or the end of a drop that the step
-/// has; where a call that asks for memory is refused it as the machine's trace and world say of the act; and where futures of both marks
-/// are due, the executor looks first at the mark that the machine's turn names.
+/// has; and where a call that asks for memory is refused it as the machine's trace and world say of the act. Both then take as many turns
+/// in each call, and so a try and a tick's poll look first at the same mark.
 pub fn runless_calls_show_alike<F, T, X>()
     ensures { (its : ℕ → Lent) (number : X → ℕ) (limit : ℕ) (kind : MachineKind) (solo_kind : Kind) (parties : ℕ) (acts : List Act)
         (calls : List (Choice × Call T (SoloWaker X))) (first last : Solo F T X) (shown : List (Event T (SoloWaker X)))
         (before : Who → ℕ) (after : Owner) → AreActs (start limit kind parties) acts
         → IsNew limit solo_kind first → counts solo_kind ≡ not (is_static_kind kind)
         → Leads its calls (new_owner before) first (new limit (is_static_kind kind)) shown after last
-        → AreActed number (start limit kind parties) acts (new limit (is_static_kind kind)) calls
-        → Stands its last (course wakes calls (new limit (is_static_kind kind)))
-        × (heard_in (left_of (start limit kind parties) acts).world.trace ≡ as_heard number shown) }
-{}
-
-/// Where no tick that is polled is refused memory, nothing is asked of turns either: both take as many in each call.
-pub fn granted_ticks_show_alike<F, T, X>()
-    ensures { (its : ℕ → Lent) (number : X → ℕ) (limit : ℕ) (kind : MachineKind) (solo_kind : Kind) (parties : ℕ) (acts : List Act)
-        (calls : List (Choice × Call T (SoloWaker X))) (first last : Solo F T X) (shown : List (Event T (SoloWaker X)))
-        (before : Who → ℕ) (after : Owner) → AreActs (start limit kind parties) acts
-        → IsNew limit solo_kind first → counts solo_kind ≡ not (is_static_kind kind)
-        → Leads its calls (new_owner before) first (new limit (is_static_kind kind)) shown after last
-        → TicksGranted acts calls → AreOfSteps number (start limit kind parties) acts (new limit (is_static_kind kind)) calls
-        → Stands its last (course wakes calls (new limit (is_static_kind kind)))
-        × (heard_in (left_of (start limit kind parties) acts).world.trace ≡ as_heard number shown) }
-{}
-
-/// Where each future is spawned plain, nothing is asked of turns.
-pub fn plain_calls_show_alike<F, T, X>()
-    ensures { (its : ℕ → Lent) (number : X → ℕ) (limit : ℕ) (kind : MachineKind) (solo_kind : Kind) (parties : ℕ) (acts : List Act)
-        (calls : List (Choice × Call T (SoloWaker X))) (first last : Solo F T X) (shown : List (Event T (SoloWaker X)))
-        (before : Who → ℕ) (after : Owner) → AreActs (start limit kind parties) acts
-        → IsNew limit solo_kind first → counts solo_kind ≡ not (is_static_kind kind)
-        → Leads its calls (new_owner before) first (new limit (is_static_kind kind)) shown after last
-        → are_plain calls ≡ true → AreOfSteps number (start limit kind parties) acts (new limit (is_static_kind kind)) calls
+        → AreOfSteps number (start limit kind parties) acts (new limit (is_static_kind kind)) calls
         → Stands its last (course wakes calls (new limit (is_static_kind kind)))
         × (heard_in (left_of (start limit kind parties) acts).world.trace ≡ as_heard number shown) }
 {}
@@ -147,40 +121,6 @@ pub fn runless_calls_end_alike<F, T, X>()
         → Leads its calls (new_owner before) first (new limit (is_static_kind kind)) shown after middle
         → LastCalls its middle (course wakes calls (new limit (is_static_kind kind))) ends others last
         → (course wakes calls (new limit (is_static_kind kind))).inside ≡ []
-        → AreActed number (start limit kind parties) acts (new limit (is_static_kind kind)) calls
-        → EndActed number a later (course wakes calls (new limit (is_static_kind kind))) ends
-        → IsClosed its last (course wakes (calls ++ ends) (new limit (is_static_kind kind)))
-        × (heard_in (left_of a.left later).world.trace ≡ as_heard number (shown ++ others)) }
-{}
-
-/// And so it is to the end where no tick that is polled is refused memory: from the executor's drop on no call looks for a future to take.
-pub fn granted_ticks_end_alike<F, T, X>()
-    ensures { (its : ℕ → Lent) (number : X → ℕ) (limit : ℕ) (kind : MachineKind) (solo_kind : Kind) (parties : ℕ) (acts : List Act)
-        (a : Act) (later : List Act) (calls ends : List (Choice × Call T (SoloWaker X))) (first middle last : Solo F T X)
-        (shown others : List (Event T (SoloWaker X))) (before : Who → ℕ) (after : Owner) → AreActs (start limit kind parties) acts
-        → IsQuiet (left_by_acts (start limit kind parties) acts).world.trace → IsAct (left_by_acts (start limit kind parties) acts) a
-        → a.first ≡ Begin a.party DropsExecutor → AreDropActs a.left later → IsNew limit solo_kind first
-        → counts solo_kind ≡ not (is_static_kind kind)
-        → Leads its calls (new_owner before) first (new limit (is_static_kind kind)) shown after middle
-        → LastCalls its middle (course wakes calls (new limit (is_static_kind kind))) ends others last
-        → (course wakes calls (new limit (is_static_kind kind))).inside ≡ [] → TicksGranted acts calls
-        → AreOfSteps number (start limit kind parties) acts (new limit (is_static_kind kind)) calls
-        → EndOfSteps number a later (course wakes calls (new limit (is_static_kind kind))) ends
-        → IsClosed its last (course wakes (calls ++ ends) (new limit (is_static_kind kind)))
-        × (heard_in (left_of a.left later).world.trace ≡ as_heard number (shown ++ others)) }
-{}
-
-/// And so it is to the end where each future is spawned plain.
-pub fn plain_calls_end_alike<F, T, X>()
-    ensures { (its : ℕ → Lent) (number : X → ℕ) (limit : ℕ) (kind : MachineKind) (solo_kind : Kind) (parties : ℕ) (acts : List Act)
-        (a : Act) (later : List Act) (calls ends : List (Choice × Call T (SoloWaker X))) (first middle last : Solo F T X)
-        (shown others : List (Event T (SoloWaker X))) (before : Who → ℕ) (after : Owner) → AreActs (start limit kind parties) acts
-        → IsQuiet (left_by_acts (start limit kind parties) acts).world.trace → IsAct (left_by_acts (start limit kind parties) acts) a
-        → a.first ≡ Begin a.party DropsExecutor → AreDropActs a.left later → IsNew limit solo_kind first
-        → counts solo_kind ≡ not (is_static_kind kind)
-        → Leads its calls (new_owner before) first (new limit (is_static_kind kind)) shown after middle
-        → LastCalls its middle (course wakes calls (new limit (is_static_kind kind))) ends others last
-        → (course wakes calls (new limit (is_static_kind kind))).inside ≡ [] → are_plain calls ≡ true → are_plain ends ≡ true
         → AreOfSteps number (start limit kind parties) acts (new limit (is_static_kind kind)) calls
         → EndOfSteps number a later (course wakes calls (new limit (is_static_kind kind))) ends
         → IsClosed its last (course wakes (calls ++ ends) (new limit (is_static_kind kind)))

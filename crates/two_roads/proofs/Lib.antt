@@ -19,3 +19,6 @@ pub mod InStep
 pub mod InStepToEnd
 pub mod TickTurns
 pub mod SoloTicks
+pub mod WaitingTasks
+pub mod HandedOut
+pub mod TakenInActs

@@ -4,3 +4,5 @@ pub mod Together
 pub mod Refusing
 pub mod Acting
 pub mod Turns
+pub mod InOrder
+pub mod ActsInOrder

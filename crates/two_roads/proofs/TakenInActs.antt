@@ -1,5 +1,5 @@
 -- A run of the step machine takes what the plain scheduler's takes, in order.
-use Rattle.std.proofs.Common.{◌≡◌, ℕ, zero, suc, ◌<◌, ◌==◌, ◌&&◌, nat_lt, cond, Bool, true, false, List, [], ◌∷◌, ◌++◌, length, map, filter}
+use Rattle.std.proofs.Common.{◌≡◌, ℕ, ◌<◌, ◌==◌, ◌&&◌, nat_lt, cond, Bool, true, false, List, [], ◌∷◌, ◌++◌, length, map, filter}
 use Rattle.std.proofs.Common.{drop, is_some, slice_get, refl, sym, ap, subst, ◌∙◌}
 use Rattle.executor_parts.specs.declared.mark.Mark.{Mark}
 use Rattle.executor_parts.specs.declared.mark.Mark.TheVariants.{Plain as PlainMark}
@@ -7,11 +7,11 @@ use Rattle.executor_parts.specs.Marks.{same_mark}
 use Rattle.executor_model.specs.declared.kind.Kind.{Kind}
 use Rattle.executor_model.specs.declared.op.Waker.{Waker}
 use Rattle.executor_model.specs.Steps.{Machine, is_static_kind, start}
-use Rattle.executor_model.specs.World.{World, mark_of, own_of, queue_of}
+use Rattle.executor_model.specs.World.{World, mark_of, own_of}
 use Rattle.plain_scheduler.specs.State.{Answer, Answers, Calls, Cancelled, Choice, Done, Drops, Due, Event, Finished, Full, Gives, Loses, Made, No}
 use Rattle.plain_scheduler.specs.State.{NoMemory, Pending, Plain, Polls, Ready, Running, Yes}
 use Rattle.plain_scheduler.specs.Lists.{any}
-use Rattle.plain_scheduler.specs.Moves.{is_common, is_kept, mark}
+use Rattle.plain_scheduler.specs.Moves.{is_common, is_kept}
 use Rattle.plain_scheduler.specs.Calls.{Call, course, does, new}
 use Rattle.plain_laws.specs.Order.{InOrder, InWholeOrder, IsAlone, all_came, all_came_with, all_taken, begun_by, came, came_with, count, is_kept_of, is_others, is_unkept, is_urgent, last_begun, line}
 use Rattle.plain_laws.specs.Order.{of_mark, taken, took, whole_line}

@@ -9,7 +9,6 @@ use Rattle.solo.specs.declared.names.SoloWaker.{SoloWaker}
 use Rattle.solo.specs.declared.owed.Lent.{Lent}
 use Rattle.solo.specs.declared.solo.Solo.{Solo}
 use Rattle.solo.specs.Cells.{Kept, may_start}
-use Rattle.solo.specs.Lines.{line_of}
 use Rattle.solo.specs.OwnQueues.{first_in, first_of}
 use Rattle.plain_scheduler.specs.State.{Due, Future, Plain}
 use Rattle.plain_scheduler.specs.Lists.{any, or}

@@ -1,6 +1,6 @@
 -- In which order a run takes futures from an executor of one owner, read off its queues and what it shows.
-use Rattle.std.specs.Prelude.{◌≡◌, ℕ, ◌<◌, ◌==◌, nat_lt, Bool, true, false, if◌then◌else◌, List, [], ◌∷◌, ◌++◌, length, map, filter, drop}
-use Rattle.std.specs.Prelude.{Option, None}
+use Rattle.std.specs.Prelude.{◌≡◌, ℕ, ◌<◌, ◌==◌, nat_lt, true, false, if◌then◌else◌, List, [], ◌++◌, length, map, filter, drop}
+use Rattle.std.specs.Prelude.{None}
 use Rattle.executor_parts.specs.declared.mark.Mark.{Mark}
 use Rattle.executor_parts.specs.declared.mark.Mark.TheVariants.{Plain as PlainMark}
 use Rattle.executor_parts.specs.Marks.{same_mark}
@@ -14,7 +14,7 @@ use Rattle.solo.specs.OwnQueues.{first_of, queue_of}
 use Rattle.plain_scheduler.specs.State.{Choice, Event, Plain}
 use Rattle.plain_scheduler.specs.Lists.{or}
 use Rattle.plain_scheduler.specs.Calls.{Call, does}
-use Rattle.plain_laws.specs.Order.{count, last_begun, of_mark, takes_alone}
+use Rattle.plain_laws.specs.Order.{count, last_begun, takes_alone}
 use Rattle.solo_laws.specs.Courses.{Leads, leads, stays}
 use Rattle.solo_laws.specs.Owner.{Owner}
 use Rattle.solo_laws.specs.Road.{wakes}

@@ -22,3 +22,4 @@ pub mod SoloTicks
 pub mod WaitingTasks
 pub mod HandedOut
 pub mod TakenInActs
+pub mod OnlyBegun

@@ -1,6 +1,6 @@
 -- In which order a run takes futures from an executor of one owner, read off its queues and what it shows.
 use Rattle.std.specs.Prelude.{◌≡◌, ℕ, ◌<◌, ◌==◌, nat_lt, true, false, if◌then◌else◌, List, [], ◌++◌, length, map, filter, drop}
-use Rattle.std.specs.Prelude.{None}
+use Rattle.std.specs.Prelude.{None, is_some}
 use Rattle.executor_parts.specs.declared.mark.Mark.{Mark}
 use Rattle.executor_parts.specs.declared.mark.Mark.TheVariants.{Plain as PlainMark}
 use Rattle.executor_parts.specs.Marks.{same_mark}
@@ -14,7 +14,7 @@ use Rattle.solo.specs.OwnQueues.{first_of, queue_of}
 use Rattle.plain_scheduler.specs.State.{Choice, Event, Plain}
 use Rattle.plain_scheduler.specs.Lists.{or}
 use Rattle.plain_scheduler.specs.Calls.{Call, does}
-use Rattle.plain_laws.specs.Order.{count, last_begun, takes_alone}
+use Rattle.plain_laws.specs.Order.{count, last_begun, takes_alone, was_polled}
 use Rattle.solo_laws.specs.Courses.{Leads, leads, stays}
 use Rattle.solo_laws.specs.Owner.{Owner}
 use Rattle.solo_laws.specs.Road.{wakes}
@@ -43,6 +43,10 @@ module _ {F T X : Type 0} where
     pub is_made : r < s.runs.made
     pub others : (k : ℕ) → (r == k) ≡ false → first_of k s.runs ≡ None
     pub takes_alone : takes_alone wakes r cs p ≡ true
+
+  -- of the runs that were polled in a list of calls, only r has its own queue still: it isn't over
+  abbrev pub IsOnlyBegunIn : ℕ → List (Choice × Call T (SoloWaker X)) → Solo F T X → Type 0
+  IsOnlyBegunIn r cs s = (k : ℕ) → was_polled k cs ≡ true → is_some (queue_of k s.runs.queues) ≡ true → k ≡ r
 
 -- of what run r takes in a call, and of what waits for it, these are looked at
 module _ {T X : Type 0} (its : ℕ → Lent) (r : ℕ) (of : Plain T (SoloWaker X) → List ℕ → List ℕ) where

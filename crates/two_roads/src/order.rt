@@ -1,5 +1,5 @@
 //! The order of queueing, of the executor of one owner and of the step machine: what a run takes that alone takes futures.
-ghost use Rattle.std.specs.Prelude.{◌≡◌, ◌++◌, ℕ, Bool, false, List, not};
+ghost use Rattle.std.specs.Prelude.{◌≡◌, ◌==◌, ◌++◌, ℕ, Bool, false, List, None, not};
 ghost use Rattle.executor_parts.specs.declared.mark.Mark.{Mark};
 ghost use Rattle.executor_model.specs.Steps.{is_static_kind, start};
 ghost use Rattle.executor_model.specs.declared.kind.Kind.{Kind as MachineKind};
@@ -10,6 +10,7 @@ ghost use Rattle.plain_laws.specs.Order.{is_urgent, of_mark};
 ghost use Rattle.plain_scheduler.specs.Calls.{Call, course, new};
 ghost use Rattle.plain_scheduler.specs.Lists.{any};
 ghost use Rattle.plain_scheduler.specs.State.{Choice, Event, Who};
+ghost use Rattle.solo.specs.OwnQueues.{first_of};
 ghost use Rattle.solo.specs.Solo.{IsNew, counts};
 ghost use Rattle.solo.specs.declared.names.Kind.{Kind};
 ghost use Rattle.solo.specs.declared.names.SoloWaker.{SoloWaker};
@@ -20,7 +21,7 @@ ghost use Rattle.solo_laws.specs.Owner.{Owner, new_owner};
 ghost use Rattle.solo_laws.specs.Road.{wakes};
 ghost use Rattle.two_roads.specs.Acting.{left_of};
 ghost use Rattle.two_roads.specs.ActsInOrder.{IsAloneInActs, all_wait_in, come_in, line_of_all, line_of_mark, taken_in, wait_in};
-ghost use Rattle.two_roads.specs.InOrder.{HandsInOrder, IsAloneIn, all_wait, waits};
+ghost use Rattle.two_roads.specs.InOrder.{HandsInOrder, IsAloneIn, IsOnlyBegunIn, all_wait, waits};
 
 /// Where a list of calls has led from a new executor of one owner on, nothing stands in the own queue of another run, and in the calls
 /// that go on run r alone takes futures and doesn't go, it is handed the tasks of each mark in the order in which they were queued: what
@@ -45,6 +46,15 @@ pub fn plain_tasks_are_handed_in_order<F, T, X>()
         → IsAloneIn r cs middle (course wakes calls (new limit is_static))
         → any is_urgent (course wakes cs (course wakes calls (new limit is_static))).futures ≡ false
         → HandsInOrder its r (λ q fs. fs) (all_wait r) shown on }
+{}
+
+/// Nothing stands in the own queue of another run where r is the only one that was polled and isn't over.
+pub fn only_begun_runs_have_tasks<F, T, X>()
+    ensures { (its : ℕ → Lent) (limit : ℕ) (kind : Kind) (is_static : Bool) (calls : List (Choice × Call T (SoloWaker X)))
+        (first middle : Solo F T X) (shown : List (Event T (SoloWaker X))) (number : Who → ℕ) (before : Owner) (r : ℕ)
+        → IsNew limit kind first → counts kind ≡ not is_static
+        → Leads its calls (new_owner number) first (new limit is_static) shown before middle
+        → IsOnlyBegunIn r calls middle → (k : ℕ) → (r == k) ≡ false → first_of k middle.runs ≡ None }
 {}
 
 /// So it is with the futures that a run of the machine takes, where one party of a new machine at a time begins calls, also in polls and

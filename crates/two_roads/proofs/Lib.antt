@@ -1,4 +1,8 @@
 pub mod Words
+pub mod WaitingTasks
+pub mod HandedOut
+pub mod OnlyBegun
+pub mod TakenInActs
 pub mod Tasks
 pub mod Moving
 pub mod Taking
@@ -19,7 +23,3 @@ pub mod InStep
 pub mod InStepToEnd
 pub mod TickTurns
 pub mod SoloTicks
-pub mod WaitingTasks
-pub mod HandedOut
-pub mod TakenInActs
-pub mod OnlyBegun

@@ -1,5 +1,5 @@
 -- A run of the step machine takes what the plain scheduler's takes, in order.
-use Rattle.std.proofs.Common.{◌≡◌, ℕ, ◌<◌, ◌==◌, ◌&&◌, nat_lt, cond, Bool, true, false, List, [], ◌∷◌, ◌++◌, length, map, filter}
+use Rattle.std.proofs.Common.{◌≡◌, ℕ, ◌<◌, ◌==◌, ◌&&◌, nat_lt, cond, Bool, true, false, List, [], ◌∷◌, ◌++◌, length, map, filter, not}
 use Rattle.std.proofs.Common.{drop, is_some, slice_get, refl, sym, ap, subst, ◌∙◌}
 use Rattle.executor_parts.specs.declared.mark.Mark.{Mark}
 use Rattle.executor_parts.specs.declared.mark.Mark.TheVariants.{Plain as PlainMark}
@@ -13,9 +13,11 @@ use Rattle.plain_scheduler.specs.State.{NoMemory, Pending, Plain, Polls, Ready, 
 use Rattle.plain_scheduler.specs.Lists.{any}
 use Rattle.plain_scheduler.specs.Moves.{is_common, is_kept}
 use Rattle.plain_scheduler.specs.Calls.{Call, course, does, new}
-use Rattle.plain_laws.specs.Order.{InOrder, InWholeOrder, IsAlone, all_came, all_came_with, all_taken, begun_by, came, came_with, count, is_kept_of, is_others, is_unkept, is_urgent, last_begun, line}
+use Rattle.plain_laws.specs.Order.{InOrder, InWholeOrder, IsAlone, IsOnlyBegun, all_came, all_came_with, all_go_idle, all_taken, begun_by, came, came_with, count, is_kept_of, is_others, is_unkept, is_urgent, last_begun, line}
 use Rattle.plain_laws.specs.Order.{of_mark, taken, took, whole_line}
-use Rattle.plain_laws.proofs.Words.{Each, map_both}
+use Rattle.plain_laws.proofs.Words.{Each, filter_none, map_both, none_as}
+use Rattle.plain_laws.proofs.Lines.{kept_by_other}
+use Rattle.plain_laws.proofs.Begun.{only_one}
 use Rattle.plain_laws.proofs.Marked.{IsMarked, Marked, are_marked, mark_of as its_mark}
 use Rattle.plain_laws.proofs.InOrder.{in_order}
 use Rattle.plain_laws.proofs.Altogether.{ArePlain, all_in_order, are_plain, unkept_so, were_plain}
@@ -260,3 +262,24 @@ module _ (limit : ℕ) (kind : Kind) (parties : ℕ) (before acts : List Act)
       ∙ (ap (λ l. l ++ all_came wakes r calls q) (sym (all_wait_so s.world q begins (unkept_so q marked plain_now) r))
       ∙ ap (λ l. all_wait_in r s.world ++ l)
       (sym (come_in_so r every (line_of_all r) s q acts on ∙ all_came_same r calls q)))))
+
+-- and nothing stands in the own queue of another run where one alone is begun
+pub none_begun : (limit : ℕ) (kind : Kind) (parties : ℕ) (before : List Act)
+    (go : ActAlike (start limit kind parties) (new limit (is_static_kind kind)) before) (r : ℕ)
+    → all_go_idle wakes (acts_by (start limit kind parties) (new limit (is_static_kind kind)) before go) (new limit (is_static_kind kind))
+    ≡ true
+    → IsOnlyBegun wakes r (acts_by (start limit kind parties) (new limit (is_static_kind kind)) before go) (new limit (is_static_kind kind))
+    → Follows (left_of (start limit kind parties) before).world
+    (plain_behind before (start limit kind parties) (new limit (is_static_kind kind)) go)
+    → (k : ℕ) → (r == k) ≡ false → own_of (left_of (start limit kind parties) before).world k ≡ []
+none_begun limit kind parties before go r idle only follows k away =
+    let first : Plain Output Waker = new limit (is_static_kind kind) in
+    let cs = acts_by (start limit kind parties) first before go in
+    let q = plain_behind before (start limit kind parties) first go in
+    let none : any (is_others r) q.due ≡ false =
+    subst (λ (p : Plain Output Waker). any (is_others r) p.due ≡ false) (acts_come before (start limit kind parties) first go)
+    (only_one wakes limit (is_static_kind kind) cs r idle only) in
+    follows.kept k
+    ∙ ap (map (λ (d : Due). d.future))
+    (filter_none (is_kept k) (is_kept k) (λ d is. is) q.due
+    (none_as (is_others r) (is_kept k) (kept_by_other r k (ap not away)) q.due none))

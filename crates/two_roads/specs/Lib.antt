@@ -1,8 +1,8 @@
+pub mod InOrder
+pub mod ActsInOrder
 pub mod Renaming
 pub mod Plainly
 pub mod Together
 pub mod Refusing
 pub mod Acting
 pub mod Turns
-pub mod InOrder
-pub mod ActsInOrder

@@ -1,12 +1,14 @@
 //! The order of queueing, of the executor of one owner and of the step machine: what a run takes that alone takes futures.
-ghost use Rattle.std.specs.Prelude.{◌≡◌, ◌==◌, ◌++◌, ℕ, Bool, false, List, None, not};
+ghost use Rattle.std.specs.Prelude.{◌≡◌, ◌==◌, ◌++◌, ℕ, Bool, false, true, List, [], None, not};
 ghost use Rattle.executor_parts.specs.declared.mark.Mark.{Mark};
 ghost use Rattle.executor_model.specs.Steps.{is_static_kind, start};
+ghost use Rattle.executor_model.specs.World.{own_of};
 ghost use Rattle.executor_model.specs.declared.kind.Kind.{Kind as MachineKind};
 ghost use Rattle.machine_roads.specs.DropActs.{plain_behind};
 ghost use Rattle.machine_roads.specs.Road.{Follows};
+ghost use Rattle.machine_roads.specs.View.{wakes as wakes_in};
 ghost use Rattle.machine_roads.specs.Within.{Act, ActAlike};
-ghost use Rattle.plain_laws.specs.Order.{is_urgent, of_mark};
+ghost use Rattle.plain_laws.specs.Order.{IsOnlyBegun, all_go_idle, is_urgent, of_mark};
 ghost use Rattle.plain_scheduler.specs.Calls.{Call, course, new};
 ghost use Rattle.plain_scheduler.specs.Lists.{any};
 ghost use Rattle.plain_scheduler.specs.State.{Choice, Event, Who};
@@ -19,7 +21,7 @@ ghost use Rattle.solo.specs.declared.solo.Solo.{Solo};
 ghost use Rattle.solo_laws.specs.Courses.{Leads};
 ghost use Rattle.solo_laws.specs.Owner.{Owner, new_owner};
 ghost use Rattle.solo_laws.specs.Road.{wakes};
-ghost use Rattle.two_roads.specs.Acting.{left_of};
+ghost use Rattle.two_roads.specs.Acting.{acts_by, left_of};
 ghost use Rattle.two_roads.specs.ActsInOrder.{IsAloneInActs, all_wait_in, come_in, line_of_all, line_of_mark, taken_in, wait_in};
 ghost use Rattle.two_roads.specs.InOrder.{HandsInOrder, IsAloneIn, IsOnlyBegunIn, all_wait, waits};
 
@@ -81,4 +83,17 @@ pub fn plain_futures_are_taken_in_order()
         → Follows (left_of s acts).world (plain_behind acts s q on) → any is_urgent (plain_behind acts s q on).futures ≡ false
         → taken_in r (λ q fs. fs) s q acts on ++ all_wait_in r (left_of s acts).world
         ≡ all_wait_in r s.world ++ come_in r (λ q fs. fs) (line_of_all r) s q acts on }
+{}
+
+/// Nothing stands in the own queue of another run of the machine where r is the only one that was polled and isn't over, and no run's drop
+/// ended while it was polled.
+pub fn only_begun_runs_have_futures()
+    ensures { (limit : ℕ) (kind : MachineKind) (parties : ℕ) (before : List Act)
+        (go : ActAlike (start limit kind parties) (new limit (is_static_kind kind)) before) (r : ℕ)
+        → let s = left_of (start limit kind parties) before in
+        let calls = acts_by (start limit kind parties) (new limit (is_static_kind kind)) before go in
+        all_go_idle wakes_in calls (new limit (is_static_kind kind)) ≡ true
+        → IsOnlyBegun wakes_in r calls (new limit (is_static_kind kind))
+        → Follows s.world (plain_behind before (start limit kind parties) (new limit (is_static_kind kind)) go)
+        → (k : ℕ) → (r == k) ≡ false → own_of s.world k ≡ [] }
 {}

@@ -1,5 +1,5 @@
 -- In which order a run takes futures from an executor of one owner, read off its queues and what it shows.
-use Rattle.std.specs.Prelude.{◌≡◌, ℕ, ◌<◌, ◌==◌, nat_lt, true, false, if◌then◌else◌, List, [], ◌++◌, length, map, filter, drop}
+use Rattle.std.specs.Prelude.{◌≡◌, ℕ, ◌<◌, ◌==◌, nat_lt, true, false, if◌then◌else◌, List, [], ◌∷◌, ◌++◌, length, map, filter, drop}
 use Rattle.std.specs.Prelude.{None, is_some}
 use Rattle.executor_parts.specs.declared.mark.Mark.{Mark}
 use Rattle.executor_parts.specs.declared.mark.Mark.TheVariants.{Plain as PlainMark}
@@ -11,7 +11,7 @@ use Rattle.solo.specs.declared.solo.Solo.{Solo}
 use Rattle.solo.specs.Cells.{asked}
 use Rattle.solo.specs.Lines.{line_of}
 use Rattle.solo.specs.OwnQueues.{first_of, queue_of}
-use Rattle.plain_scheduler.specs.State.{Choice, Event, Plain}
+use Rattle.plain_scheduler.specs.State.{Choice, Event, Plain, Polls}
 use Rattle.plain_scheduler.specs.Lists.{or}
 use Rattle.plain_scheduler.specs.Calls.{Call, does}
 use Rattle.plain_laws.specs.Order.{count, last_begun, takes_alone, was_polled}
@@ -19,6 +19,18 @@ use Rattle.solo_laws.specs.Courses.{Leads, leads, stays}
 use Rattle.solo_laws.specs.Owner.{Owner}
 use Rattle.solo_laws.specs.Road.{wakes}
 use Rattle.solo_laws.specs.Tabled.{named}
+
+-- the futures whose polls are shown
+abbrev pub polls_in : {T A : Type 0} → List (Event T A) → List ℕ
+polls_in [] = []
+polls_in (Polls f ∷ es) = f ∷ polls_in es
+polls_in (_ ∷ es) = polls_in es
+
+-- some of another list, in its order
+pub data IsPart {A : Type 0} : List A → List A → Type 0 where
+  no_more : IsPart [] []
+  has : (x : A) (xs ys : List A) → IsPart xs ys → IsPart (x ∷ xs) (x ∷ ys)
+  lacks : (y : A) (xs ys : List A) → IsPart xs ys → IsPart xs (y ∷ ys)
 
 module _ {F T X : Type 0} where
   -- the mark of a task

@@ -1,5 +1,5 @@
 //! The order of queueing, of the executor of one owner and of the step machine: what a run takes that alone takes futures.
-ghost use Rattle.std.specs.Prelude.{◌≡◌, ◌==◌, ◌++◌, ℕ, Bool, false, true, List, [], None, not};
+ghost use Rattle.std.specs.Prelude.{◌≡◌, ◌==◌, ◌++◌, ℕ, Bool, false, true, List, [], None, map, not};
 ghost use Rattle.executor_parts.specs.declared.mark.Mark.{Mark};
 ghost use Rattle.executor_model.specs.Steps.{is_static_kind, start};
 ghost use Rattle.executor_model.specs.World.{own_of};
@@ -8,7 +8,7 @@ ghost use Rattle.machine_roads.specs.DropActs.{plain_behind};
 ghost use Rattle.machine_roads.specs.Road.{Follows};
 ghost use Rattle.machine_roads.specs.View.{wakes as wakes_in};
 ghost use Rattle.machine_roads.specs.Within.{Act, ActAlike};
-ghost use Rattle.plain_laws.specs.Order.{IsOnlyBegun, all_go_idle, is_urgent, of_mark};
+ghost use Rattle.plain_laws.specs.Order.{IsOnlyBegun, all_go_idle, is_urgent, of_mark, takes_alone};
 ghost use Rattle.plain_scheduler.specs.Calls.{Call, course, new};
 ghost use Rattle.plain_scheduler.specs.Lists.{any};
 ghost use Rattle.plain_scheduler.specs.State.{Choice, Event, Who};
@@ -21,9 +21,10 @@ ghost use Rattle.solo.specs.declared.solo.Solo.{Solo};
 ghost use Rattle.solo_laws.specs.Courses.{Leads};
 ghost use Rattle.solo_laws.specs.Owner.{Owner, new_owner};
 ghost use Rattle.solo_laws.specs.Road.{wakes};
+ghost use Rattle.solo_laws.specs.Tabled.{named};
 ghost use Rattle.two_roads.specs.Acting.{acts_by, left_of};
 ghost use Rattle.two_roads.specs.ActsInOrder.{IsAloneInActs, all_wait_in, come_in, line_of_all, line_of_mark, taken_in, wait_in};
-ghost use Rattle.two_roads.specs.InOrder.{HandsInOrder, IsAloneIn, IsOnlyBegunIn, all_wait, waits};
+ghost use Rattle.two_roads.specs.InOrder.{HandsInOrder, IsAloneIn, IsOnlyBegunIn, IsPart, all_wait, handed, polls_in, waits};
 
 /// Where a list of calls has led from a new executor of one owner on, nothing stands in the own queue of another run, and in the calls
 /// that go on run r alone takes futures and doesn't go, it is handed the tasks of each mark in the order in which they were queued: what
@@ -48,6 +49,18 @@ pub fn plain_tasks_are_handed_in_order<F, T, X>()
         → IsAloneIn r cs middle (course wakes calls (new limit is_static))
         → any is_urgent (course wakes cs (course wakes calls (new limit is_static))).futures ≡ false
         → HandsInOrder its r (λ q fs. fs) (all_wait r) shown on }
+{}
+
+/// The polls that a list shows in which run r alone takes futures and doesn't go are of tasks that the run was handed, in the order in
+/// which it was handed these.
+pub fn polls_shown_are_of_tasks_handed<F, T, X>()
+    ensures { (its : ℕ → Lent) (limit : ℕ) (kind : Kind) (is_static : Bool) (calls cs : List (Choice × Call T (SoloWaker X)))
+        (first middle last : Solo F T X) (shown others : List (Event T (SoloWaker X))) (number : Who → ℕ) (before after : Owner) (r : ℕ)
+        → IsNew limit kind first → counts kind ≡ not is_static
+        → Leads its calls (new_owner number) first (new limit is_static) shown before middle
+        → (on : Leads its cs before middle (course wakes calls (new limit is_static)) others after last)
+        → takes_alone wakes r cs (course wakes calls (new limit is_static)) ≡ true
+        → IsPart (map (named its) (polls_in others)) (handed its r (λ q fs. fs) shown on) }
 {}
 
 /// Nothing stands in the own queue of another run where r is the only one that was polled and isn't over.

@@ -24,8 +24,15 @@ filter_as P t s same (x ∷ xs) all =
     ap (λ b. cond b (x ∷ filter t xs) (filter t xs)) (same x all.0)
     ∙ ap (λ l. cond (s x) (x ∷ l) l) (filter_as P t s same xs all.1)
 
+both_so : (b : Bool) (d : Due) → d.mark ≡ PlainMark → (b && same_mark PlainMark d.mark) ≡ b
+both_so b d is = ap (λ m. b && same_mark PlainMark m) is ∙ by b
+  where
+    by : (b : Bool) → (b && true) ≡ b
+    by true = refl
+    by false = refl
+
 module _ {T A : Type 0} where
-  abbrev ArePlain : List (Future T A) → Type 0
+  abbrev pub ArePlain : List (Future T A) → Type 0
   ArePlain fs = (j : ℕ) (m : Mark) → at has_mark fs j ≡ Some m → m ≡ PlainMark
 
   plain_so : (x : Future T A) (m : Mark) → same_mark Urgent x.mark ≡ false → Some x.mark ≡ Some m → m ≡ PlainMark
@@ -38,7 +45,7 @@ module _ {T A : Type 0} where
       by PlainMark is = refl
       by Urgent is = absurd cc
 
-  are_plain : (fs : List (Future T A)) → any is_urgent fs ≡ false → ArePlain fs
+  pub are_plain : (fs : List (Future T A)) → any is_urgent fs ≡ false → ArePlain fs
   are_plain [] none j m is = absurd cc
   are_plain (x ∷ fs) none j m is = by (same_mark Urgent x.mark) refl none (are_plain fs) j is
     where
@@ -60,24 +67,20 @@ module _ {T A : Type 0} where
       by None is = refl
       by (Some x) is = is x.mark refl
 
+  pub unkept_so : (q : Plain T A) → Marked q → ArePlain q.futures → filter (is_common PlainMark) q.due ≡ filter is_unkept q.due
+  unkept_so q marked plain =
+      filter_as (IsMarked q) (is_common PlainMark) is_unkept (λ d is. both_so (is_unkept d) d (plain d.future d.mark is)) q.due marked.due
+
   line_all : (r : ℕ) (q : Plain T A) → Marked q → ArePlain q.futures → line PlainMark r q.due ≡ whole_line r q.due
   line_all r q marked plain =
       ap (λ l. map future_of (l ++ filter (is_common PlainMark) q.due))
-      (filter_as (IsMarked q) (is_kept_of PlainMark r) (is_kept r) (λ d is. all (is_kept r d) d (plain d.future d.mark is)) q.due
+      (filter_as (IsMarked q) (is_kept_of PlainMark r) (is_kept r) (λ d is. both_so (is_kept r d) d (plain d.future d.mark is)) q.due
       marked.due)
-      ∙ ap (λ l. map future_of (filter (is_kept r) q.due ++ l))
-      (filter_as (IsMarked q) (is_common PlainMark) is_unkept (λ d is. all (is_unkept d) d (plain d.future d.mark is)) q.due marked.due)
-    where
-      by : (b : Bool) → (b && true) ≡ b
-      by true = refl
-      by false = refl
-
-      all : (b : Bool) (d : Due) → d.mark ≡ PlainMark → (b && same_mark PlainMark d.mark) ≡ b
-      all b d is = ap (λ m. b && same_mark PlainMark m) is ∙ by b
+      ∙ ap (λ l. map future_of (filter (is_kept r) q.due ++ l)) (unkept_so q marked plain)
 
   module _ (r : ℕ) (wakes : A → Option ℕ) where
     -- marks stay, so that those are plain at first that are at the end
-    were_plain : (cs : List (Choice × Call T A)) (p : Plain T A) → Marked p → is_some (slice_get p.runs r) ≡ true
+    pub were_plain : (cs : List (Choice × Call T A)) (p : Plain T A) → Marked p → is_some (slice_get p.runs r) ≡ true
         → any (is_others r) p.due ≡ false → takes_alone wakes r cs p ≡ true → ArePlain (course wakes cs p).futures → ArePlain p.futures
     were_plain [] p marked there alone may plain = plain
     were_plain (c ∷ cs) p marked there alone may plain =

@@ -1,4 +1,9 @@
 pub mod Words
+pub mod WaitingTasks
+pub mod HandedOut
+pub mod OnlyBegun
+pub mod TakenInActs
+pub mod PollsShown
 pub mod Tasks
 pub mod Moving
 pub mod Taking

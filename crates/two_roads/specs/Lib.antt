@@ -1,3 +1,5 @@
+pub mod InOrder
+pub mod ActsInOrder
 pub mod Renaming
 pub mod Plainly
 pub mod Together

@@ -3,5 +3,6 @@
 #![tactic(auto)]
 
 pub mod names;
+pub mod order;
 pub mod together;
 pub mod turns;

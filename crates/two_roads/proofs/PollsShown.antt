@@ -1,5 +1,6 @@
 -- The polls that are shown in a list of calls in which one run alone takes futures are of what it is handed.
-use Rattle.std.proofs.Common.{◌≡◌, ℕ, zero, suc, ◌==◌, nat_lt, cond, not, Bool, true, false, List, [], ◌∷◌, ◌++◌, length, map, ◌+◌, Option, Some, None}
+use Rattle.std.proofs.Common.{◌≡◌, ℕ, zero, suc, ◌==◌, nat_lt, cond, not, Bool, true, false, List, [], ◌∷◌, ◌++◌, length, map, ◌+◌}
+use Rattle.std.proofs.Common.{Option, Some, None}
 use Rattle.std.proofs.Common.{refl, sym, ap, subst, ◌∙◌, arith}
 use Rattle.std.proofs.lemmas.Bool.Decides.{nat_tests}
 use Rattle.solo.specs.declared.names.Kind.{Kind}
@@ -22,7 +23,8 @@ use Rattle.solo.specs.Ticks as ticks
 use Rattle.solo.specs.declared.ticks.Ticked.{Ticked}
 use Rattle.solo.specs.Solo as solo
 use Rattle.solo.specs.Solo.{IsNew, counts}
-use Rattle.plain_scheduler.specs.State.{ARun, ATick, Answers, Calls, Choice, Code, Done, Drops, Event, Loses, Made, No, NoMemory, Pending, Plain, Polls}
+use Rattle.plain_scheduler.specs.State.{ARun, ATick, Answers, Calls, Choice, Code, Done, Drops, Event, Loses, Made, No, NoMemory, Pending}
+use Rattle.plain_scheduler.specs.State.{Plain, Polls}
 use Rattle.plain_scheduler.specs.State.{Run, Taker, Who, Yes}
 use Rattle.plain_scheduler.specs.Lists.{or}
 use Rattle.plain_scheduler.specs.Calls as calls

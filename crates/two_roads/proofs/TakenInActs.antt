@@ -8,12 +8,14 @@ use Rattle.executor_model.specs.declared.kind.Kind.{Kind}
 use Rattle.executor_model.specs.declared.op.Waker.{Waker}
 use Rattle.executor_model.specs.Steps.{Machine, is_static_kind, start}
 use Rattle.executor_model.specs.World.{World, mark_of, own_of}
-use Rattle.plain_scheduler.specs.State.{Answer, Answers, Calls, Cancelled, Choice, Done, Drops, Due, Event, Finished, Full, Gives, Loses, Made, No}
+use Rattle.plain_scheduler.specs.State.{Answer, Answers, Calls, Cancelled, Choice, Done, Drops, Due, Event, Finished, Full, Gives, Loses}
+use Rattle.plain_scheduler.specs.State.{Made, No}
 use Rattle.plain_scheduler.specs.State.{NoMemory, Pending, Plain, Polls, Ready, Running, Yes}
 use Rattle.plain_scheduler.specs.Lists.{any}
 use Rattle.plain_scheduler.specs.Moves.{is_common, is_kept}
 use Rattle.plain_scheduler.specs.Calls.{Call, course, does, new}
-use Rattle.plain_laws.specs.Order.{InOrder, InWholeOrder, IsAlone, IsOnlyBegun, all_came, all_came_with, all_go_idle, all_taken, begun_by, came, came_with, count, is_kept_of, is_others, is_unkept, is_urgent, last_begun, line}
+use Rattle.plain_laws.specs.Order.{InOrder, InWholeOrder, IsAlone, IsOnlyBegun, all_came, all_came_with, all_go_idle, all_taken, begun_by}
+use Rattle.plain_laws.specs.Order.{came, came_with, count, is_kept_of, is_others, is_unkept, is_urgent, last_begun, line}
 use Rattle.plain_laws.specs.Order.{of_mark, taken, took, whole_line}
 use Rattle.plain_laws.proofs.Words.{Each, filter_none, map_both, none_as}
 use Rattle.plain_laws.proofs.Lines.{kept_by_other}
@@ -74,7 +76,8 @@ module _ (w : World) (p : Plain Output Waker) (so : Follows w p) where
       is_its f = same_mark m (mark_of w f)
 
       mine : (b : Bool) → filter is_its (map future_of (filter (is_kept r) ds)) ≡ map future_of (filter (is_kept_of m r) ds)
-          → cond b (d.future ∷ filter is_its (map future_of (filter (is_kept r) ds))) (filter is_its (map future_of (filter (is_kept r) ds)))
+          → cond b (d.future ∷ filter is_its (map future_of (filter (is_kept r) ds)))
+          (filter is_its (map future_of (filter (is_kept r) ds)))
           ≡ map future_of (cond b (d ∷ filter (is_kept_of m r) ds) (filter (is_kept_of m r) ds))
       mine true rest = ap (λ l. d.future ∷ l) rest
       mine false rest = rest

@@ -1,5 +1,8 @@
+pub mod AlongBeside
 pub mod Lists
 pub mod Moving
+pub mod Owing
+pub mod OwingActs
 pub mod Running
 pub mod Stepping
 pub mod Puts
@@ -8,6 +11,7 @@ pub mod Changing
 pub mod Lying
 pub mod Numbers
 pub mod Telling
+pub mod Untaken
 pub mod Used
 pub mod Past
 pub mod Slowly

@@ -82,7 +82,7 @@ module _ (s : Machine) (reached : Reached s) (p : ℕ) (there : p < length s.par
   spares_all o c has = refl
 
 -- no run changes
-stays_runs : (w : World) (c : Call) (x : plain.Call Output Waker) (d : Choice) (q : Plain Output Waker) → is_on_executor c ≡ false
+pub stays_runs : (w : World) (c : Call) (x : plain.Call Output Waker) (d : Choice) (q : Plain Output Waker) → is_on_executor c ≡ false
     → IsCall w c x → (does wakes d x q).runs ≡ q.runs
 stays_runs w c x d q off (use_waker k f is) = use_runs d q f
 stays_runs w c x d q off (wake k f is) = wake_runs d q f

@@ -1,4 +1,6 @@
+pub mod ActsBeside
 pub mod AlongBeside
+pub mod BesideHere
 pub mod Lists
 pub mod Moving
 pub mod Owing
@@ -49,6 +51,7 @@ pub mod Bedding
 pub mod LyingDown
 pub mod RunIdle
 pub mod Tying
+pub mod WalkedWith
 pub mod WhoLeaves
 pub mod Living
 pub mod Having

@@ -55,7 +55,7 @@ module _ (f : ℕ) (awaiter : Option Waker) where
   future_does v (Some g) here there owes so = so g
 
   -- a call begins
-  begins_does : (p : ℕ) (c : Call) (w : World) → is_on_executor c ≡ false → polls f c ≡ false → Here w
+  pub begins_does : (p : ℕ) (c : Call) (w : World) → is_on_executor c ≡ false → polls f c ≡ false → Here w
       → Does f awaiter (begins p None c (without_run f w)) (begins p None c w)
   begins_does p (call.Wake k) w off apart owes =
       let v = log w (event.CallBegun p (call.Wake k)) in
@@ -98,7 +98,7 @@ module _ (f : ℕ) (awaiter : Option Waker) where
   call_there w c x off (drop_handle g) = drop_handle g
   call_there w c x off is = absurd cc
 
-  owing : (w : World) (gs : List ℕ) (q : Plain Output Waker) → StandsUntaken w f awaiter gs q → Here w
+  pub owing : (w : World) (gs : List ℕ) (q : Plain Output Waker) → StandsUntaken w f awaiter gs q → Here w
   owing w gs q stands = record {
     known = stands.known;
     over = stands.over;
@@ -119,7 +119,7 @@ module _ (f : ℕ) (awaiter : Option Waker) where
     follows = losing;
   }
 
-  resting_on : (os : List Op) → is_resting os ≡ true → goes_on os ≡ true
+  pub resting_on : (os : List Op) → is_resting os ≡ true → goes_on os ≡ true
   resting_on os under = resting_goes (without_run f) fits Here os under
 
   module _ (p : ℕ) (gs : List ℕ) (below : List Op) (w : World) (q : Plain Output Waker) (d : Choice) (hints : List Hint)

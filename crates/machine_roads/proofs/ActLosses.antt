@@ -272,7 +272,7 @@ module _ (below : List Op) (codes : List (Code Output Waker)) (nested : Nested b
       })
 
 module _ (s : Machine) (p : ℕ) where
-  no_poll_at : (o : Op) (os : List Op) → mine (Some o) ≡ None → reverse (stack s p) ≡ o ∷ os → mine (top (stack s p)) ≡ None
+  pub no_poll_at : (o : Op) (os : List Op) → mine (Some o) ≡ None → reverse (stack s p) ≡ o ∷ os → mine (top (stack s p)) ≡ None
   no_poll_at o os none next = ap (λ o. mine o) (top_of (stack s p) o os next).0 ∙ none
 
   no_poll_going : (fs : List ℕ) (r : ℕ) (os : List Op) → reverse (stack s p) ≡ loss_ops fs (op.User (user_op.DropOwn r) ∷ os)

@@ -15,7 +15,7 @@ use Rattle.executor_model.specs.declared.op.Waker.{Waker}
 use Rattle.executor_model.specs.declared.step.Step.TheVariants.{Answer}
 use Rattle.executor_model.specs.declared.step.UserEnd.{UserEnd}
 use Rattle.executor_model.specs.Steps.{Machine, refusal, stack}
-use Rattle.executor_model.specs.World.{task}
+use Rattle.executor_model.specs.World.{Done, task}
 use Rattle.executor_model.proofs.Steps.Reached.{Reached}
 use Rattle.executor_laws.proofs.Termination.LoneEnds.{OthersRest}
 use Rattle.plain_scheduler.specs.State.{Code, End, Plain}
@@ -25,7 +25,7 @@ use Rattle.machine_roads.specs.Dropped.{answered, loses, rest_of}
 use Rattle.machine_roads.specs.InLoss.{loss_ops}
 use Rattle.machine_roads.specs.Losing.{left_of}
 use Rattle.machine_roads.specs.Within.{going}
-use Rattle.machine_roads.specs.Within.{StandsAlike, alike, dropping, forgetting, losing, standing}
+use Rattle.machine_roads.specs.Within.{StandsAlike, alike, dropping, forgetting, losing, standing, untaken}
 use Rattle.machine_roads.proofs.ActCodes.{EndsSo, from_going, accepted, from_drop, from_forgotten, from_loss, from_own_drop}
 use Rattle.machine_roads.proofs.ActCodes.{from_own_poll, from_poll}
 use Rattle.machine_roads.proofs.ActLosses.{ends_in_going, ends_in_loss}
@@ -33,6 +33,11 @@ use Rattle.machine_roads.proofs.Counting.{Counted}
 use Rattle.machine_roads.proofs.Inmost.{Inmost, IsDropOf, drop, inmost, none, of_given, of_polled, of_queued, own_drop, own_poll, poll}
 use Rattle.machine_roads.proofs.RunHere.{Above}
 use Rattle.machine_roads.proofs.Walked.{no_answer}
+
+-- whether it stands so
+abbrev pub is_inner : {e : Done} {q : Plain Output Waker} → StandsAlike e q → Bool
+is_inner (untaken taker final below f awaiter g gs codes it nested stops) = true
+is_inner _ = false
 
 module _ (s : Machine) (reached : Reached s) (p : ℕ) (there : p < length s.parties) (open_still : s.world.gone ≡ false)
     (others : OthersRest p s) (q : Plain Output Waker) (counted : Counted (reverse (stack s p)) q.runs) where
@@ -122,11 +127,12 @@ module _ (s : Machine) (reached : Reached s) (p : ℕ) (there : p < length s.par
     alike = record { last = λ r. refl; left = λ r. refl };
   }
 
-  pub code_ends : StandsAlike (standing s p) q → (u : UserEnd) → refusal s (Answer p u) ≡ None → EndsSo s reached p there open_still
-      others q counted u
-  code_ends (alike nested follows) u may =
+  -- but the innermost of drops of outputs inside of that of one that nobody can take
+  pub code_ends : (a : StandsAlike (standing s p) q) → is_inner a ≡ false → (u : UserEnd) → refusal s (Answer p u) ≡ None
+      → EndsSo s reached p there open_still others q counted u
+  code_ends (alike nested follows) plain u may =
       from_alike (reverse (stack s p)) q.inside (inmost (reverse (stack s p)) q.inside nested) refl refl follows u may
-  code_ends (losing f fs below codes nested stops) u may =
+  code_ends (losing f fs below codes nested stops) plain u may =
       let xs = left_of f ++ loss_ops fs below in
       record {
         first = op.User (user_op.DropOutput f);
@@ -136,7 +142,7 @@ module _ (s : Machine) (reached : Reached s) (p : ℕ) (there : p < length s.par
             ends_in_loss s p q f fs below codes nested stops counted u
             (accepted s reached p there open_still others q counted u (op.User (user_op.DropOutput f)) xs may stops.left);
       }
-  code_ends (going r [] below codes nested stops) u may = record {
+  code_ends (going r [] below codes nested stops) plain u may = record {
     first = op.User (user_op.DropOwn r);
     rest = stops.rest ∷ below;
     is = stops.left;
@@ -145,7 +151,7 @@ module _ (s : Machine) (reached : Reached s) (p : ℕ) (there : p < length s.par
         stops.losing.follows u
         (accepted s reached p there open_still others q counted u (op.User (user_op.DropOwn r)) (stops.rest ∷ below) may stops.left);
   }
-  code_ends (going r (f ∷ fs) below codes nested stops) u may =
+  code_ends (going r (f ∷ fs) below codes nested stops) plain u may =
       let xs = left_of f ++ loss_ops fs (op.User (user_op.DropOwn r) ∷ stops.rest ∷ below) in
       record {
         first = op.User (user_op.DropOutput f);
@@ -155,9 +161,9 @@ module _ (s : Machine) (reached : Reached s) (p : ℕ) (there : p < length s.par
             ends_in_going s p q r f fs below codes nested stops counted u
             (accepted s reached p there open_still others q counted u (op.User (user_op.DropOutput f)) xs may stops.left);
       }
-  code_ends (dropping taker final below f b it nested (answered next inside follows)) u may =
+  code_ends (dropping taker final below f b it nested (answered next inside follows)) plain u may =
       from_alike below b.inside (inmost below b.inside nested) next inside follows u may
-  code_ends (dropping taker final below f b it nested (loses awaiter next inside ending)) u may =
+  code_ends (dropping taker final below f b it nested (loses awaiter next inside ending)) plain u may =
       let xs = rest_of (task s.world f).awaiter f final ++ below in
       record {
         first = op.User (user_op.DropOutput f);
@@ -169,7 +175,7 @@ module _ (s : Machine) (reached : Reached s) (p : ℕ) (there : p < length s.par
             (owed_above f final below (task s.world f).awaiter) f awaiter inside ending u
             (accepted s reached p there open_still others q counted u (op.User (user_op.DropOutput f)) xs may next);
       }
-  code_ends (forgetting taker final below f b it nested stops) u may =
+  code_ends (forgetting taker final below f b it nested stops) plain u may =
       let xs = op.Table (table_op.LeaveTable f) ∷ op.Handle (handle_op.LetGo f) ∷ final ∷ below in
       record {
         first = op.User (user_op.Drop f);
@@ -187,3 +193,4 @@ module _ (s : Machine) (reached : Reached s) (p : ℕ) (there : p < length s.par
             f stops.inside stops.forgotten u
             (accepted s reached p there open_still others q counted u (op.User (user_op.Drop f)) xs may stops.left);
       }
+  code_ends (untaken taker final below f awaiter g gs codes it nested stops) plain u may = absurd cc

@@ -82,7 +82,7 @@ module _ (s : Machine) (reached : Reached s) (p : ℕ) (there : p < length s.par
   spares_all o c has = refl
 
 -- no run changes
-stays_runs : (w : World) (c : Call) (x : plain.Call Output Waker) (d : Choice) (q : Plain Output Waker) → is_on_executor c ≡ false
+pub stays_runs : (w : World) (c : Call) (x : plain.Call Output Waker) (d : Choice) (q : Plain Output Waker) → is_on_executor c ≡ false
     → IsCall w c x → (does wakes d x q).runs ≡ q.runs
 stays_runs w c x d q off (use_waker k f is) = use_runs d q f
 stays_runs w c x d q off (wake k f is) = wake_runs d q f
@@ -272,7 +272,7 @@ module _ (below : List Op) (codes : List (Code Output Waker)) (nested : Nested b
       })
 
 module _ (s : Machine) (p : ℕ) where
-  no_poll_at : (o : Op) (os : List Op) → mine (Some o) ≡ None → reverse (stack s p) ≡ o ∷ os → mine (top (stack s p)) ≡ None
+  pub no_poll_at : (o : Op) (os : List Op) → mine (Some o) ≡ None → reverse (stack s p) ≡ o ∷ os → mine (top (stack s p)) ≡ None
   no_poll_at o os none next = ap (λ o. mine o) (top_of (stack s p) o os next).0 ∙ none
 
   no_poll_going : (fs : List ℕ) (r : ℕ) (os : List Op) → reverse (stack s p) ≡ loss_ops fs (op.User (user_op.DropOwn r) ∷ os)

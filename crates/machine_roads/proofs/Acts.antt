@@ -1,6 +1,6 @@
 -- From a new machine on, calls that are made one inside another are calls of the plain scheduler.
-use Rattle.std.proofs.Common.{◌≡◌, ℕ, ◌<◌, ◌==◌, ◌++◌, not, nat_lt, Bool, true, false, List, [], ◌∷◌, length}
-use Rattle.std.proofs.Common.{None, Ok, refl, sym, ap, subst, ◌∙◌}
+use Rattle.std.proofs.Common.{◌≡◌, ℕ, ◌<◌, ◌==◌, ◌++◌, ◌||◌, not, nat_lt, Bool, true, false, List, [], ◌∷◌, length}
+use Rattle.std.proofs.Common.{Option, None, Ok, is_some, refl, sym, ap, subst, ◌∙◌}
 use Rattle.std.specs.Prelude.{reverse}
 use Rattle.executor_model.specs.declared.call.Call.{Call}
 use Rattle.executor_model.specs.declared.call.Call.TheVariants as call
@@ -12,6 +12,7 @@ use Rattle.executor_model.specs.declared.op.Waker.{Waker}
 use Rattle.executor_model.specs.declared.step.Hint.{Hint}
 use Rattle.executor_model.specs.declared.step.Step.{Step}
 use Rattle.executor_model.specs.declared.step.Step.TheVariants.{Answer, Begin, Go}
+use Rattle.executor_model.specs.declared.step.UserEnd.{UserEnd}
 use Rattle.executor_model.specs.declared.step.StepError.TheVariants.{NoSuch, Waits, WrongAnswer}
 use Rattle.executor_model.specs.Executions.{run_all}
 use Rattle.executor_model.specs.Steps.{Machine, after, begun, end_of, go_refusal, is_locked_out, is_on_executor, is_static_kind, mine}
@@ -26,20 +27,25 @@ use Rattle.executor_model.proofs.Steps.Reached.{Reached, deep-here, reached-more
 use Rattle.executor_model.proofs.Steps.Stepping.{refusal-there}
 use Rattle.executor_model.proofs.Table.LeakStays.{hushed-drop}
 use Rattle.executor_laws.proofs.Termination.LoneEnds.{OthersRest, still-rest}
-use Rattle.plain_scheduler.specs.State.{Plain}
+use Rattle.plain_scheduler.specs.State.{Code, Plain, Taker}
 use Rattle.plain_scheduler.specs.Calls.{new as new_plain}
 use Rattle.machine_roads.specs.View.{Output}
 use Rattle.machine_roads.specs.Road.{Follows}
 use Rattle.machine_roads.specs.Alone.{is_outside, is_resting}
 use Rattle.machine_roads.specs.Dropped.{answered, loses, rest_of}
 use Rattle.machine_roads.specs.InLoss.{loss_ops}
-use Rattle.machine_roads.specs.Within.{IsLeaving, going, listed, unlisted}
+use Rattle.machine_roads.specs.Losing.{left_of}
+use Rattle.machine_roads.specs.Untaken.{StandsUntaken, polls}
+use Rattle.machine_roads.specs.Within.{GoesOnBy, IsLeaving, StopsUntaken, going, listed, polls_untaken, unlisted, untaken}
 use Rattle.machine_roads.specs.Within.{Act, ActAlike, ActsBy, AreActs, ListsActAlike, Nested, StandsAlike, alike, calls_outside}
 use Rattle.machine_roads.specs.Within.{dropping, forgetting, goes_on, is_on_way, losing, may_begin_in, may_stand_in, nowhere, rests_after}
 use Rattle.machine_roads.specs.Within.{standing}
 use Rattle.machine_roads.proofs.ActBegins.{one_begins}
-use Rattle.machine_roads.proofs.ActEnds.{code_ends}
+use Rattle.machine_roads.proofs.ActCodes.{accepted}
+use Rattle.machine_roads.proofs.ActEnds.{code_ends, is_inner}
 use Rattle.machine_roads.proofs.ActLosses.{begins_in_going, begins_in_loss}
+use Rattle.machine_roads.proofs.ActsBeside.{awaited_so, begins_untaken, ends_untaken}
+use Rattle.machine_roads.proofs.BesideHere.{Asked, walks as asked_walks}
 use Rattle.machine_roads.proofs.Calling.{begin_alike}
 use Rattle.machine_roads.proofs.Counting.{StandsSo}
 use Rattle.machine_roads.proofs.Inmost.{rests_in}
@@ -49,6 +55,7 @@ use Rattle.machine_roads.proofs.LoneTicks.{may_begin}
 use Rattle.machine_roads.proofs.Open.{IsOpen, settled_open, step_open, still}
 use Rattle.machine_roads.proofs.Tying.{top_of}
 use Rattle.machine_roads.proofs.Walked.{answer_leads, begun_leads, no_go}
+use Rattle.machine_roads.proofs.WalkedWith.{answer_led, begun_led}
 
 -- the executor's drop hasn't begun, and it doesn't in an act
 
@@ -111,6 +118,7 @@ rests_alike e q (going r (f ∷ fs) below codes nested stops) = ap (λ os. is_re
 rests_alike e q (dropping taker final below f b it nested (answered next inside follows)) =
     ap (λ os. is_resting os) next ∙ rests_in below b.inside nested
 rests_alike e q (dropping taker final below f b it nested (loses awaiter next inside ending)) = ap (λ os. is_resting os) next
+rests_alike e q (untaken taker final below f awaiter g gs codes it nested stops) = ap (λ os. is_resting os) stops.left
 rests_alike e q (forgetting taker final below f b it nested stops) = ap (λ os. is_resting os) stops.left
 
 -- who rests does nothing of its own
@@ -125,16 +133,45 @@ no_go_resting s p there h (o ∷ os) is resting may =
     (not_true (waits o) (passed (not (waits o)) WrongAnswer (unless (not (is_locked_out s.world.lock o)) Waits None) goes))
     (both_true (waits o) (not (is_outside o)) resting).0
 
+neither : (a b : Bool) → not (a || b) ≡ true → (a ≡ false) × (b ≡ false)
+neither false false is = (refl, refl)
+neither false true is = absurd cc
+neither true b is = absurd cc
+
 going_off : (fs : List ℕ) (r : ℕ) (rest : Op) → IsLeaving r rest → (below : List Op) (c : Call)
     → may_begin_in (loss_ops fs (op.User (user_op.DropOwn r) ∷ rest ∷ below)) c ≡ true → is_on_executor c ≡ false
-going_off [] r rest unlisted below c on = not_true (is_on_executor c) on
-going_off [] r rest listed below c on = not_true (is_on_executor c) on
-going_off (f ∷ fs) r rest leaving below c on = not_true (is_on_executor c) on
+going_off [] r rest unlisted below c on = (neither (is_on_executor c) (polls_untaken below c) on).0
+going_off [] r rest listed below c on = (neither (is_on_executor c) (polls_untaken below c) on).0
+going_off (f ∷ fs) r rest leaving below c on =
+    (neither (is_on_executor c) (polls_untaken (loss_ops fs (op.User (user_op.DropOwn r) ∷ rest ∷ below)) c) on).0
 
-none_losing : (b : Bool) (f : ℕ) (final : Op) (below : List Op) (c : Call)
-    → may_begin_in (op.User (user_op.DropOutput f) ∷ (rest_of b f final ++ below)) c ≡ false
-none_losing true f final below c = refl
-none_losing false f final below c = refl
+-- in the drop of an output that nobody can take no call polls its task
+first_of : (a b : Bool) → (a || b) ≡ false → a ≡ false
+first_of false b is = refl
+first_of true b is = absurd cc
+
+under_losses : (gs : List ℕ) (base : List Op) (c : Call) → polls_untaken (loss_ops gs base) c ≡ polls_untaken base c
+under_losses [] base c = refl
+under_losses (g ∷ gs) base c = under_losses gs base c
+
+polls_base : (b : Bool) (f : ℕ) (final : Op) (below : List Op) (c : Call)
+    → polls_untaken (op.User (user_op.DropOutput f) ∷ (rest_of b f final ++ below)) c ≡ false → polls f c ≡ false
+polls_base true f final below c is = first_of (polls f c) (polls_untaken (final ∷ below) c) is
+polls_base false f final below c is = first_of (polls f c) (polls_untaken (final ∷ below) c) is
+
+untaken_off : (gs : List ℕ) (b : Bool) (f : ℕ) (final : Op) (below : List Op) (c : Call)
+    → may_begin_in (loss_ops gs (op.User (user_op.DropOutput f) ∷ (rest_of b f final ++ below))) c ≡ true
+    → (is_on_executor c ≡ false) × (polls f c ≡ false)
+untaken_off [] true f final below c on =
+    let os = op.User (user_op.DropOutput f) ∷ (rest_of true f final ++ below) in
+    let both = neither (is_on_executor c) (polls_untaken os c) on in (both.0, polls_base true f final below c both.1)
+untaken_off [] false f final below c on =
+    let os = op.User (user_op.DropOutput f) ∷ (rest_of false f final ++ below) in
+    let both = neither (is_on_executor c) (polls_untaken os c) on in (both.0, polls_base false f final below c both.1)
+untaken_off (g ∷ gs) b f final below c on =
+    let os = op.User (user_op.DropOutput f) ∷ (rest_of b f final ++ below) in
+    let both = neither (is_on_executor c) (polls_untaken (loss_ops gs os) c) on in
+    (both.0, polls_base b f final below c (sym (under_losses gs os c) ∙ both.1))
 
 module _ (s : Machine) (reached : Reached s) (p : ℕ) (q : Plain Output Waker) (stands : StandsSo (standing s p) q) (new : Machine)
     (later : new.world.gone ≡ false) (open_still : s.world.gone ≡ false) (others : OthersRest p s) (there : p < length s.parties) where
@@ -150,11 +187,23 @@ module _ (s : Machine) (reached : Reached s) (p : ℕ) (q : Plain Output Waker) 
           begun_leads p (λ e. (r : Plain Output Waker) × ActsBy s p (Begin p c) q r × StandsSo e r) new later c ts s reached there
           (one_begins s reached p q follows nested stands.counted c on (may_begin s p c (run-first (Begin p c) ts s new made).0)) rests made
 
+      inside_of : (taker : Taker Waker) (final : Op) (below : List Op) (f : ℕ) (awaiter : Option Waker)
+          (codes : List (Code Output Waker)) → GoesOnBy taker final → Nested below codes → (gs : List ℕ)
+          → StopsUntaken taker final below f awaiter gs codes (standing s p) q → Comes (Begin p c)
+      inside_of taker final below f awaiter codes it nested gs stops =
+          let off =
+          untaken_off gs (is_some awaiter) f final below c (sym (ap (λ os. may_begin_in os c) stops.left) ∙ even) in
+          begun_led (Asked f awaiter) (asked_walks f awaiter) p
+          (λ e. (r : Plain Output Waker) × ActsBy s p (Begin p c) q r × StandsSo e r) new later c ts s reached there
+          (begins_untaken taker final below f awaiter codes it nested s p q stands.counted gs stops reached there c off.0 off.1
+          (may_begin s p c (run-first (Begin p c) ts s new made).0))
+          rests made
+
       by : StandsAlike (standing s p) q → Comes (Begin p c)
       by (alike nested follows) = begins nested follows
       by (losing f fs below codes nested stops) =
           let off : is_on_executor c ≡ false =
-          not_true (is_on_executor c) (sym (ap (λ os. may_begin_in os c) stops.left) ∙ even) in
+          (neither (is_on_executor c) (polls_untaken (loss_ops fs below) c) (sym (ap (λ os. may_begin_in os c) stops.left) ∙ even)).0 in
           begun_leads p (λ e. (r : Plain Output Waker) × ActsBy s p (Begin p c) q r × StandsSo e r) new later c ts s reached there
           (begins_in_loss s reached p there q f fs below codes nested stops stands.counted c off
           (may_begin s p c (run-first (Begin p c) ts s new made).0))
@@ -169,10 +218,52 @@ module _ (s : Machine) (reached : Reached s) (p : ℕ) (q : Plain Output Waker) 
       by (dropping taker final below f b it nested (answered next inside follows)) =
           begins (subst (λ os. Nested os q.inside) (sym next) (subst (λ codes. Nested below codes) (sym inside) nested)) follows
       by (dropping taker final below f b it nested (loses awaiter next inside ending)) =
-          absurd
-          (clash (ap (λ os. may_begin_in os c) next ∙ none_losing (world.task s.world f).awaiter f final below c) even)
+          let stands : StandsUntaken s.world f awaiter [] q =
+          record {
+            known = ending.known;
+            over = ending.over;
+            still = ending.still;
+            counted = ending.counted;
+            stored = ending.stored;
+            awaited = ending.awaited;
+            follows = record { shut = tt; follows = ending.follows };
+          } in
+          inside_of taker final below f awaiter b.inside it nested []
+          (record {
+            left =
+                next
+                ∙ ap (λ b. op.User (user_op.DropOutput f) ∷ (rest_of b f final ++ below)) (awaited_so s.world f awaiter [] q stands);
+            inside = inside;
+            stands = stands;
+          })
+      by (untaken taker final below f awaiter g gs codes it nested stops) =
+          inside_of taker final below f awaiter codes it nested (g ∷ gs) stops
       by (forgetting taker final below f b it nested stops) =
           absurd (clash (ap (λ os. may_begin_in os c) stops.left) even)
+
+  -- user code ends
+  module _ (u : UserEnd) (ts : List Step) (rests : rests_after p ts (after s (Answer p u)) ≡ true)
+      (whole : run_all (Answer p u ∷ ts) s ≡ Ok new) where
+    plainly : (a : StandsAlike (standing s p) q) → is_inner a ≡ false → Comes (Answer p u)
+    plainly a plain =
+        let e = code_ends s reached p there open_still others q stands.counted a plain u (run-first (Answer p u) ts s new whole).0 in
+        answer_leads p (λ e. (r : Plain Output Waker) × ActsBy s p (Answer p u) q r × StandsSo e r) new later u e.first e.rest ts s
+        reached there e.is e.leads rests whole
+
+    answers : StandsAlike (standing s p) q → Comes (Answer p u)
+    answers (untaken taker final below f awaiter g gs codes it nested stops) =
+        let o = op.User (user_op.DropOutput g) in
+        let xs = left_of g ++ loss_ops gs (op.User (user_op.DropOutput f) ∷ (rest_of (is_some awaiter) f final ++ below)) in
+        answer_led (Asked f awaiter) (asked_walks f awaiter) p
+        (λ e. (r : Plain Output Waker) × ActsBy s p (Answer p u) q r × StandsSo e r) new later u o xs ts s reached there stops.left
+        (ends_untaken taker final below f awaiter codes it nested s p q stands.counted g gs stops u
+        (accepted s reached p there open_still others q stands.counted u o xs (run-first (Answer p u) ts s new whole).0 stops.left))
+        rests whole
+    answers (alike nested follows) = plainly (alike nested follows) refl
+    answers (losing f fs below codes nested stops) = plainly (losing f fs below codes nested stops) refl
+    answers (going r fs below codes nested stops) = plainly (going r fs below codes nested stops) refl
+    answers (dropping taker final below f b it nested drops) = plainly (dropping taker final below f b it nested drops) refl
+    answers (forgetting taker final below f b it nested stops) = plainly (forgetting taker final below f b it nested stops) refl
 
   one_act : (t : Step) (ts : List Step) → party_of t ≡ p → is_on_way (reverse (stack s p)) t ≡ true
       → rests_after p ts (after s t) ≡ true → run_all (t ∷ ts) s ≡ Ok new → Comes t
@@ -187,12 +278,8 @@ module _ (s : Machine) (reached : Reached s) (p : ℕ) (q : Plain Output Waker) 
       absurd (no_go_resting s p there h (reverse (stack s p)) refl (rests_alike (standing s p) q stands.alike) may)
   one_act (Answer r u) ts its on rests made =
       let whole = subst (λ n. run_all (Answer n u ∷ ts) s ≡ Ok new) its made in
-      let e =
-      code_ends s reached p there open_still others q stands.counted stands.alike u
-      (run-first (Answer p u) ts s new whole).0 in
       subst (λ n. Comes (Answer n u)) (sym its)
-      (answer_leads p (λ e. (r : Plain Output Waker) × ActsBy s p (Answer p u) q r × StandsSo e r) new later u e.first e.rest ts s
-      reached there e.is e.leads (subst (λ n. rests_after p ts (after s (Answer n u)) ≡ true) its rests) whole)
+      (answers u ts (subst (λ n. rests_after p ts (after s (Answer n u)) ≡ true) its rests) whole stands.alike)
 
 -- a party that takes over stands where the one before did, which does nothing
 pub taken_over : (s : Machine) (p r : ℕ) → OthersRest p s → OthersRest r s → (b : Bool) → (p == r) ≡ b → standing s p ≡ standing s r

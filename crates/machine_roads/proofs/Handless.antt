@@ -189,7 +189,7 @@ module _ (f : ℕ) where
       record { state = refl; owes = λ there. refl; shut = λ c. refl; fit = λ there. queued_told_fit s.awaiter there g }
 
   -- a waker that goes: of another task, or of the closed one
-  goes_by_one : (s : State) (last : Bool) → (last ≡ true → s.references ≡ 1)
+  pub goes_by_one : (s : State) (last : Bool) → (last ≡ true → s.references ≡ 1)
       → (moves.release_by last true s).state ≡ record s { references = s.references - 1 }
   goes_by_one s true one = ap (λ n. record s { references = n }) (less_one s.references (one refl))
     where
@@ -197,7 +197,7 @@ module _ (f : ℕ) where
       less_one n is = ap (λ n. n - 1) (sym is)
   goes_by_one s false one = refl
 
-  goes_quietly : (g : ℕ) (s : State) (last there : Bool) → owed_ops there g (moves.release_by last true s).owed ≡ []
+  pub goes_quietly : (g : ℕ) (s : State) (last there : Bool) → owed_ops there g (moves.release_by last true s).owed ≡ []
   goes_quietly g s true there = refl
   goes_quietly g s false there = refl
 
@@ -205,7 +205,7 @@ module _ (f : ℕ) where
   goes_shut s true is = is
   goes_shut s false is = is
 
-  last_one : (s : State) → moves.is_last s ≡ true → s.references ≡ 1
+  pub last_one : (s : State) → moves.is_last s ≡ true → s.references ≡ 1
   last_one s is = same_of s.references 1 (both_true (s.references == 1) (not s.handle) is).0
 
   releases_over : (g : ℕ) (s : State) → Hides g s (moves.release_by (moves.is_last (hide g s)) true (hide g s))
@@ -243,12 +243,12 @@ module _ (f : ℕ) where
         fit = λ there. refl;
       }
 
-  off_and : (b c : Bool) → c ≡ true → (b && not c) ≡ false
+  pub off_and : (b c : Bool) → c ≡ true → (b && not c) ≡ false
   off_and true true is = refl
   off_and false true is = refl
   off_and b false is = absurd cc
 
-  or_so : (a b : Bool) → b ≡ true → (a || b) ≡ true
+  pub or_so : (a b : Bool) → b ≡ true → (a || b) ≡ true
   or_so true b is = refl
   or_so false b is = is
 

@@ -37,7 +37,7 @@ use Rattle.machine_roads.proofs.Lists.{length_set, turned}
 use Rattle.machine_roads.proofs.Losing.{detaches_to_lose, goes_to_lose, loses_alike}
 
 -- who isn't among the first and the others
-parts : (g f : ℕ) (fs : List ℕ) → not (among g (f ∷ fs)) ≡ true → ((g == f) ≡ false) × (not (among g fs) ≡ true)
+pub parts : (g f : ℕ) (fs : List ℕ) → not (among g (f ∷ fs)) ≡ true → ((g == f) ≡ false) × (not (among g fs) ≡ true)
 parts g f fs is = by (g == f) refl is
   where
     by : (b : Bool) → (g == f) ≡ b → not (elim b [ true ↦ true | false ↦ among g fs ]) ≡ true

@@ -1,5 +1,10 @@
+pub mod ActsBeside
+pub mod AlongBeside
+pub mod BesideHere
 pub mod Lists
 pub mod Moving
+pub mod Owing
+pub mod OwingActs
 pub mod Running
 pub mod Stepping
 pub mod Puts
@@ -8,6 +13,7 @@ pub mod Changing
 pub mod Lying
 pub mod Numbers
 pub mod Telling
+pub mod Untaken
 pub mod Used
 pub mod Past
 pub mod Slowly
@@ -45,6 +51,7 @@ pub mod Bedding
 pub mod LyingDown
 pub mod RunIdle
 pub mod Tying
+pub mod WalkedWith
 pub mod WhoLeaves
 pub mod Living
 pub mod Having

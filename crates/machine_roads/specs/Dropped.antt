@@ -30,15 +30,19 @@ abbrev pub without_run : ℕ → World → World
 without_run f w =
     put_awaiter (put w f (record (task w f) { references = (task w f).references - 1; awaiter = false })) f None
 
--- the future of a task is dropped, whose run hasn't ended, and both stand alike but for this
-pub record IsEnding (w : World) (f : ℕ) (awaiter : Option Waker) (q : Plain Output Waker) : Type 0 where
+-- the future of a task is dropped, whose run hasn't ended, and but for this both stand so
+pub record IsEndingBy (So : World → Type 0) (w : World) (f : ℕ) (awaiter : Option Waker) : Type 0 where
   pub known : f < length w.tasks
   pub over : moves.is_over (task w f) ≡ true
   pub still : moves.is_going (task w f) ≡ false
   pub counted : 1 ≤ (task w f).references
   pub stored : IsStored (task w f) (awaiter_of w f)
   pub awaited : waker_in (awaiter_of w f) ≡ awaiter
-  pub follows : Follows (without_run f w) q
+  pub follows : So (without_run f w)
+
+-- both stand alike but for this
+abbrev pub IsEnding : World → ℕ → Option Waker → Plain Output Waker → Type 0
+IsEnding w f awaiter q = IsEndingBy (λ v. Follows v q) w f awaiter
 
 -- who awaits the task is called, and the run's reference is given up
 abbrev pub rest_of : Bool → ℕ → Op → List Op

@@ -1,3 +1,4 @@
+pub mod Untaken
 pub mod View
 pub mod Moving
 pub mod Seeing

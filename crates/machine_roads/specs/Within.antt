@@ -1,7 +1,7 @@
 -- Calls one inside another. A party begins a call, also where it stands in user code, or user code of its ends; then it goes on until
 -- nothing is left to do or it stands in user code once more. Each of these is a call of the plain scheduler, or the end of the code that
 -- is innermost there.
-use Rattle.std.specs.Prelude.{◌≡◌, ℕ, ◌<◌, ◌==◌, Bool, true, false, ◌&&◌, ◌||◌, not, List, [], ◌∷◌, length, reverse, Option, Some, None, Ok}
+use Rattle.std.specs.Prelude.{◌≡◌, ℕ, ◌<◌, ◌==◌, Bool, true, false, ◌&&◌, ◌||◌, not, List, [], ◌∷◌, ◌++◌, length, reverse, Option, Some, None, Ok, is_some}
 use Rattle.task_moves.specs.declared.moves.owed.Move.TheVariants as move
 use Rattle.executor_parts.specs.declared.mark.Mark.{Mark}
 use Rattle.executor_model.specs.declared.call.By.{By}
@@ -28,7 +28,7 @@ use Rattle.executor_model.specs.Executions.{run_all}
 use Rattle.executor_model.specs.Steps.{Machine, after, future_of, is_on_executor, is_static_kind, kept, mine, party_of, stack, start, top}
 use Rattle.executor_model.specs.Steps.{waker_of}
 use Rattle.executor_model.specs.World.{Done, World, done}
-use Rattle.plain_scheduler.specs.State.{Choice, Code, Done as IsDone, DropOwn, Plain, PollOwn, Ready as IsReady, Run, Taker, Tick, Try}
+use Rattle.plain_scheduler.specs.State.{Choice, Code, Done as IsDone, DropOwn, Lose, Plain, PollOwn, Ready as IsReady, Run, Taker, Tick, Try}
 use Rattle.plain_scheduler.specs.Moves as moves
 use Rattle.plain_scheduler.specs.Calls as plain
 use Rattle.plain_scheduler.specs.Calls.{does, new}
@@ -36,12 +36,13 @@ use Rattle.machine_roads.specs.View.{Output, wakes}
 use Rattle.machine_roads.specs.Road.{Follows}
 use Rattle.machine_roads.specs.Alone.{is_outside, is_resting}
 use Rattle.machine_roads.specs.Course.{IsChosen}
-use Rattle.machine_roads.specs.Dropped.{Drops}
+use Rattle.machine_roads.specs.Dropped.{Drops, rest_of}
 use Rattle.machine_roads.specs.Forgotten.{StopsForgetting}
 use Rattle.machine_roads.specs.InLoss.{AreLosing, StopsInLoss, loss_codes, loss_ops}
 use Rattle.machine_roads.specs.Refused.{IsLaterAnew}
 use Rattle.machine_roads.specs.Searching.{goes_on_by}
 use Rattle.machine_roads.specs.Stopped.{Stopped}
+use Rattle.machine_roads.specs.Untaken.{StandsUntaken, polls}
 
 -- a call that begins or user code that ends, the steps behind that, and the machine that they leave
 pub record Act : Type 0 where
@@ -90,16 +91,24 @@ abbrev pub may_stand_in : Call → Bool
 may_stand_in call.DropExecutor = false
 may_stand_in _ = true
 
--- in the drop of an output that goes with its handle, and in that of the own future of a run that goes
+-- in the drop of an output, and in that of the own future of a run that goes
 abbrev pub lets_begin : List Op → Bool
 lets_begin (op.User (user_op.DropOutput f) ∷ op.Move move.Detach g ∷ os) = true
+lets_begin (op.User (user_op.DropOutput f) ∷ op.Move move.GiveUp g ∷ os) = true
+lets_begin (op.User (user_op.DropOutput f) ∷ op.Handle (handle_op.Notify g mine) ∷ os) = true
 lets_begin (op.User (user_op.DropOwn r) ∷ op.Run o ∷ os) = true
 lets_begin (op.User (user_op.DropOwn r) ∷ op.List (list_op.LockWrite (section.Unregister k reply.Done)) ∷ os) = true
 lets_begin _ = false
 
--- there calls of wakers and handles begin; where else one owes something no call does
+-- a poll of a task whose run's reference has still to be given up: its output, which nobody can take, is being dropped
+abbrev pub polls_untaken : List Op → Call → Bool
+polls_untaken [] c = false
+polls_untaken (op.Move move.GiveUp f ∷ os) c = polls f c || polls_untaken os c
+polls_untaken (o ∷ os) c = polls_untaken os c
+
+-- there calls of wakers and handles begin, but such polls; where else one owes something no call does
 abbrev pub may_begin_in : List Op → Call → Bool
-may_begin_in os c = not (owes os) || (lets_begin os && not (is_on_executor c))
+may_begin_in os c = not (owes os) || (lets_begin os && not (is_on_executor c || polls_untaken os c))
 
 abbrev pub is_on_way : List Op → Step → Bool
 is_on_way os (Begin p c) = may_stand_in c && may_begin_in os c
@@ -189,6 +198,13 @@ pub record StopsGoing (r : ℕ) (fs : List ℕ) (below : List Op) (codes : List 
   pub inside : q.inside ≡ loss_codes fs (DropOwn r IsDone ∷ codes)
   pub losing : AreLosing e.world fs (moves.runs (λ run. record run { is_over = true }) r q)
 
+-- an output that nobody can take is being dropped, and in that others, which go with their handles, one inside another
+pub record StopsUntaken (taker : Taker Waker) (final : Op) (below : List Op) (f : ℕ) (awaiter : Option Waker) (gs : List ℕ)
+    (codes : List (Code Output Waker)) (e : Done) (q : Plain Output Waker) : Type 0 where
+  pub left : e.next ≡ loss_ops gs (op.User (user_op.DropOutput f) ∷ (rest_of (is_some awaiter) f final ++ below))
+  pub inside : q.inside ≡ loss_codes gs (Lose awaiter (Some taker) ∷ codes)
+  pub stands : StandsUntaken e.world f awaiter gs q
+
 -- both stand alike, or, in such a drop, alike but for what the call still owes
 pub data StandsAlike (e : Done) (q : Plain Output Waker) : Type 0 where
   alike : Nested e.next q.inside → Follows e.world q → StandsAlike e q
@@ -198,6 +214,9 @@ pub data StandsAlike (e : Done) (q : Plain Output Waker) : Type 0 where
       → StopsGoing r fs below codes e q → StandsAlike e q
   dropping : (taker : Taker Waker) (final : Op) (below : List Op) (f : ℕ) (b : Plain Output Waker)
       → GoesOnBy taker final → Nested below b.inside → Drops taker final below f b e q → StandsAlike e q
+  untaken : (taker : Taker Waker) (final : Op) (below : List Op) (f : ℕ) (awaiter : Option Waker) (g : ℕ) (gs : List ℕ)
+      (codes : List (Code Output Waker)) → GoesOnBy taker final → Nested below codes
+      → StopsUntaken taker final below f awaiter (g ∷ gs) codes e q → StandsAlike e q
   forgetting : (taker : Taker Waker) (final : Op) (below : List Op) (f : ℕ) (b : Plain Output Waker)
       → GoesOnBy taker final → Nested below b.inside → StopsForgetting taker final below f b e q
       → StandsAlike e q

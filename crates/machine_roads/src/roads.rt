@@ -21,6 +21,7 @@ ghost use Rattle.machine_roads.specs.Road.{Follows};
 ghost use Rattle.machine_roads.specs.Searching.{RunLiesAlike, RunTakesAlike};
 ghost use Rattle.machine_roads.specs.Ticking.{TickGoesAlike, TickIsMadeAlike, TickIsPolledAlike};
 ghost use Rattle.machine_roads.specs.Stopped.{GivesAlikeInTake, PendsAlikeInTake, TriesAlike};
+ghost use Rattle.machine_roads.specs.Untaken.{CallsBeside, InAnyUntaken, LosesBeside, LossEndsBeside};
 
 /// A new machine stands where the new plain scheduler does.
 pub fn both_begin_alike()
@@ -204,4 +205,14 @@ pub fn calls_in_an_outputs_drop_are_calls()
     ensures calls { InAnyLoss CallsInLoss }
     ensures comes { InAnyLoss LosesInLoss }
     ensures ends { InAnyLoss LossEndsInLoss }
+{}
+
+/// In the drop of an output that nobody can take, too, where the machine's task still has its run's
+/// reference and who awaits it, and in drops of outputs inside of that: calls of wakers and of handles,
+/// but polls of that task's, leave both alike but for these. What the calls speak of is there without
+/// the run's reference, too.
+pub fn calls_beside_a_lost_output_are_calls()
+    ensures calls { InAnyUntaken CallsBeside }
+    ensures comes { InAnyUntaken LosesBeside }
+    ensures ends { InAnyUntaken LossEndsBeside }
 {}

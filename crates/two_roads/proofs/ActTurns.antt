@@ -1,5 +1,5 @@
 -- How many turns the machine takes in an act in which no run goes on.
-use Rattle.std.proofs.Common.{◌≡◌, ◌<◌, ◌++◌, ℕ, List, [], ◌∷◌, Bool, true, false, nat_lt, length, refl, sym, ap, ◌∙◌, subst, arith}
+use Rattle.std.proofs.Common.{◌≡◌, ◌<◌, ◌++◌, ℕ, List, [], ◌∷◌, Bool, true, false, nat_lt, length, is_some, refl, sym, ap, ◌∙◌, subst, arith}
 use Rattle.std.specs.Prelude.{Option, Some, None, Ok, reverse}
 use Rattle.executor_model.specs.declared.call.Call.{Call}
 use Rattle.executor_model.specs.declared.call.Call.TheVariants as call
@@ -57,6 +57,7 @@ use Rattle.machine_roads.specs.View.{Output}
 use Rattle.machine_roads.specs.Within as within
 use Rattle.machine_roads.specs.Within.{Act, GoesOnBy, IsAct, IsCallIn, IsLeaving, IsMade, Nested, StandsAlike, rests_after, standing}
 use Rattle.machine_roads.specs.Within.{alike, by_run, by_tick, by_try, dropping, drops_own, forgetting, going, listed, losing, nowhere}
+use Rattle.machine_roads.specs.Within.{untaken}
 use Rattle.machine_roads.specs.Within.{polls_own, takes, unlisted}
 use Rattle.machine_roads.proofs.DropPlaces.{loss_rests}
 use Rattle.machine_roads.proofs.Inmost.{rests_in}
@@ -87,6 +88,7 @@ rests_alike e q (going r fs below codes nested stops) =
 rests_alike e q (dropping taker final below f b it nested (drop_answered next inside follows)) =
     ap (λ os. is_resting os) next ∙ rests_in below b.inside nested
 rests_alike e q (dropping taker final below f b it nested (loses awaiter next inside ending)) = ap (λ os. is_resting os) next
+rests_alike e q (untaken taker final below f awaiter g gs codes it nested stops) = ap (λ os. is_resting os) stops.left
 rests_alike e q (forgetting taker final below f b it nested stops) = ap (λ os. is_resting os) stops.left
 
 owes_going : (r : ℕ) (rest : Op) → IsLeaving r rest → (below : List Op) → owes (op.User (user_op.DropOwn r) ∷ rest ∷ below) ≡ true
@@ -108,6 +110,8 @@ follows_here e q (going r (f ∷ fs) below codes nested stops) even = absurd (cl
 follows_here e q (dropping taker final below f b it nested (drop_answered next inside follows)) even = follows
 follows_here e q (dropping taker final below f b it nested (loses awaiter next inside ending)) even =
     absurd (clash even (ap (λ os. owes os) next))
+follows_here e q (untaken taker final below f awaiter g gs codes it nested stops) even =
+    absurd (clash even (ap (λ os. owes os) stops.left))
 follows_here e q (forgetting taker final below f b it nested stops) even = absurd (clash even (ap (λ os. owes os) stops.left))
 
 -- numbers in use are distinct
@@ -216,6 +220,10 @@ alike_rests e q (dropping taker final below f b it nested (loses awaiter next in
     subst (λ os. Rests q.inside os) (sym next)
     (subst (λ codes. Rests codes (op.User (user_op.DropOutput f) ∷ (rest_of (task e.world f).awaiter f final ++ below))) (sym inside)
     (behind_loss taker final below it (due_in below b.inside nested) f (task e.world f).awaiter awaiter b.inside))
+alike_rests e q (untaken taker final below f awaiter g gs codes it nested stops) =
+    let os = op.User (user_op.DropOutput f) ∷ (rest_of (is_some awaiter) f final ++ below) in
+    subst (λ os. Rests q.inside os) (sym stops.left)
+    (behind_lost g (loss_ops gs os) (due_resting (loss_ops gs os) (loss_rests gs os refl)) q.inside)
 alike_rests e q (forgetting taker final below f b it nested stops) =
     subst (λ os. Rests q.inside os) (sym stops.left)
     (subst

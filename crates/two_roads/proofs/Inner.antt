@@ -15,10 +15,10 @@ use Rattle.plain_scheduler.specs.State.{Choice, Event, Plain, Running, Taker, Wh
 use Rattle.plain_scheduler.specs.Lists.{on}
 use Rattle.plain_scheduler.specs.Moves.{runs, task}
 use Rattle.plain_scheduler.specs.Calls.{Call, course, new}
-use Rattle.machine_roads.specs.Dropped.{Drops, answered, loses}
+use Rattle.machine_roads.specs.Dropped.{Drops, answered, loses, without_run}
 use Rattle.machine_roads.specs.Seeing.{heard_in, shown as shown_alike}
 use Rattle.machine_roads.specs.View.{Output, wakes as wakes_in}
-use Rattle.machine_roads.specs.Within.{Act, ActAlike, StandsAlike, alike, dropping, forgetting, going, losing, standing}
+use Rattle.machine_roads.specs.Within.{Act, ActAlike, StandsAlike, alike, dropping, forgetting, going, losing, standing, untaken}
 use Rattle.machine_roads.proofs.InLoss.{trace_through}
 use Rattle.machine_roads.proofs.Puts.{put_by}
 use Rattle.solo_laws.specs.Courses.{Leads}
@@ -57,6 +57,8 @@ seen_in e q (going r fs below codes nested stops) =
     ∙ stops.losing.follows.seen
     ∙ ap (λ es. map shown_alike es) (runs_seen (λ run. record run { is_over = true }) r q)
 seen_in e q (dropping taker final below f b it nested drops) = drops_seen taker final below f b e q drops
+seen_in e q (untaken taker final below f awaiter g gs codes it nested stops) =
+    ap (λ t. heard_in t) (sym (trace_through (g ∷ gs) (without_run f e.world))) ∙ stops.stands.follows.follows.seen
 seen_in e q (forgetting taker final below f b it nested stops) =
     stops.forgotten.follows.seen
     ∙ put_by (λ p. map shown_alike p.events) f (record (task f q) { awaiter = None }) q (λ fs. refl)

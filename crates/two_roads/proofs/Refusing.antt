@@ -24,7 +24,7 @@ use Rattle.machine_roads.specs.InLoss.{without_handles}
 use Rattle.machine_roads.specs.Refused.{IsLaterAnew, OneMoreLies}
 use Rattle.machine_roads.specs.Road.{Follows, sleeper, uncalled}
 use Rattle.machine_roads.specs.View.{Output, wakes as wakes_in}
-use Rattle.machine_roads.specs.Within.{StandsAlike, alike, dropping, forgetting, going, losing}
+use Rattle.machine_roads.specs.Within.{StandsAlike, alike, dropping, forgetting, going, losing, untaken}
 use Rattle.machine_roads.proofs.InLoss.{sleepers_through}
 use Rattle.machine_roads.proofs.Puts.{put_by}
 use Rattle.two_roads.specs.Acting.{goes_on_in, is_runs, takes_for_run}
@@ -309,6 +309,8 @@ lie_in e q (going r fs below codes nested stops) =
     ∙ ap (λ ls. length (uncalled ls)) (runs_lie (λ run. record run { is_over = true }) r q)
 lie_in e q (dropping taker final below f b it nested (answered next inside follows)) = lie_of e.world q follows
 lie_in e q (dropping taker final below f b it nested (loses awaiter next inside ending)) = lie_of (without_run f e.world) q ending.follows
+lie_in e q (untaken taker final below f awaiter g gs codes it nested stops) =
+    lie_without (g ∷ gs) (without_run f e.world) q stops.stands.follows.follows
 lie_in e q (forgetting taker final below f b it nested stops) =
     lie_of (without_awaiter f e.world) (unawaited f q) stops.forgotten.follows
     ∙ put_by (λ p. length (uncalled p.lying)) f (record (task f q) { awaiter = None }) q (λ fs. refl)

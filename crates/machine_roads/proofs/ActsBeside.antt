@@ -117,7 +117,8 @@ module _ (s : Machine) (p : ℕ) (q : Plain Output Waker) (f : ℕ) (awaiter : O
 
     comes : (b : Bool) → loses n.made q ≡ b → Comes c e
     comes false stays =
-        let so = calls_beside p f awaiter gs os s.world q (choice Granted) hints c n.made (all_rest gs) stands it stays many has_all rests in
+        let so = calls_beside p f awaiter gs os s.world q (choice Granted) hints c n.made (all_rest gs) stands it stays many has_all rests
+        in
         let z : Plain Output Waker = does wakes (choice so.0) n.made q in (
           z,
           acts so.0,

@@ -151,7 +151,8 @@ module _ (f : ℕ) (awaiter : Option Waker) where
   -- by whether it is this one
   move_does : (m : Move) (p : ℕ) (v : World) (g : ℕ) → stands_alone m ≡ true → Here v
       → ((s : State) (there : Bool) → (f == g) ≡ false → Fit (owed_ops there g (moves.after m s).owed))
-      → (f ≡ g → IsAside f awaiter m f (world.task v f) (hide (world.task v f))) → So (move_task m p (without_run f v) g) (move_task m p v g)
+      → (f ≡ g → IsAside f awaiter m f (world.task v f) (hide (world.task v f))) → So (move_task m p (without_run f v) g)
+      (move_task m p v g)
   move_does m p v g alone kept fit own = by (f == g) refl
     where
       by : (b : Bool) → (f == g) ≡ b → So (move_task m p (without_run f v) g) (move_task m p v g)
@@ -308,7 +309,8 @@ module _ (f : ℕ) (awaiter : Option Waker) where
     awaits_by h g t apart so true = stays w kept (op.End reply.NoMemory (hold.Handle h) ∷ []) refl
     awaits_by h g t apart so false =
         let os : List Op = op.Handle (handle_op.Register h (Task g) (length w.trace)) ∷ [] in
-        subst (λ x. So (done (polled p (put (without_run f w) g (raised x)) h) os) (done (polled p (put w g (raised (world.task w g))) h) os))
+        subst (λ x. So (done (polled p (put (without_run f w) g (raised x)) h) os)
+        (done (polled p (put w g (raised (world.task w g))) h) os))
         (sym so.is)
         (record { same = ap (λ v. done (polled p v h) os) so.same; kept = so.kept; fit = apart_fits h apart })
 
@@ -323,7 +325,8 @@ module _ (f : ℕ) (awaiter : Option Waker) where
         let b = is_refused h (world.task w k) in
         let so = raises w k kept in (
           alike h b,
-          subst (λ c. So (copy_awaiter_by c p (without_run f w) g (Task k)) (copy_awaiter_by b p w g (Task k))) (sym (refused_so h w k so.0 so.1))
+          subst (λ c. So (copy_awaiter_by c p (without_run f w) g (Task k)) (copy_awaiter_by b p w g (Task k)))
+              (sym (refused_so h w k so.0 so.1))
               (awaits_by g k so.0 apart so.1 b),
         )
     awaiters_do h g (Outside x) apart = (h, outside_by g x apart h.refused)

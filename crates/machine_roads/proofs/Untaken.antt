@@ -28,7 +28,8 @@ use Rattle.machine_roads.specs.Course.{IsCall, cancel, copy, detach, drop_handle
 use Rattle.machine_roads.specs.Dropped.{IsEndingBy, without_run}
 use Rattle.machine_roads.specs.InLoss.{AreLosing, IsCallInLoss}
 use Rattle.machine_roads.specs.Losing.{left_of}
-use Rattle.machine_roads.specs.Untaken.{CallsBeside, HasBeside, InAnyUntaken, IsCallBeside, LosesBeside, LossEndsBeside, StandsUntaken, polls}
+use Rattle.machine_roads.specs.Untaken.{CallsBeside, HasBeside, InAnyUntaken, IsCallBeside, LosesBeside, LossEndsBeside, StandsUntaken}
+use Rattle.machine_roads.specs.Untaken.{polls}
 use Rattle.machine_roads.proofs.Along.{goes_append, resting_goes}
 use Rattle.machine_roads.proofs.AlongBeside.{AlongBeside, along_beside, goes}
 use Rattle.machine_roads.proofs.InLoss.{calls_in_loss, loses_in_loss, loss_ends_in_loss}
@@ -136,7 +137,8 @@ module _ (f : ℕ) (awaiter : Option Waker) where
       begun : Does f awaiter (begins p None c v) (begins p None c w)
       begun = begins_does p c w is.is.off is.unpolled (owing w gs q stands)
 
-      run : AlongBeside (without_run f) fits Here p hints (done (without_run f (begins p None c w).world) ((begins p None c w).next ++ below))
+      run : AlongBeside (without_run f) fits Here p hints (done (without_run f (begins p None c w).world)
+          ((begins p None c w).next ++ below))
           (upon below (begins p None c w))
       run =
           along p hints (begins p None c w).world ((begins p None c w).next ++ below) begun.kept

@@ -1,7 +1,8 @@
 -- Calls one inside another. A party begins a call, also where it stands in user code, or user code of its ends; then it goes on until
 -- nothing is left to do or it stands in user code once more. Each of these is a call of the plain scheduler, or the end of the code that
 -- is innermost there.
-use Rattle.std.specs.Prelude.{◌≡◌, ℕ, ◌<◌, ◌==◌, Bool, true, false, ◌&&◌, ◌||◌, not, List, [], ◌∷◌, ◌++◌, length, reverse, Option, Some, None, Ok, is_some}
+use Rattle.std.specs.Prelude.{◌≡◌, ℕ, ◌<◌, ◌==◌, Bool, true, false, ◌&&◌, ◌||◌, not, List, [], ◌∷◌, ◌++◌, length, reverse, Option, Some}
+use Rattle.std.specs.Prelude.{None, Ok, is_some}
 use Rattle.task_moves.specs.declared.moves.owed.Move.TheVariants as move
 use Rattle.executor_parts.specs.declared.mark.Mark.{Mark}
 use Rattle.executor_model.specs.declared.call.By.{By}
@@ -28,7 +29,8 @@ use Rattle.executor_model.specs.Executions.{run_all}
 use Rattle.executor_model.specs.Steps.{Machine, after, future_of, is_on_executor, is_static_kind, kept, mine, party_of, stack, start, top}
 use Rattle.executor_model.specs.Steps.{waker_of}
 use Rattle.executor_model.specs.World.{Done, World, done}
-use Rattle.plain_scheduler.specs.State.{Choice, Code, Done as IsDone, DropOwn, Lose, Plain, PollOwn, Ready as IsReady, Run, Taker, Tick, Try}
+use Rattle.plain_scheduler.specs.State.{Choice, Code, Done as IsDone, DropOwn, Lose, Plain, PollOwn, Ready as IsReady, Run, Taker, Tick}
+use Rattle.plain_scheduler.specs.State.{Try}
 use Rattle.plain_scheduler.specs.Moves as moves
 use Rattle.plain_scheduler.specs.Calls as plain
 use Rattle.plain_scheduler.specs.Calls.{does, new}

@@ -1,16 +1,18 @@
 -- What calls of wakers and of other handles do on the plain scheduler is the same whether somebody awaits a closed task whose future is
 -- dropped or not.
-use Rattle.std.proofs.Common.{◌≡◌, ℕ, ◌-◌, ◌==◌, cond, Bool, true, false, List, [], ◌∷◌, ◌++◌, length, Option, Some, None}
+use Rattle.std.proofs.Common.{◌≡◌, ℕ, ◌-◌, ◌==◌, ◌&&◌, ◌||◌, not, cond, Bool, true, false, List, [], ◌∷◌, ◌++◌, length, Option, Some, None}
 use Rattle.std.proofs.Common.{is_some, slice_get, slice_set, if◌then◌else◌, refl, sym, ap, subst, ◌∙◌, min}
 use Rattle.executor_parts.specs.declared.mark.Mark.TheVariants.{Plain as PlainMark}
 use Rattle.task_moves.specs.AbstractTask as abstract
 use Rattle.task_moves.specs.AbstractTask.{AbstractTask, Finished}
 use Rattle.task_moves.specs.LocalTask.{info_from, info_of, told}
 use Rattle.executor_model.specs.declared.op.Waker.{Waker}
-use Rattle.plain_scheduler.specs.State.{Calls, Choice, Future, Lying, Plain}
+use Rattle.plain_scheduler.specs.State.{Calls, Choice, Done as DoneAnswer, Future, Lose, Loses, Lying, Plain}
 use Rattle.plain_scheduler.specs.Lists.{any, on, or}
-use Rattle.plain_scheduler.specs.Moves.{appended, becomes, called, is_called, let_go, mark, no_task, put, release, see, task}
+use Rattle.plain_scheduler.specs.Moves.{answers, appended, becomes, called, enters, is_called, mark, no_task, put, release, see, task}
 use Rattle.plain_scheduler.specs.Moves.{tell, told_at, used, wake}
+use Rattle.plain_scheduler.specs.Takes as plain_takes
+use Rattle.plain_scheduler.specs.Calls as plain
 use Rattle.machine_roads.specs.View.{Output, wakes}
 use Rattle.machine_roads.specs.Forgotten.{unawaited}
 use Rattle.machine_roads.proofs.Puts.{mark_is, put_at, put_is, task_is, with_task}
@@ -206,3 +208,124 @@ module _ (f : ℕ) (awaiter : Option Waker) where
               let m = put_other p q b g new apart in
               keeps (appended g (put g new p)) (appended g (put g new q)) (append_so (put g new p) (put g new q) m g)
           whether false = put_other p q b g new apart
+
+  becomes_apart : (h : AbstractTask Output Waker → AbstractTask Output Waker) (more : Plain Output Waker → Plain Output Waker)
+      → Keeps more → (g : ℕ) → (f == g) ≡ false → Keeps (λ z. becomes wakes more g (h (task g z)) z)
+  becomes_apart h more keeps g apart p q b =
+      subst (λ t. Bare (if is_some (info_of t (h t)) then more (appended g (put g (h t) p)) else put g (h t) p)
+      (becomes wakes more g (h (task g q)) q)) (sym (task_other p q b g apart)) (whether (is_some (info_of (task g q) (h (task g q)))))
+    where
+      new : AbstractTask Output Waker
+      new = h (task g q)
+
+      whether : (e : Bool) → Bare (if e then more (appended g (put g new p)) else put g new p)
+          (if e then more (appended g (put g new q)) else put g new q)
+      whether true =
+          let m = put_other p q b g new apart in
+          keeps (appended g (put g new p)) (appended g (put g new q)) (append_so (put g new p) (put g new q) m g)
+      whether false = put_other p q b g new apart
+
+  -- wakes and wakers that go
+  wake_is : (t : AbstractTask Output Waker) → t.closed ≡ true → abstract.wake t ≡ t
+  wake_is t closed = ap (λ b. if b then t else abstract.wake_open t.phase t) closed
+
+  release_is : (t : AbstractTask Output Waker) → t.phase ≡ Finished → abstract.release t ≡ record t { wakers = t.wakers - 1 }
+  release_is t phase =
+      let u : AbstractTask Output Waker = record t { wakers = t.wakers - 1 } in
+      ap (λ ph. if abstract.is_idle ph && (not t.closed && (not t.handle && (t.wakers - 1 == 0))) then abstract.close u else u) phase
+
+  wake_counts : Counts (λ t. abstract.wake t)
+  wake_counts = record { many = λ n. n; so = λ t phase closed. wake_is t closed }
+
+  release_counts : Counts (λ t. abstract.release t)
+  release_counts = record { many = λ n. n - 1; so = λ t phase closed. release_is t phase }
+
+  use_counts : Counts (λ t. abstract.release (abstract.wake t))
+  use_counts =
+      record { many = λ n. n - 1; so = λ t phase closed. ap (λ t. abstract.release t) (wake_is t closed) ∙ release_is t phase }
+
+  cancel_counts : Counts (λ t. (abstract.cancel t).task)
+  cancel_counts = record {
+    many = λ n. n;
+    so = λ t phase closed.
+        ap (λ b. (if b || abstract.is_over t.phase then abstract.left t
+        else record {
+          task = record (abstract.close t) { awaiter = None };
+          called = t.awaiter;
+          dropped = None;
+          let_go = None;
+        }).task) closed;
+  }
+
+  called_keeps : (more : Plain Output Waker → Plain Output Waker) → Keeps more → (a : Waker) → Keeps (called wakes more a)
+  called_keeps more keeps a p q b = by (wakes a)
+    where
+      by : (o : Option ℕ) → Bare (or o (λ g. used wakes more g p) (see (Calls a) p)) (or o (λ g. used wakes more g q) (see (Calls a) q))
+      by None = aside p q b (see (Calls a)) refl refl
+      by (Some g) = becomes_so (λ t. abstract.release (abstract.wake t)) use_counts more keeps g p q b
+
+  tell_keeps : (c : Choice) → Keeps (tell wakes c)
+  tell_keeps c p q b = subst (λ z. Bare (tell wakes c z) (tell wakes c q)) (sym b.is) (by (any is_called q.lying))
+    where
+      y : Future Output Waker
+      y = b.future
+
+      with_lying : (ls : List (Lying Waker)) → Bare (record (bare y q) { lying = ls }) (record q { lying = ls })
+      with_lying ls = record { future = y; at = b.at; phase = b.phase; closed = b.closed; awaited = b.awaited; is = refl }
+
+      waker : (ls : List (Lying Waker)) (o : Option Waker)
+          → Bare (on o (called wakes (λ s. s)) (record (bare y q) { lying = ls })) (on o (called wakes (λ s. s)) (record q { lying = ls }))
+      waker ls None = with_lying ls
+      waker ls (Some a) =
+          called_keeps (λ s. s) (λ p q b. b) a (record (bare y q) { lying = ls }) (record q { lying = ls }) (with_lying ls)
+
+      one : (i : ℕ) (o : Option (Lying Waker))
+          → Bare
+          (on o (λ l p. on l.waker (called wakes (λ s. s)) (record p { lying = slice_set p.lying i (called_one l) })) (bare y q))
+          (on o (λ l p. on l.waker (called wakes (λ s. s)) (record p { lying = slice_set p.lying i (called_one l) })) q)
+      one i None = with_lying q.lying
+      one i (Some l) = waker (slice_set q.lying i (called_one l)) l.waker
+
+      by : (e : Bool)
+          → Bare (cond e (bare y q) (told_at wakes (min c.tells (length q.lying - 1)) (bare y q)))
+          (cond e q (told_at wakes (min c.tells (length q.lying - 1)) q))
+      by true = with_lying q.lying
+      by false = one (min c.tells (length q.lying - 1)) (slice_get q.lying (min c.tells (length q.lying - 1)))
+
+  -- handles that go, of other tasks
+  module _ (c : Choice) (g : ℕ) (apart : (f == g) ≡ false) where
+    calls_keep : (o : Option Waker) → Keeps (λ z. on o (called wakes (tell wakes c)) z)
+    calls_keep None p q b = b
+    calls_keep (Some a) p q b = called_keeps (tell wakes c) (tell_keeps c) a p q b
+
+    pub cancel_keeps : Keeps (plain.cancel wakes c g)
+    cancel_keeps p q b =
+        subst (λ t. Bare (on (abstract.cancel t).called (called wakes (tell wakes c)) (becomes wakes (tell wakes c) g (abstract.cancel (task g p)).task p))
+        (plain.cancel wakes c g q)) (sym (task_other p q b g apart))
+        (calls_keep (abstract.cancel (task g q)).called (becomes wakes (tell wakes c) g (abstract.cancel (task g p)).task p)
+        (becomes wakes (tell wakes c) g (abstract.cancel (task g q)).task q)
+        (becomes_apart (λ t. (abstract.cancel t).task) (tell wakes c) (tell_keeps c) g apart p q b))
+
+    out_keeps : (o : Option Output) → Keeps (λ z. or o (λ v. enters (Lose None None) (see (Loses v) z)) (plain_takes.lost wakes c None None z))
+    out_keeps None p q b = aside p q b (answers DoneAnswer) refl refl
+    out_keeps (Some v) p q b = aside p q b (λ z. enters (Lose None None) (see (Loses v) z)) refl refl
+
+    pub detach_keeps : Keeps (plain.detach wakes c g)
+    detach_keeps p q b =
+        let y : Plain Output Waker = becomes wakes (tell wakes c) g (abstract.detach (task g p)).task p in
+        let z : Plain Output Waker = becomes wakes (tell wakes c) g (abstract.detach (task g q)).task q in
+        let m : Bare y z = becomes_apart (λ t. (abstract.detach t).task) (tell wakes c) (tell_keeps c) g apart p q b in
+        let n : Bare (put g (task g y) y) (put g (task g z) z) =
+        subst (λ t. Bare (put g t y) (put g (task g z) z)) (sym (task_other y z m g apart)) (put_other y z m g (task g z) apart) in
+        subst (λ t. Bare (or (abstract.detach t).dropped (λ v. enters (Lose None None) (see (Loses v) (put g (task g y) y)))
+        (plain_takes.lost wakes c None None (put g (task g y) y))) (plain.detach wakes c g q)) (sym (task_other p q b g apart))
+        (out_keeps (abstract.detach (task g q)).dropped (put g (task g y) y) (put g (task g z) z) n)
+
+  pub uses_keep : (c : Choice) (g : ℕ) → Keeps (λ z. used wakes (tell wakes c) g z)
+  uses_keep c g = becomes_so (λ t. abstract.release (abstract.wake t)) use_counts (tell wakes c) (tell_keeps c) g
+
+  pub wakes_keep : (c : Choice) (g : ℕ) → Keeps (λ z. wake wakes (tell wakes c) g z)
+  wakes_keep c g = becomes_so (λ t. abstract.wake t) wake_counts (tell wakes c) (tell_keeps c) g
+
+  pub releases_keep : (c : Choice) (g : ℕ) → Keeps (λ z. release wakes (tell wakes c) g z)
+  releases_keep c g = becomes_so (λ t. abstract.release t) release_counts (tell wakes c) (tell_keeps c) g

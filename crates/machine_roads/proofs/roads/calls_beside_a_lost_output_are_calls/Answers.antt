@@ -1,4 +1,3 @@
-use Rattle.machine_roads.proofs.Unawaited.{Bare}
 use Rattle.machine_roads.proofs.Untaken.{calls_beside, loses_beside, loss_ends_beside}
 use Rattle.machine_roads.proofs.roads.calls_beside_a_lost_output_are_calls.Goals as goal
 

@@ -73,6 +73,7 @@ pub mod Leaking
 pub mod Nobody
 pub mod Rousing
 pub mod Sweeping
+pub mod Unawaited
 pub mod Unborrowed
 pub mod LoneCloses
 pub mod LoneBehind

@@ -5,6 +5,8 @@ pub mod Lists
 pub mod Moving
 pub mod Owing
 pub mod OwingActs
+pub mod Spent
+pub mod SpentActs
 pub mod Running
 pub mod Stepping
 pub mod Puts

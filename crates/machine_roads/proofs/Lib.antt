@@ -7,6 +7,8 @@ pub mod Owing
 pub mod OwingActs
 pub mod Spent
 pub mod SpentActs
+pub mod InForgotten
+pub mod UnawaitedCalls
 pub mod Running
 pub mod Stepping
 pub mod Puts

@@ -27,7 +27,7 @@ past_end [] = refl
 past_end (x ∷ xs) = past_end xs
 
 module _ (f : ℕ) (awaiter : Option Waker) where
-  abbrev bare : Future Output Waker → Plain Output Waker → Plain Output Waker
+  abbrev pub bare : Future Output Waker → Plain Output Waker → Plain Output Waker
   bare x q = record q { futures = slice_set q.futures f (with_task (hidden x.task) x) }
 
   -- there it is awaited by nobody
@@ -50,7 +50,7 @@ module _ (f : ℕ) (awaiter : Option Waker) where
     task_other g apart =
         ap (λ z. task g z) b.is ∙ ap (λ (o : Option (Future Output Waker)). or o (λ future. future.task) no_task) (other_at g apart)
 
-    put_other : (g : ℕ) (new : AbstractTask Output Waker) → (f == g) ≡ false → Bare (put g new p) (put g new q)
+    pub put_other : (g : ℕ) (new : AbstractTask Output Waker) → (f == g) ≡ false → Bare (put g new p) (put g new q)
     put_other g new apart = by (slice_get q.futures g) refl
       where
         by : (o : Option (Future Output Waker)) → slice_get q.futures g ≡ o → Bare (put g new p) (put g new q)
@@ -121,7 +121,7 @@ module _ (f : ℕ) (awaiter : Option Waker) where
             ap (λ (o : Option (Future Output Waker)). or o (λ future. future.mark) PlainMark) (other_at g apart)
 
     -- what leaves the tasks
-    aside : (F : Plain Output Waker → Plain Output Waker) → F (bare x q) ≡ bare x (F q) → (F q).futures ≡ q.futures → Bare (F p) (F q)
+    pub aside : (F : Plain Output Waker → Plain Output Waker) → F (bare x q) ≡ bare x (F q) → (F q).futures ≡ q.futures → Bare (F p) (F q)
     aside F so same = record {
       future = x;
       at = ap (λ fs. slice_get fs f) same ∙ b.at;
@@ -150,14 +150,14 @@ module _ (f : ℕ) (awaiter : Option Waker) where
         ∙ (ap (λ (t : AbstractTask Output Waker). t.wakers) (task_is f (bare x q) X (set_same q.futures f X x b.at))
         ∙ sym (ap (λ (t : AbstractTask Output Waker). t.wakers) (task_is f q x b.at)))
 
-    there_over : ((task f p).phase ≡ Finished) × ((task f p).closed ≡ true)
+    pub there_over : ((task f p).phase ≡ Finished) × ((task f p).closed ≡ true)
     there_over =
         let X : Future Output Waker = with_task (hidden x.task) x in
         let is : task f p ≡ told (hidden x.task) =
         ap (λ z. task f z) b.is ∙ task_is f (bare x q) X (set_same q.futures f X x b.at) in
         (ap (λ (t : AbstractTask Output Waker). t.phase) is ∙ b.phase, ap (λ (t : AbstractTask Output Waker). t.closed) is ∙ b.closed)
 
-    here_over : ((task f q).phase ≡ Finished) × ((task f q).closed ≡ true)
+    pub here_over : ((task f q).phase ≡ Finished) × ((task f q).closed ≡ true)
     here_over =
         let is = task_is f q x b.at in
         (ap (λ (t : AbstractTask Output Waker). t.phase) is ∙ b.phase, ap (λ (t : AbstractTask Output Waker). t.closed) is ∙ b.closed)
@@ -209,7 +209,7 @@ module _ (f : ℕ) (awaiter : Option Waker) where
               keeps (appended g (put g new p)) (appended g (put g new q)) (append_so (put g new p) (put g new q) m g)
           whether false = put_other p q b g new apart
 
-  becomes_apart : (h : AbstractTask Output Waker → AbstractTask Output Waker) (more : Plain Output Waker → Plain Output Waker)
+  pub becomes_apart : (h : AbstractTask Output Waker → AbstractTask Output Waker) (more : Plain Output Waker → Plain Output Waker)
       → Keeps more → (g : ℕ) → (f == g) ≡ false → Keeps (λ z. becomes wakes more g (h (task g z)) z)
   becomes_apart h more keeps g apart p q b =
       subst (λ t. Bare (if is_some (info_of t (h t)) then more (appended g (put g (h t) p)) else put g (h t) p)

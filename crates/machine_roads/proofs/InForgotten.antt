@@ -10,7 +10,6 @@ use Rattle.executor_model.specs.declared.call.Call.{Call}
 use Rattle.executor_model.specs.declared.call.Call.TheVariants as call
 use Rattle.executor_model.specs.declared.call.Reply.TheVariants as reply
 use Rattle.executor_model.specs.declared.event.Event.TheVariants as event
-use Rattle.executor_model.specs.declared.op.HandleOp.TheVariants as handle_op
 use Rattle.executor_model.specs.declared.op.Hold.TheVariants as hold
 use Rattle.executor_model.specs.declared.op.Op.{Op}
 use Rattle.executor_model.specs.declared.op.Op.TheVariants as op
@@ -27,7 +26,7 @@ use Rattle.plain_scheduler.specs.Moves.{put, task}
 use Rattle.plain_scheduler.specs.Calls as plain
 use Rattle.plain_scheduler.specs.Calls.{does, Ends}
 use Rattle.machine_roads.specs.View.{Output, waker_in, wakes}
-use Rattle.machine_roads.specs.Alone.{alone, is_resting, Has, HasAll, HasAllOf}
+use Rattle.machine_roads.specs.Alone.{alone, is_resting, HasAll}
 use Rattle.machine_roads.specs.Alike.{begins, upon}
 use Rattle.machine_roads.specs.Closing.{called, loses}
 use Rattle.machine_roads.specs.Course.{IsCall, cancel, copy, detach, drop_handle, poll_handle, release, use_waker, wake}

@@ -14,7 +14,6 @@ use Rattle.plain_scheduler.specs.Moves.{tell, told_at, used, wake}
 use Rattle.plain_scheduler.specs.Takes as plain_takes
 use Rattle.plain_scheduler.specs.Calls as plain
 use Rattle.machine_roads.specs.View.{Output, wakes}
-use Rattle.machine_roads.specs.Forgotten.{unawaited}
 use Rattle.machine_roads.proofs.Puts.{mark_is, put_at, put_is, task_is, with_task}
 use Rattle.machine_roads.proofs.Lists.{apart_of, same_of, set_apart, set_other, set_same, set_twice, turned}
 use Rattle.machine_roads.proofs.Lying.{called_one}

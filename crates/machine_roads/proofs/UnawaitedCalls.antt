@@ -1,5 +1,5 @@
 -- So is what calls of other tasks do on the plain scheduler.
-use Rattle.std.proofs.Common.{◌≡◌, ℕ, ◌<◌, ◌==◌, Bool, true, false, List, ◌∷◌, length, Option, Some, None, slice_get, if◌then◌else◌}
+use Rattle.std.proofs.Common.{◌≡◌, ℕ, ◌==◌, Bool, true, false, ◌∷◌, Option, Some, None, slice_get, if◌then◌else◌}
 use Rattle.std.proofs.Common.{refl, sym, ap, subst, ◌∙◌}
 use Rattle.task_moves.specs.AbstractTask as abstract
 use Rattle.task_moves.specs.AbstractTask.{AbstractTask, Finished}
@@ -11,7 +11,7 @@ use Rattle.executor_model.specs.declared.op.Waker.{Waker}
 use Rattle.executor_model.specs.Steps.{is_on_executor, waker_of}
 use Rattle.executor_model.specs.World.{World}
 use Rattle.plain_scheduler.specs.State.{Cancelled, Choice, Done as DoneAnswer, Future, Gives, Lose, Made, NoMemory, Pending, Plain}
-use Rattle.plain_scheduler.specs.Lists.{on, or}
+use Rattle.plain_scheduler.specs.Lists.{on}
 use Rattle.plain_scheduler.specs.Moves.{answers, let_go, put, release, task, tell, used, wake as moves_wake}
 use Rattle.plain_scheduler.specs.Calls as plain
 use Rattle.plain_scheduler.specs.Calls.{does, handle_by, is_granted, registered, Ends}
@@ -19,8 +19,7 @@ use Rattle.machine_roads.specs.View.{Output, wakes}
 use Rattle.machine_roads.specs.Course.{IsCall, cancel, copy, detach, drop_handle, poll_handle, release as releases, use_waker, wake}
 use Rattle.machine_roads.specs.Forgotten.{unawaited}
 use Rattle.machine_roads.specs.InForgotten.{is_of}
-use Rattle.machine_roads.proofs.Lists.{set_same}
-use Rattle.machine_roads.proofs.Puts.{put_is, task_is, with_task}
+use Rattle.machine_roads.proofs.Puts.{put_is, task_is}
 use Rattle.machine_roads.proofs.Unawaited.{Bare, Keeps, aside, bare, cancel_keeps, detach_keeps, hidden, put_other, releases_keep, task_other}
 use Rattle.machine_roads.proofs.Unawaited.{uses_keep, wakes_keep}
 

@@ -49,6 +49,7 @@ rests_alike e q (dropping taker final below f b it nested (answered next inside 
 rests_alike e q (dropping taker final below f b it nested (loses awaiter next inside ending)) is = absurd (filled (sym next ∙ is))
 rests_alike e q (untaken taker final below f awaiter g gs codes it nested stops) is = absurd (filled (sym stops.left ∙ is))
 rests_alike e q (forgetting taker final below f b it nested stops) is = absurd (filled (sym stops.left ∙ is))
+rests_alike e q (forgotten taker final below f g gs codes it nested stops) is = absurd (filled (sym stops.left ∙ is))
 
 at_rest : (acts : List Act) (s : Machine) → Reached s → (p : ℕ) (q : Plain Output Waker) → StandsAlike (standing s p) q
     → AreActs s acts → (all : ActAlike s q acts) → IsQuiet (left_by s acts).world.trace

@@ -8,6 +8,7 @@ pub mod OwingActs
 pub mod Spent
 pub mod SpentActs
 pub mod InForgotten
+pub mod ActsForgotten
 pub mod UnawaitedCalls
 pub mod Running
 pub mod Stepping

@@ -22,7 +22,6 @@ use Rattle.executor_model.specs.Steps.{part_refusal}
 use Rattle.executor_model.specs.Steps.{party_of, refusal, stack, start, top, unless, waits}
 use Rattle.executor_model.specs.Trace.{is_drop_begun}
 use Rattle.executor_model.specs.World.{Done, done, log}
-use Rattle.executor_model.specs.World as world
 use Rattle.executor_model.proofs.Quiet.Resting.{rests}
 use Rattle.executor_model.proofs.Steps.Hushed.{HushesCall, hushed-called}
 use Rattle.executor_model.proofs.Steps.Reached.{Reached, deep-here, reached-more, run-first}

@@ -1,6 +1,6 @@
 -- A call of a waker or of a handle that begins in the drop of a future that nobody could wake, and the ends of drops of outputs inside of
 -- that: where the party rests next both stand so again.
-use Rattle.std.proofs.Common.{◌≡◌, ℕ, ◌<◌, ◌≤◌, ◌==◌, ◌++◌, not, Bool, true, false, List, [], ◌∷◌, length, Option, Some, None, slice_get}
+use Rattle.std.proofs.Common.{◌≡◌, ℕ, ◌<◌, ◌≤◌, ◌==◌, ◌++◌, Bool, true, false, List, [], ◌∷◌, length, Option, Some, None, slice_get}
 use Rattle.std.proofs.Common.{refl, sym, ap, subst, ◌∙◌, arith}
 use Rattle.std.specs.Prelude.{reverse}
 use Rattle.executor_model.specs.declared.call.Call.{Call}
@@ -13,7 +13,7 @@ use Rattle.executor_model.specs.declared.step.Step.TheVariants.{Answer, Begin}
 use Rattle.executor_model.specs.declared.step.UserEnd.{UserEnd}
 use Rattle.executor_model.specs.declared.step.UserEnd.TheVariants as end
 use Rattle.executor_model.specs.Steps.{Machine, accepts, begin_refusal, has_all, has_handle, is_known, is_on_executor, is_unused, kept, mine, react, stack, top}
-use Rattle.executor_model.specs.World.{Done, World, done, task}
+use Rattle.executor_model.specs.World.{Done, done, task}
 use Rattle.executor_model.proofs.Steps.Reached.{Reached}
 use Rattle.plain_scheduler.specs.State.{Choice, Closed, Code, Drop, Future, Granted, Lose, Plain, Refusal, Taker}
 use Rattle.plain_scheduler.specs.Calls as plain
@@ -23,7 +23,7 @@ use Rattle.machine_roads.specs.Road.{waking_in}
 use Rattle.machine_roads.specs.Alone.{alone, is_resting, HasAll}
 use Rattle.machine_roads.specs.Alike.{begins, upon}
 use Rattle.machine_roads.specs.Closing.{called, loses}
-use Rattle.machine_roads.specs.InLoss.{AreLosing, handle_in, loss_codes, loss_ops, spares, without_handles}
+use Rattle.machine_roads.specs.InLoss.{handle_in, loss_codes, loss_ops, spares, without_handles}
 use Rattle.machine_roads.specs.Losing.{left_of}
 use Rattle.machine_roads.specs.Within.{ActsBy, GoesOnBy, IsCallIn, Nested, StandsAlike, StopsForgotten, begins as begins_by}
 use Rattle.machine_roads.specs.Within.{ends as ends_by, forgetting, forgotten, standing}
@@ -36,11 +36,10 @@ use Rattle.machine_roads.proofs.LaterAnew.{off_anew}
 use Rattle.machine_roads.proofs.LoneTicks.{there_all}
 use Rattle.machine_roads.proofs.Named.{Named, named}
 use Rattle.machine_roads.proofs.Unseen.{stands_in}
-use Rattle.executor_model.specs.declared.call.Call.TheVariants as call
 use Rattle.executor_model.specs.declared.op.HandleOp.TheVariants as handle_op
 use Rattle.executor_model.specs.declared.op.TableOp.TheVariants as table_op
 use Rattle.executor_model.specs.Rows.{handling_of}
-use Rattle.executor_model.specs.Sound.{Sound, pend, wakers_of}
+use Rattle.executor_model.specs.Sound.{Sound, pend}
 use Rattle.executor_model.proofs.Steps.Begins.{kept-used}
 use Rattle.executor_model.proofs.Steps.Lists.{wakers_of-used}
 use Rattle.executor_model.proofs.Steps.Reached.{good-here}

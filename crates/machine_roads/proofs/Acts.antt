@@ -37,7 +37,8 @@ use Rattle.machine_roads.specs.Dropped.{answered, loses, rest_of}
 use Rattle.machine_roads.specs.InLoss.{loss_ops}
 use Rattle.machine_roads.specs.Losing.{left_of}
 use Rattle.machine_roads.specs.Untaken.{StandsUntaken, polls}
-use Rattle.machine_roads.specs.Within.{GoesOnBy, IsLeaving, StopsForgotten, StopsUntaken, forgotten, going, listed, polls_untaken, unlisted, untaken}
+use Rattle.machine_roads.specs.Within.{GoesOnBy, IsLeaving, StopsForgotten, StopsUntaken, forgotten, going, listed, polls_untaken, unlisted}
+use Rattle.machine_roads.specs.Within.{untaken}
 use Rattle.machine_roads.specs.Within.{Act, ActAlike, ActsBy, AreActs, ListsActAlike, Nested, StandsAlike, alike, calls_outside}
 use Rattle.machine_roads.specs.Within.{dropping, forgetting, goes_on, is_on_way, losing, may_begin_in, may_stand_in, nowhere, rests_after}
 use Rattle.machine_roads.specs.Within.{standing}

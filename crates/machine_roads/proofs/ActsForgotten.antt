@@ -12,7 +12,8 @@ use Rattle.executor_model.specs.declared.step.Hint.{Hint}
 use Rattle.executor_model.specs.declared.step.Step.TheVariants.{Answer, Begin}
 use Rattle.executor_model.specs.declared.step.UserEnd.{UserEnd}
 use Rattle.executor_model.specs.declared.step.UserEnd.TheVariants as end
-use Rattle.executor_model.specs.Steps.{Machine, accepts, begin_refusal, has_all, has_handle, is_known, is_on_executor, is_unused, kept, mine, react, stack, top}
+use Rattle.executor_model.specs.Steps.{Machine, accepts, begin_refusal, has_all, has_handle, is_known, is_on_executor, is_unused, kept}
+use Rattle.executor_model.specs.Steps.{mine, react, stack, top}
 use Rattle.executor_model.specs.World.{Done, done, task}
 use Rattle.executor_model.proofs.Steps.Reached.{Reached}
 use Rattle.plain_scheduler.specs.State.{Choice, Closed, Code, Drop, Future, Granted, Lose, Plain, Refusal, Taker}
@@ -192,9 +193,10 @@ module _ (s : Machine) (p : ℕ) (q : Plain Output Waker) (f : ℕ) (gs : List �
       let all = there_all s.world s.parties its c may in
       let spared = spares_all s reached p there gs base next its c all in
       let n = named s.world s.parties its no_poll c off all in
+      let apart = apart_made s reached f stands.spent stands.unheld c n.made n.is off its all in
       subst (λ xs. LeadsSo p (upon xs (begins p (mine its) c s.world)) (Comes c)) (sym next)
       (subst (λ here. LeadsSo p (upon os (begins p here c s.world)) (Comes c)) (sym no_poll)
-      (λ hints has rests. comes c off n spared (apart_made s reached f stands.spent stands.unheld c n.made n.is off its all) hints has rests (loses n.made q) refl))
+      (λ hints has rests. comes c off n spared apart hints has rests (loses n.made q) refl))
 
   -- the innermost drop ends
   abbrev Ending : UserEnd → Done → Type 0

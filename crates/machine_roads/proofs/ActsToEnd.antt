@@ -13,7 +13,8 @@ use Rattle.machine_roads.specs.View.{Output}
 use Rattle.executor_model.specs.declared.op.Waker.{Waker}
 use Rattle.machine_roads.specs.Road.{Follows}
 use Rattle.machine_roads.specs.Dropped.{answered, loses}
-use Rattle.machine_roads.specs.Within.{Act, ActAlike, AreActs, Nested, StandsAlike, alike, dropping, forgetting, forgotten, going, losing, nowhere}
+use Rattle.machine_roads.specs.Within.{Act, ActAlike, AreActs, Nested, StandsAlike, alike, dropping, forgetting, forgotten, going, losing}
+use Rattle.machine_roads.specs.Within.{nowhere}
 use Rattle.machine_roads.specs.Within.{untaken}
 use Rattle.machine_roads.specs.Within.{standing}
 use Rattle.machine_roads.specs.DropActs.{ListsActToTheEnd, left_by, plain_behind}

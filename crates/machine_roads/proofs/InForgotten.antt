@@ -127,7 +127,8 @@ module _ (f : ℕ) (awaiter : Option Waker) where
   -- and the same output goes
   loses_there : (r q : Plain Output Waker) → Bare f awaiter r q → (w : World) (c : Call) (x : plain.Call Output Waker)
       → is_on_executor c ≡ false → IsCall w c x → is_of f x ≡ false → loses x r ≡ loses x q
-  loses_there r q b w c x off (detach g) apart = ap (λ (t : AbstractTask Output Waker). is_some t.output) (task_other f awaiter r q b g apart)
+  loses_there r q b w c x off (detach g) apart =
+      ap (λ (t : AbstractTask Output Waker). is_some t.output) (task_other f awaiter r q b g apart)
   loses_there r q b w c x off (drop_handle g) apart =
       ap (λ (t : AbstractTask Output Waker). is_some t.output) (task_other f awaiter r q b g apart)
   loses_there r q b w c x off (use_waker k g is) apart = refl

@@ -105,8 +105,8 @@ module _ (f : ℕ) (awaiter : Option Waker) where
 
   pub keeps_other : (w : World) (g : ℕ) (s : State) → (f == g) ≡ false → Kept w → Kept (put w g s)
   keeps_other w g s apart kept =
-      owes_by (length w.tasks) (length (put w g s).tasks) w.table (world.task w f) (world.task (put w g s) f) (awaiter_of w f) (awaiter_of w f)
-      (length_set w.tasks g s) (get_or-set_other w.tasks g f s blank (apart_of f g apart)) refl kept
+      owes_by (length w.tasks) (length (put w g s).tasks) w.table (world.task w f) (world.task (put w g s) f) (awaiter_of w f)
+      (awaiter_of w f) (length_set w.tasks g s) (get_or-set_other w.tasks g f s blank (apart_of f g apart)) refl kept
 
   pub keeps_own : (w : World) (s : State) → Owes (length w.tasks) w.table s (awaiter_of w f) → Kept (put w f s)
   keeps_own w s owes =
@@ -115,8 +115,8 @@ module _ (f : ℕ) (awaiter : Option Waker) where
 
   pub keeps_await : (w : World) (g : ℕ) (o : Option Awaiter) → (f == g) ≡ false → Kept w → Kept (put_awaiter w g o)
   keeps_await w g o apart kept =
-      owes_by (length w.tasks) (length w.tasks) w.table (world.task w f) (world.task w f) (awaiter_of w f) (awaiter_of (put_awaiter w g o) f)
-      refl refl (get_or-set_other w.awaiters g f o None (apart_of f g apart)) kept
+      owes_by (length w.tasks) (length w.tasks) w.table (world.task w f) (world.task w f) (awaiter_of w f)
+      (awaiter_of (put_awaiter w g o) f) refl refl (get_or-set_other w.awaiters g f o None (apart_of f g apart)) kept
 
   -- a move of a task, from the task here and from that there
   pub record IsAside (m : Move) (g : ℕ) (s t : State) : Type 0 where

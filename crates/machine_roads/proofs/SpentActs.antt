@@ -231,7 +231,8 @@ module _ (f : ℕ) (awaiter : Option Waker) where
           let os : List Op = op.End reply.Made held ∷ [] in
           let t : State = record s { references = s.references + 1 } in
           by_task
-          (λ x. done (record (put (without_awaiter f w) g (record x { references = x.references + 1 })) { wakers = w.wakers ++ Some g ∷ [] }) os)
+          (λ x. done (record (put (without_awaiter f w) g (record x { references = x.references + 1 }))
+          { wakers = w.wakers ++ Some g ∷ [] }) os)
           (done (record (put w g t) { wakers = w.wakers ++ Some g ∷ [] }) os)
           (writes w g t (λ v. record v { wakers = w.wakers ++ Some g ∷ [] }) os apart kept refl (λ kept. kept) refl)
 
@@ -279,7 +280,8 @@ module _ (f : ℕ) (awaiter : Option Waker) where
       registers_by : (a : Waker) (k : ℕ) (b : Bool) → So (register_by b (without_awaiter f w) g a k) (register_by b w g a k)
       registers_by a k true =
           let os : List Op = op.Waker (waker_op.CallAwaiter g a k) ∷ op.Handle (handle_op.LookAgain g) ∷ [] in
-          by_task (λ t. done (put (without_awaiter f w) g t) os) (done (put w g s) os) (only_writes w g s os apart kept (apart_fits g apart))
+          by_task (λ t. done (put (without_awaiter f w) g t) os) (done (put w g s) os)
+          (only_writes w g s os apart kept (apart_fits g apart))
       registers_by a k false =
           let os : List Op = op.Handle (handle_op.EndRegister g a k) ∷ [] in
           let t : State = record s { registering = true } in

@@ -194,7 +194,8 @@ module _ (f : ℕ) (awaiter : Option Waker) where
           (sym (own_put h c more q here.0 here.1)) (put_own p q b (c.many (task f q).wakers))))
       by false apart =
           subst (λ t. Bare (becomes wakes more g (h t) p) (becomes wakes more g (h (task g q)) q)) (sym (task_other p q b g apart))
-          (subst (λ t. Bare (if is_some (info_of t (h (task g q))) then more (appended g (put g (h (task g q)) p)) else put g (h (task g q)) p)
+          (subst
+          (λ t. Bare (if is_some (info_of t (h (task g q))) then more (appended g (put g (h (task g q)) p)) else put g (h (task g q)) p)
           (becomes wakes more g (h (task g q)) q)) (sym (task_other p q b g apart))
           (whether (is_some (info_of (task g q) (h (task g q))))))
         where
@@ -299,13 +300,16 @@ module _ (f : ℕ) (awaiter : Option Waker) where
 
     pub cancel_keeps : Keeps (plain.cancel wakes c g)
     cancel_keeps p q b =
-        subst (λ t. Bare (on (abstract.cancel t).called (called wakes (tell wakes c)) (becomes wakes (tell wakes c) g (abstract.cancel (task g p)).task p))
+        subst
+        (λ t. Bare (on (abstract.cancel t).called (called wakes (tell wakes c))
+        (becomes wakes (tell wakes c) g (abstract.cancel (task g p)).task p))
         (plain.cancel wakes c g q)) (sym (task_other p q b g apart))
         (calls_keep (abstract.cancel (task g q)).called (becomes wakes (tell wakes c) g (abstract.cancel (task g p)).task p)
         (becomes wakes (tell wakes c) g (abstract.cancel (task g q)).task q)
         (becomes_apart (λ t. (abstract.cancel t).task) (tell wakes c) (tell_keeps c) g apart p q b))
 
-    out_keeps : (o : Option Output) → Keeps (λ z. or o (λ v. enters (Lose None None) (see (Loses v) z)) (plain_takes.lost wakes c None None z))
+    out_keeps : (o : Option Output)
+        → Keeps (λ z. or o (λ v. enters (Lose None None) (see (Loses v) z)) (plain_takes.lost wakes c None None z))
     out_keeps None p q b = aside p q b (answers DoneAnswer) refl refl
     out_keeps (Some v) p q b = aside p q b (λ z. enters (Lose None None) (see (Loses v) z)) refl refl
 

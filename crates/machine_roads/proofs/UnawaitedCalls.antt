@@ -20,7 +20,8 @@ use Rattle.machine_roads.specs.Course.{IsCall, cancel, copy, detach, drop_handle
 use Rattle.machine_roads.specs.Forgotten.{unawaited}
 use Rattle.machine_roads.specs.InForgotten.{is_of}
 use Rattle.machine_roads.proofs.Puts.{put_is, task_is}
-use Rattle.machine_roads.proofs.Unawaited.{Bare, Keeps, aside, bare, cancel_keeps, detach_keeps, hidden, put_other, releases_keep, task_other}
+use Rattle.machine_roads.proofs.Unawaited.{Bare, Keeps, aside, bare, cancel_keeps, detach_keeps, hidden, put_other, releases_keep}
+use Rattle.machine_roads.proofs.Unawaited.{task_other}
 use Rattle.machine_roads.proofs.Unawaited.{uses_keep, wakes_keep}
 
 module _ (f : ℕ) (awaiter : Option Waker) where
@@ -84,7 +85,8 @@ module _ (f : ℕ) (awaiter : Option Waker) where
           (puts_keep (λ t. (abstract.poll a t).task) p q b) (answers (Gives v)) refl refl
       polls_by n IsCancelled p q b = aside f awaiter p q b (answers Cancelled) refl refl
       polls_by n Waits p q b =
-          granted_keeps (registered wakes c g (waker_of None (by_whom.Outside n))) (registers_keep (waker_of None (by_whom.Outside n))) p q b
+          let a : Waker = waker_of None (by_whom.Outside n) in
+          granted_keeps (registered wakes c g a) (registers_keep a) p q b
 
       outside_keeps : (n : ℕ) → Same (does wakes c (plain.PollHandle g (waker_of None (by_whom.Outside n))))
       outside_keeps n p q b =

@@ -29,7 +29,8 @@ use Rattle.executor_model.specs.Executions.{run_all}
 use Rattle.executor_model.specs.Steps.{Machine, after, future_of, is_on_executor, is_static_kind, kept, mine, party_of, stack, start, top}
 use Rattle.executor_model.specs.Steps.{waker_of}
 use Rattle.executor_model.specs.World.{Done, World, done}
-use Rattle.plain_scheduler.specs.State.{Choice, Closed, Code, Done as IsDone, Drop, DropOwn, Lose, Plain, PollOwn, Ready as IsReady, Run, Taker}
+use Rattle.plain_scheduler.specs.State.{Choice, Closed, Code, Done as IsDone, Drop, DropOwn, Lose, Plain, PollOwn, Ready as IsReady, Run}
+use Rattle.plain_scheduler.specs.State.{Taker}
 use Rattle.plain_scheduler.specs.State.{Tick, Try}
 use Rattle.plain_scheduler.specs.Moves as moves
 use Rattle.plain_scheduler.specs.Calls as plain

@@ -25,9 +25,10 @@ use Rattle.machine_roads.specs.Dropped.{answered, loses, rest_of}
 use Rattle.machine_roads.specs.InLoss.{loss_ops}
 use Rattle.machine_roads.specs.Losing.{left_of}
 use Rattle.machine_roads.specs.Within.{going}
-use Rattle.machine_roads.specs.Within.{StandsAlike, alike, dropping, forgetting, losing, standing, untaken}
+use Rattle.machine_roads.specs.Within.{StandsAlike, alike, dropping, forgetting, forgotten, losing, standing, untaken}
 use Rattle.machine_roads.proofs.ActCodes.{EndsSo, from_going, accepted, from_drop, from_forgotten, from_loss, from_own_drop}
 use Rattle.machine_roads.proofs.ActCodes.{from_own_poll, from_poll}
+use Rattle.machine_roads.proofs.ActsForgotten.{ends_forgotten}
 use Rattle.machine_roads.proofs.ActLosses.{ends_in_going, ends_in_loss}
 use Rattle.machine_roads.proofs.Counting.{Counted}
 use Rattle.machine_roads.proofs.Inmost.{Inmost, IsDropOf, drop, inmost, none, of_given, of_polled, of_queued, own_drop, own_poll, poll}
@@ -194,3 +195,15 @@ module _ (s : Machine) (reached : Reached s) (p : ℕ) (there : p < length s.par
             (accepted s reached p there open_still others q counted u (op.User (user_op.Drop f)) xs may stops.left);
       }
   code_ends (untaken taker final below f awaiter g gs codes it nested stops) plain u may = absurd cc
+  code_ends (forgotten taker final below f g gs codes it nested stops) plain u may =
+      let xs =
+      left_of g
+      ++ loss_ops gs (op.User (user_op.Drop f) ∷ op.Table (table_op.LeaveTable f) ∷ op.Handle (handle_op.LetGo f) ∷ final ∷ below) in
+      record {
+        first = op.User (user_op.DropOutput g);
+        rest = xs;
+        is = stops.left;
+        leads =
+            ends_forgotten taker final below f codes it nested s p q counted g gs stops u
+            (accepted s reached p there open_still others q counted u (op.User (user_op.DropOutput g)) xs may stops.left);
+      }

@@ -7,6 +7,8 @@ use Rattle.executor_model.specs.declared.call.Call.TheVariants as call
 use Rattle.executor_model.specs.declared.event.Event.TheVariants as event
 use Rattle.executor_model.specs.declared.op.Op.{Op}
 use Rattle.executor_model.specs.declared.op.Op.TheVariants as op
+use Rattle.executor_model.specs.declared.op.HandleOp.TheVariants as handle_op
+use Rattle.executor_model.specs.declared.op.TableOp.TheVariants as table_op
 use Rattle.executor_model.specs.declared.op.UserOp.TheVariants as user_op
 use Rattle.executor_model.specs.declared.op.Waker.{Waker}
 use Rattle.executor_model.specs.declared.step.Hint.{Hint}
@@ -20,7 +22,6 @@ use Rattle.executor_model.specs.Steps.{part_refusal}
 use Rattle.executor_model.specs.Steps.{party_of, refusal, stack, start, top, unless, waits}
 use Rattle.executor_model.specs.Trace.{is_drop_begun}
 use Rattle.executor_model.specs.World.{Done, done, log}
-use Rattle.executor_model.specs.World as world
 use Rattle.executor_model.proofs.Quiet.Resting.{rests}
 use Rattle.executor_model.proofs.Steps.Hushed.{HushesCall, hushed-called}
 use Rattle.executor_model.proofs.Steps.Reached.{Reached, deep-here, reached-more, run-first}
@@ -36,7 +37,8 @@ use Rattle.machine_roads.specs.Dropped.{answered, loses, rest_of}
 use Rattle.machine_roads.specs.InLoss.{loss_ops}
 use Rattle.machine_roads.specs.Losing.{left_of}
 use Rattle.machine_roads.specs.Untaken.{StandsUntaken, polls}
-use Rattle.machine_roads.specs.Within.{GoesOnBy, IsLeaving, StopsUntaken, going, listed, polls_untaken, unlisted, untaken}
+use Rattle.machine_roads.specs.Within.{GoesOnBy, IsLeaving, StopsForgotten, StopsUntaken, forgotten, going, listed, polls_untaken, unlisted}
+use Rattle.machine_roads.specs.Within.{untaken}
 use Rattle.machine_roads.specs.Within.{Act, ActAlike, ActsBy, AreActs, ListsActAlike, Nested, StandsAlike, alike, calls_outside}
 use Rattle.machine_roads.specs.Within.{dropping, forgetting, goes_on, is_on_way, losing, may_begin_in, may_stand_in, nowhere, rests_after}
 use Rattle.machine_roads.specs.Within.{standing}
@@ -45,6 +47,7 @@ use Rattle.machine_roads.proofs.ActCodes.{accepted}
 use Rattle.machine_roads.proofs.ActEnds.{code_ends, is_inner}
 use Rattle.machine_roads.proofs.ActLosses.{begins_in_going, begins_in_loss}
 use Rattle.machine_roads.proofs.ActsBeside.{awaited_so, begins_untaken, ends_untaken}
+use Rattle.machine_roads.proofs.ActsForgotten.{begins_forgotten}
 use Rattle.machine_roads.proofs.BesideHere.{Asked, walks as asked_walks}
 use Rattle.machine_roads.proofs.Calling.{begin_alike}
 use Rattle.machine_roads.proofs.Counting.{StandsSo}
@@ -120,6 +123,7 @@ rests_alike e q (dropping taker final below f b it nested (answered next inside 
 rests_alike e q (dropping taker final below f b it nested (loses awaiter next inside ending)) = ap (λ os. is_resting os) next
 rests_alike e q (untaken taker final below f awaiter g gs codes it nested stops) = ap (λ os. is_resting os) stops.left
 rests_alike e q (forgetting taker final below f b it nested stops) = ap (λ os. is_resting os) stops.left
+rests_alike e q (forgotten taker final below f g gs codes it nested stops) = ap (λ os. is_resting os) stops.left
 
 -- who rests does nothing of its own
 pub no_go_resting : (s : Machine) (p : ℕ) → p < length s.parties → (h : Hint) (os : List Op) → reverse (stack s p) ≡ os
@@ -173,6 +177,15 @@ untaken_off (g ∷ gs) b f final below c on =
     let both = neither (is_on_executor c) (polls_untaken (loss_ops gs os) c) on in
     (both.0, polls_base b f final below c (sym (under_losses gs os c) ∙ both.1))
 
+-- nor is one in the drop of a future that nobody could wake on the executor
+forgotten_off : (gs : List ℕ) (f : ℕ) (os : List Op) (c : Call)
+    → may_begin_in (loss_ops gs (op.User (user_op.Drop f) ∷ op.Table (table_op.LeaveTable f) ∷ op.Handle (handle_op.LetGo f) ∷ os)) c ≡ true
+    → is_on_executor c ≡ false
+forgotten_off [] f os c on = (neither (is_on_executor c) (polls_untaken os c) on).0
+forgotten_off (g ∷ gs) f os c on =
+    let base = op.User (user_op.Drop f) ∷ op.Table (table_op.LeaveTable f) ∷ op.Handle (handle_op.LetGo f) ∷ os in
+    (neither (is_on_executor c) (polls_untaken (loss_ops gs base) c) on).0
+
 module _ (s : Machine) (reached : Reached s) (p : ℕ) (q : Plain Output Waker) (stands : StandsSo (standing s p) q) (new : Machine)
     (later : new.world.gone ≡ false) (open_still : s.world.gone ≡ false) (others : OthersRest p s) (there : p < length s.parties) where
   abbrev Comes : Step → Type 0
@@ -196,6 +209,15 @@ module _ (s : Machine) (reached : Reached s) (p : ℕ) (q : Plain Output Waker) 
           begun_led (Asked f awaiter) (asked_walks f awaiter) p
           (λ e. (r : Plain Output Waker) × ActsBy s p (Begin p c) q r × StandsSo e r) new later c ts s reached there
           (begins_untaken taker final below f awaiter codes it nested s p q stands.counted gs stops reached there c off.0 off.1
+          (may_begin s p c (run-first (Begin p c) ts s new made).0))
+          rests made
+
+      within_drop : (taker : Taker Waker) (final : Op) (below : List Op) (f : ℕ) (codes : List (Code Output Waker)) → GoesOnBy taker final
+          → Nested below codes → (gs : List ℕ) → StopsForgotten taker final below f gs codes (standing s p) q → Comes (Begin p c)
+      within_drop taker final below f codes it nested gs stops =
+          let off = forgotten_off gs f (final ∷ below) c (sym (ap (λ os. may_begin_in os c) stops.left) ∙ even) in
+          begun_leads p (λ e. (r : Plain Output Waker) × ActsBy s p (Begin p c) q r × StandsSo e r) new later c ts s reached there
+          (begins_forgotten taker final below f codes it nested s p q stands.counted gs stops reached there c off
           (may_begin s p c (run-first (Begin p c) ts s new made).0))
           rests made
 
@@ -239,7 +261,24 @@ module _ (s : Machine) (reached : Reached s) (p : ℕ) (q : Plain Output Waker) 
       by (untaken taker final below f awaiter g gs codes it nested stops) =
           inside_of taker final below f awaiter codes it nested (g ∷ gs) stops
       by (forgetting taker final below f b it nested stops) =
-          absurd (clash (ap (λ os. may_begin_in os c) stops.left) even)
+          let it_is = stops.forgotten in
+          within_drop taker final below f b.inside it nested []
+          (record {
+            left = stops.left;
+            inside = stops.inside;
+            stands =
+                record {
+                  known = it_is.known;
+                  entered = it_is.entered;
+                  spent = it_is.spent;
+                  unheld = it_is.unheld;
+                  finished = it_is.finished;
+                  closed = it_is.closed;
+                  awaited = it_is.awaited;
+                  follows = record { shut = tt; follows = it_is.follows };
+                };
+          })
+      by (forgotten taker final below f g gs codes it nested stops) = within_drop taker final below f codes it nested (g ∷ gs) stops
 
   -- user code ends
   module _ (u : UserEnd) (ts : List Step) (rests : rests_after p ts (after s (Answer p u)) ≡ true)
@@ -264,6 +303,8 @@ module _ (s : Machine) (reached : Reached s) (p : ℕ) (q : Plain Output Waker) 
     answers (going r fs below codes nested stops) = plainly (going r fs below codes nested stops) refl
     answers (dropping taker final below f b it nested drops) = plainly (dropping taker final below f b it nested drops) refl
     answers (forgetting taker final below f b it nested stops) = plainly (forgetting taker final below f b it nested stops) refl
+    answers (forgotten taker final below f g gs codes it nested stops) =
+        plainly (forgotten taker final below f g gs codes it nested stops) refl
 
   one_act : (t : Step) (ts : List Step) → party_of t ≡ p → is_on_way (reverse (stack s p)) t ≡ true
       → rests_after p ts (after s t) ≡ true → run_all (t ∷ ts) s ≡ Ok new → Comes t

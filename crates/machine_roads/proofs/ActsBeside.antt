@@ -1,6 +1,6 @@
 -- A call of a waker or of a handle that begins in the drop of an output that nobody can take, and the ends of drops of outputs inside of
 -- that: where the party rests next both stand so again.
-use Rattle.std.proofs.Common.{◌≡◌, ℕ, ◌<◌, ◌≤◌, ◌==◌, ◌++◌, not, Bool, true, false, List, [], ◌∷◌, length, Option, Some, None, is_some}
+use Rattle.std.proofs.Common.{◌≡◌, ℕ, ◌<◌, ◌≤◌, ◌++◌, Bool, true, false, List, [], ◌∷◌, length, Option, Some, None, is_some}
 use Rattle.std.proofs.Common.{refl, sym, ap, subst, ◌∙◌, arith}
 use Rattle.std.specs.Prelude.{reverse}
 use Rattle.executor_model.specs.declared.call.Call.{Call}
@@ -20,7 +20,6 @@ use Rattle.executor_model.specs.World.{Done, World, awaiter_of, done, task}
 use Rattle.executor_model.proofs.Steps.Lists.{weigh-append}
 use Rattle.executor_model.proofs.Steps.Reached.{Reached}
 use Rattle.plain_scheduler.specs.State.{Choice, Code, Granted, Lose, Plain, Refusal, Taker}
-use Rattle.plain_scheduler.specs.Calls as plain
 use Rattle.plain_scheduler.specs.Calls.{does, Ends}
 use Rattle.machine_roads.specs.View.{Output, waker_in, wakes}
 use Rattle.machine_roads.specs.Road.{waking_in}
@@ -28,7 +27,7 @@ use Rattle.machine_roads.specs.Alone.{alone, is_resting, HasAllOf}
 use Rattle.machine_roads.specs.Alike.{begins, upon}
 use Rattle.machine_roads.specs.Closing.{called, loses}
 use Rattle.machine_roads.specs.Dropped.{loses as loses_by, rest_of, without_run}
-use Rattle.machine_roads.specs.InLoss.{AreLosing, handle_in, loss_codes, loss_ops, spares, without_handles}
+use Rattle.machine_roads.specs.InLoss.{handle_in, loss_codes, loss_ops, spares, without_handles}
 use Rattle.machine_roads.specs.Losing.{left_of}
 use Rattle.machine_roads.specs.Untaken.{HasBeside, IsCallBeside, StandsUntaken, polls}
 use Rattle.machine_roads.specs.Within.{ActsBy, GoesOnBy, IsCallIn, Nested, StandsAlike, StopsUntaken, begins as begins_by, dropping}

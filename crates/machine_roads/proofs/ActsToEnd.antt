@@ -13,7 +13,8 @@ use Rattle.machine_roads.specs.View.{Output}
 use Rattle.executor_model.specs.declared.op.Waker.{Waker}
 use Rattle.machine_roads.specs.Road.{Follows}
 use Rattle.machine_roads.specs.Dropped.{answered, loses}
-use Rattle.machine_roads.specs.Within.{Act, ActAlike, AreActs, Nested, StandsAlike, alike, dropping, forgetting, going, losing, nowhere}
+use Rattle.machine_roads.specs.Within.{Act, ActAlike, AreActs, Nested, StandsAlike, alike, dropping, forgetting, forgotten, going, losing}
+use Rattle.machine_roads.specs.Within.{nowhere}
 use Rattle.machine_roads.specs.Within.{untaken}
 use Rattle.machine_roads.specs.Within.{standing}
 use Rattle.machine_roads.specs.DropActs.{ListsActToTheEnd, left_by, plain_behind}
@@ -49,6 +50,7 @@ rests_alike e q (dropping taker final below f b it nested (answered next inside 
 rests_alike e q (dropping taker final below f b it nested (loses awaiter next inside ending)) is = absurd (filled (sym next ∙ is))
 rests_alike e q (untaken taker final below f awaiter g gs codes it nested stops) is = absurd (filled (sym stops.left ∙ is))
 rests_alike e q (forgetting taker final below f b it nested stops) is = absurd (filled (sym stops.left ∙ is))
+rests_alike e q (forgotten taker final below f g gs codes it nested stops) is = absurd (filled (sym stops.left ∙ is))
 
 at_rest : (acts : List Act) (s : Machine) → Reached s → (p : ℕ) (q : Plain Output Waker) → StandsAlike (standing s p) q
     → AreActs s acts → (all : ActAlike s q acts) → IsQuiet (left_by s acts).world.trace

@@ -1,7 +1,7 @@
 -- In a machine in which a party has still to give up the run's reference of a task, what the next thing to do of a call speaks of is there
 -- without that reference, too; so it is at each moment of a call that begins above that.
-use Rattle.std.proofs.Common.{◌≡◌, ℕ, ◌+◌, ◌-◌, ◌<◌, ◌≤◌, ◌==◌, ◌++◌, ◌&&◌, ◌||◌, not, Bool, true, false, List, [], ◌∷◌, length, reverse}
-use Rattle.std.proofs.Common.{Option, Some, None, if◌then◌else◌, refl, sym, ap, subst, ◌∙◌, arith}
+use Rattle.std.proofs.Common.{◌≡◌, ℕ, ◌<◌, ◌≤◌, ◌==◌, ◌++◌, ◌&&◌, ◌||◌, not, Bool, true, false, List, [], ◌∷◌, length, reverse}
+use Rattle.std.proofs.Common.{Option, None, if◌then◌else◌, refl, sym, ap, subst, ◌∙◌, arith}
 use Rattle.task_moves.specs.declared.moves.owed.Move.TheVariants as move
 use Rattle.task_moves.specs.declared.moves.state.State.{State}
 use Rattle.task_moves.specs.LocalTask.{token}
@@ -17,12 +17,12 @@ use Rattle.executor_model.specs.declared.op.Waker.TheVariants.{Task, Outside}
 use Rattle.executor_model.specs.declared.op.WakerOp.TheVariants as waker_op
 use Rattle.executor_model.specs.declared.step.Hint.{Hint}
 use Rattle.executor_model.specs.Doing.{act}
-use Rattle.executor_model.specs.Good.{Good, IsKnownWaker}
+use Rattle.executor_model.specs.Good.{IsKnownWaker}
 use Rattle.executor_model.specs.Rows.{giving_of, releases_of}
 use Rattle.executor_model.specs.Sound.{Sound, pend}
 use Rattle.executor_model.specs.Steps.{Machine, stack, waits}
 use Rattle.executor_model.specs.Weights.{weigh, weigh_all}
-use Rattle.executor_model.specs.World.{World, Done, done, task}
+use Rattle.executor_model.specs.World.{World, done, task}
 use Rattle.executor_model.proofs.Steps.Lists.{weigh-append}
 use Rattle.executor_model.proofs.Steps.Reached.{Reached, good-here}
 use Rattle.machine_roads.specs.Alone.{CanCopy, answered_by, is_outside, is_resting, one_by, Has, HasAllOf}

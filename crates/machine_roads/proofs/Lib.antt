@@ -5,6 +5,11 @@ pub mod Lists
 pub mod Moving
 pub mod Owing
 pub mod OwingActs
+pub mod Spent
+pub mod SpentActs
+pub mod InForgotten
+pub mod ActsForgotten
+pub mod UnawaitedCalls
 pub mod Running
 pub mod Stepping
 pub mod Puts
@@ -73,6 +78,7 @@ pub mod Leaking
 pub mod Nobody
 pub mod Rousing
 pub mod Sweeping
+pub mod Unawaited
 pub mod Unborrowed
 pub mod LoneCloses
 pub mod LoneBehind

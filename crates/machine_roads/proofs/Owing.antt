@@ -1,5 +1,5 @@
 -- What moves of wakers and handles do is the same whether a task whose run is over still has its run's reference and who awaits it or not.
-use Rattle.std.proofs.Common.{◌≡◌, ℕ, ◌-◌, ◌<◌, ◌≤◌, ◌==◌, ◌&&◌, ◌||◌, not, Bool, true, false, List, [], length}
+use Rattle.std.proofs.Common.{◌≡◌, ℕ, ◌-◌, ◌<◌, ◌≤◌, ◌==◌, ◌&&◌, ◌||◌, not, Bool, true, false, List, length}
 use Rattle.std.proofs.Common.{Option, Some, None, slice_set, refl, sym, ap, subst, ◌∙◌, get_or-set_same, get_or-set_other}
 use Rattle.task_moves.specs.declared.moves.owed.Move.{Move}
 use Rattle.task_moves.specs.declared.moves.owed.Move.TheVariants as move
@@ -21,7 +21,7 @@ use Rattle.machine_roads.specs.Road.{IsStored}
 use Rattle.machine_roads.specs.Dropped.{without_run}
 use Rattle.machine_roads.proofs.Along.{DoesSo, all_fit}
 use Rattle.machine_roads.proofs.Handless.{goes_by_one, goes_quietly, last_one, off_and, or_so}
-use Rattle.machine_roads.proofs.Lists.{apart_of, length_set, same_of, set_apart, set_twice}
+use Rattle.machine_roads.proofs.Lists.{apart_of, length_set, set_apart, set_twice}
 use Rattle.machine_roads.proofs.Loose.{is_of_call}
 use Rattle.machine_roads.proofs.Marks.{emptied_owes}
 

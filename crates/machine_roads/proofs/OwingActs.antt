@@ -37,12 +37,11 @@ use Rattle.executor_model.specs.World.{World, Done, awaiter_of, done, log, mark_
 use Rattle.executor_model.specs.World as world
 use Rattle.machine_roads.specs.Alone.{Has}
 use Rattle.machine_roads.specs.Dropped.{without_run}
-use Rattle.machine_roads.proofs.Handless.{off_and}
 use Rattle.machine_roads.proofs.Lists.{same_of}
 use Rattle.machine_roads.proofs.Marks.{emptied_owes}
 use Rattle.machine_roads.proofs.Owing.{Does, IsAside, Kept, aside_other, await_other, awaiter_other, cancel_aside, detach_aside, fit_all}
 use Rattle.machine_roads.proofs.Owing.{hide, is_aside, keeps_await, keeps_other, keeps_own, moves_do, put_other, put_own}
-use Rattle.machine_roads.proofs.Owing.{release_aside, task_other, task_own, use_aside, wake_aside, Owes}
+use Rattle.machine_roads.proofs.Owing.{release_aside, task_other, task_own, use_aside, wake_aside}
 
 not_on : (b : Bool) → not b ≡ true → b ≡ false
 not_on false is = refl

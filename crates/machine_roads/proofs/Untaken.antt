@@ -1,13 +1,11 @@
 -- In the drop of an output that nobody can take calls of wakers and of handles leave both alike but for its task's run and who awaits it.
-use Rattle.std.proofs.Common.{◌≡◌, ℕ, ◌≤◌, ◌==◌, ◌++◌, ◌&&◌, not, Bool, true, false, List, [], ◌∷◌, length, Option, Some, None}
+use Rattle.std.proofs.Common.{◌≡◌, ℕ, ◌≤◌, ◌++◌, ◌&&◌, not, Bool, true, false, List, [], ◌∷◌, length, Option, Some, None}
 use Rattle.std.proofs.Common.{refl, sym, ap, subst, ◌∙◌}
 use Rattle.task_moves.specs.declared.moves.owed.Move.TheVariants as move
-use Rattle.executor_model.specs.declared.call.By.{By}
 use Rattle.executor_model.specs.declared.call.Call.{Call}
 use Rattle.executor_model.specs.declared.call.Call.TheVariants as call
 use Rattle.executor_model.specs.declared.call.Reply.TheVariants as reply
 use Rattle.executor_model.specs.declared.event.Event.TheVariants as event
-use Rattle.executor_model.specs.declared.op.HandleOp.TheVariants as handle_op
 use Rattle.executor_model.specs.declared.op.Hold.TheVariants as hold
 use Rattle.executor_model.specs.declared.op.Op.{Op}
 use Rattle.executor_model.specs.declared.op.Op.TheVariants as op
@@ -21,11 +19,11 @@ use Rattle.plain_scheduler.specs.State.{Choice, Lose, Plain, Refusal}
 use Rattle.plain_scheduler.specs.Calls as plain
 use Rattle.plain_scheduler.specs.Calls.{does, Ends}
 use Rattle.machine_roads.specs.View.{Output, wakes}
-use Rattle.machine_roads.specs.Alone.{alone, is_resting, Has, HasAll, HasAllOf}
+use Rattle.machine_roads.specs.Alone.{alone, is_resting, HasAll, HasAllOf}
 use Rattle.machine_roads.specs.Alike.{begins, upon}
 use Rattle.machine_roads.specs.Closing.{called, loses}
 use Rattle.machine_roads.specs.Course.{IsCall, cancel, copy, detach, drop_handle, poll_handle, release, use_waker, wake}
-use Rattle.machine_roads.specs.Dropped.{IsEndingBy, without_run}
+use Rattle.machine_roads.specs.Dropped.{without_run}
 use Rattle.machine_roads.specs.InLoss.{AreLosing, IsCallInLoss}
 use Rattle.machine_roads.specs.Losing.{left_of}
 use Rattle.machine_roads.specs.Untaken.{CallsBeside, HasBeside, InAnyUntaken, IsCallBeside, LosesBeside, LossEndsBeside, StandsUntaken}
@@ -33,7 +31,7 @@ use Rattle.machine_roads.specs.Untaken.{polls}
 use Rattle.machine_roads.proofs.Along.{goes_append, resting_goes}
 use Rattle.machine_roads.proofs.AlongBeside.{AlongBeside, along_beside, goes}
 use Rattle.machine_roads.proofs.InLoss.{calls_in_loss, loses_in_loss, loss_ends_in_loss}
-use Rattle.machine_roads.proofs.Owing.{Does, Kept, is_aside, Owes}
+use Rattle.machine_roads.proofs.Owing.{Does, Kept, is_aside}
 use Rattle.machine_roads.proofs.OwingActs.{act_does}
 
 module _ (f : ℕ) (awaiter : Option Waker) where

@@ -1,6 +1,6 @@
 -- The same where what is asked at each moment is asked of all that is left to do.
 use Rattle.std.proofs.Common.{◌≡◌, ℕ, ◌<◌, ◌==◌, ◌++◌, ◌&&◌, not, true, false, List, [], ◌∷◌, length}
-use Rattle.std.proofs.Common.{Option, Some, None, Ok, sym, ap, subst, ◌∙◌, get_or-set_same}
+use Rattle.std.proofs.Common.{None, Ok, sym, ap, subst, ◌∙◌, get_or-set_same}
 use Rattle.std.specs.Prelude.{reverse}
 use Rattle.executor_model.specs.declared.call.Call.{Call}
 use Rattle.executor_model.specs.declared.call.Reply.{Reply}
@@ -11,12 +11,11 @@ use Rattle.executor_model.specs.declared.op.UserOp.TheVariants as user_op
 use Rattle.executor_model.specs.declared.step.Hint.{Hint}
 use Rattle.executor_model.specs.declared.step.Step.{Step}
 use Rattle.executor_model.specs.declared.step.Step.TheVariants.{Begin, Go, Answer}
-use Rattle.executor_model.specs.declared.step.StepError.{StepError}
-use Rattle.executor_model.specs.declared.step.StepError.TheVariants.{Idle, WrongAnswer, Waits}
+use Rattle.executor_model.specs.declared.step.StepError.TheVariants.{WrongAnswer, Waits}
 use Rattle.executor_model.specs.declared.step.UserEnd.{UserEnd}
 use Rattle.executor_model.specs.Doing.{act}
 use Rattle.executor_model.specs.Executions.{run_all}
-use Rattle.executor_model.specs.Steps.{Machine, after, answer_refusal, go_refusal, is_locked_out, mine, onto, react, refusal}
+use Rattle.executor_model.specs.Steps.{Machine, after, go_refusal, is_locked_out, mine, onto, react, refusal}
 use Rattle.executor_model.specs.Steps.{stack, top, unless, waits}
 use Rattle.executor_model.specs.World.{World, Done, done}
 use Rattle.executor_model.proofs.SpawnWants.Tops.{flipped}

@@ -38,8 +38,8 @@ pub record IsLastPoll (w : World) (f : ℕ) : Type 0 where
   pub entered : among f w.table ≡ true
   pub last : is_last_waker move.EndPending (task w f) ≡ true
 
--- it is being dropped, and both stand alike but for who awaits it
-pub record IsForgotten (w : World) (f : ℕ) (q : Plain Output Waker) : Type 0 where
+-- it is being dropped, and but for who awaits it both stand so
+pub record IsForgottenBy (So : World → Plain Output Waker → Type 0) (w : World) (f : ℕ) (q : Plain Output Waker) : Type 0 where
   pub known : f < length w.tasks
   pub entered : among f w.table ≡ true
   pub spent : (task w f).references ≡ 0
@@ -47,7 +47,11 @@ pub record IsForgotten (w : World) (f : ℕ) (q : Plain Output Waker) : Type 0 w
   pub finished : (plain.task f q).phase ≡ Finished
   pub closed : (plain.task f q).closed ≡ true
   pub awaited : (plain.task f q).awaiter ≡ waker_in (awaiter_of w f)
-  pub follows : Follows (without_awaiter f w) (unawaited f q)
+  pub follows : So (without_awaiter f w) (unawaited f q)
+
+-- both stand alike but for who awaits it
+abbrev pub IsForgotten : World → ℕ → Plain Output Waker → Type 0
+IsForgotten w f q = IsForgottenBy Follows w f q
 
 -- the call stands in that drop
 pub record StopsForgetting (taker : Taker Waker) (final : Op) (below : List Op) (f : ℕ) (q : Plain Output Waker) (end : Done)

@@ -1,4 +1,5 @@
 pub mod Untaken
+pub mod InForgotten
 pub mod View
 pub mod Moving
 pub mod Seeing

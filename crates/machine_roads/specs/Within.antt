@@ -29,8 +29,9 @@ use Rattle.executor_model.specs.Executions.{run_all}
 use Rattle.executor_model.specs.Steps.{Machine, after, future_of, is_on_executor, is_static_kind, kept, mine, party_of, stack, start, top}
 use Rattle.executor_model.specs.Steps.{waker_of}
 use Rattle.executor_model.specs.World.{Done, World, done}
-use Rattle.plain_scheduler.specs.State.{Choice, Code, Done as IsDone, DropOwn, Lose, Plain, PollOwn, Ready as IsReady, Run, Taker, Tick}
-use Rattle.plain_scheduler.specs.State.{Try}
+use Rattle.plain_scheduler.specs.State.{Choice, Closed, Code, Done as IsDone, Drop, DropOwn, Lose, Plain, PollOwn, Ready as IsReady, Run}
+use Rattle.plain_scheduler.specs.State.{Taker}
+use Rattle.plain_scheduler.specs.State.{Tick, Try}
 use Rattle.plain_scheduler.specs.Moves as moves
 use Rattle.plain_scheduler.specs.Calls as plain
 use Rattle.plain_scheduler.specs.Calls.{does, new}
@@ -40,6 +41,7 @@ use Rattle.machine_roads.specs.Alone.{is_outside, is_resting}
 use Rattle.machine_roads.specs.Course.{IsChosen}
 use Rattle.machine_roads.specs.Dropped.{Drops, rest_of}
 use Rattle.machine_roads.specs.Forgotten.{StopsForgetting}
+use Rattle.machine_roads.specs.InForgotten.{StandsForgotten}
 use Rattle.machine_roads.specs.InLoss.{AreLosing, StopsInLoss, loss_codes, loss_ops}
 use Rattle.machine_roads.specs.Refused.{IsLaterAnew}
 use Rattle.machine_roads.specs.Searching.{goes_on_by}
@@ -93,11 +95,12 @@ abbrev pub may_stand_in : Call → Bool
 may_stand_in call.DropExecutor = false
 may_stand_in _ = true
 
--- in the drop of an output, and in that of the own future of a run that goes
+-- in the drop of an output, in that of a future that nobody could wake any more, and in that of the own future of a run that goes
 abbrev pub lets_begin : List Op → Bool
 lets_begin (op.User (user_op.DropOutput f) ∷ op.Move move.Detach g ∷ os) = true
 lets_begin (op.User (user_op.DropOutput f) ∷ op.Move move.GiveUp g ∷ os) = true
 lets_begin (op.User (user_op.DropOutput f) ∷ op.Handle (handle_op.Notify g mine) ∷ os) = true
+lets_begin (op.User (user_op.Drop f) ∷ op.Table (table_op.LeaveTable g) ∷ op.Handle (handle_op.LetGo h) ∷ os) = true
 lets_begin (op.User (user_op.DropOwn r) ∷ op.Run o ∷ os) = true
 lets_begin (op.User (user_op.DropOwn r) ∷ op.List (list_op.LockWrite (section.Unregister k reply.Done)) ∷ os) = true
 lets_begin _ = false
@@ -207,6 +210,14 @@ pub record StopsUntaken (taker : Taker Waker) (final : Op) (below : List Op) (f 
   pub inside : q.inside ≡ loss_codes gs (Lose awaiter (Some taker) ∷ codes)
   pub stands : StandsUntaken e.world f awaiter gs q
 
+-- a future that nobody could wake is being dropped, and in that outputs, which go with their handles, one inside another
+pub record StopsForgotten (taker : Taker Waker) (final : Op) (below : List Op) (f : ℕ) (gs : List ℕ) (codes : List (Code Output Waker))
+    (e : Done) (q : Plain Output Waker) : Type 0 where
+  pub left : e.next
+      ≡ loss_ops gs (op.User (user_op.Drop f) ∷ op.Table (table_op.LeaveTable f) ∷ op.Handle (handle_op.LetGo f) ∷ final ∷ below)
+  pub inside : q.inside ≡ loss_codes gs (Drop f Closed taker ∷ codes)
+  pub stands : StandsForgotten e.world f gs q
+
 -- both stand alike, or, in such a drop, alike but for what the call still owes
 pub data StandsAlike (e : Done) (q : Plain Output Waker) : Type 0 where
   alike : Nested e.next q.inside → Follows e.world q → StandsAlike e q
@@ -222,6 +233,8 @@ pub data StandsAlike (e : Done) (q : Plain Output Waker) : Type 0 where
   forgetting : (taker : Taker Waker) (final : Op) (below : List Op) (f : ℕ) (b : Plain Output Waker)
       → GoesOnBy taker final → Nested below b.inside → StopsForgetting taker final below f b e q
       → StandsAlike e q
+  forgotten : (taker : Taker Waker) (final : Op) (below : List Op) (f g : ℕ) (gs : List ℕ) (codes : List (Code Output Waker))
+      → GoesOnBy taker final → Nested below codes → StopsForgotten taker final below f (g ∷ gs) codes e q → StandsAlike e q
 
 -- at each moment at which a party rests
 abbrev pub ActAlike : Machine → Plain Output Waker → List Act → Type 0

@@ -8,8 +8,8 @@ ghost use Rattle.machine_roads.specs.Within.{ListsActAlike};
 /// ends, each such act is a call of the new plain scheduler, or the end of its innermost code. Wherever
 /// the party rests both stand alike, or, in the drop of an output, of a future that nobody could wake,
 /// or of the own future of a run that goes, alike but for what the call there owes. In such drops only
-/// calls of wakers and handles begin, of outputs and of the own future of a run, but polls of a task in
-/// the drop of its output that nobody can take; the executor isn't dropped.
+/// calls of wakers and handles begin, but polls of a task in the drop of its output that nobody can take;
+/// the executor isn't dropped.
 pub fn lists_of_nested_calls_go_alike()
     ensures { ListsActAlike }
 {}

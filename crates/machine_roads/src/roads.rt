@@ -15,6 +15,7 @@ ghost use Rattle.machine_roads.specs.Dropped.{DropsAlikeInTake, LosesAlikeInTake
 ghost use Rattle.machine_roads.specs.Forgotten.{ForgetsAlikeInTake, ForgottenGoesAlike};
 ghost use Rattle.machine_roads.specs.GoingOn.{RunDropsAlike, RunForgetsAlike, RunLosesAlike};
 ghost use Rattle.machine_roads.specs.GoingOn.{RunPendsAlike};
+ghost use Rattle.machine_roads.specs.InForgotten.{CallsInForgotten, InAnyForgotten, LosesInForgotten, LossEndsInForgotten};
 ghost use Rattle.machine_roads.specs.InLoss.{CallsInLoss, InAnyLoss, LosesInLoss, LossEndsInLoss};
 ghost use Rattle.machine_roads.specs.Losing.{DetachesToLose, GoesToLose, LosesAlike};
 ghost use Rattle.machine_roads.specs.Road.{Follows};
@@ -215,4 +216,13 @@ pub fn calls_beside_a_lost_output_are_calls()
     ensures calls { InAnyUntaken CallsBeside }
     ensures comes { InAnyUntaken LosesBeside }
     ensures ends { InAnyUntaken LossEndsBeside }
+{}
+
+/// In the drop of a future that nobody could wake or ask for, too, where the machine's task still has who
+/// awaits it, and in drops of outputs inside of that: calls of wakers and handles of other tasks leave both
+/// alike but for this.
+pub fn calls_in_a_forgotten_futures_drop_are_calls()
+    ensures calls { InAnyForgotten CallsInForgotten }
+    ensures comes { InAnyForgotten LosesInForgotten }
+    ensures ends { InAnyForgotten LossEndsInForgotten }
 {}

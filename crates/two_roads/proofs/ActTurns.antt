@@ -58,7 +58,7 @@ use Rattle.machine_roads.specs.View.{Output}
 use Rattle.machine_roads.specs.Within as within
 use Rattle.machine_roads.specs.Within.{Act, GoesOnBy, IsAct, IsCallIn, IsLeaving, IsMade, Nested, StandsAlike, rests_after, standing}
 use Rattle.machine_roads.specs.Within.{alike, by_run, by_tick, by_try, dropping, drops_own, forgetting, going, listed, losing, nowhere}
-use Rattle.machine_roads.specs.Within.{untaken}
+use Rattle.machine_roads.specs.Within.{forgotten, untaken}
 use Rattle.machine_roads.specs.Within.{polls_own, takes, unlisted}
 use Rattle.machine_roads.proofs.DropPlaces.{loss_rests}
 use Rattle.machine_roads.proofs.Inmost.{rests_in}
@@ -91,6 +91,7 @@ rests_alike e q (dropping taker final below f b it nested (drop_answered next in
 rests_alike e q (dropping taker final below f b it nested (loses awaiter next inside ending)) = ap (λ os. is_resting os) next
 rests_alike e q (untaken taker final below f awaiter g gs codes it nested stops) = ap (λ os. is_resting os) stops.left
 rests_alike e q (forgetting taker final below f b it nested stops) = ap (λ os. is_resting os) stops.left
+rests_alike e q (forgotten taker final below f g gs codes it nested stops) = ap (λ os. is_resting os) stops.left
 
 owes_going : (r : ℕ) (rest : Op) → IsLeaving r rest → (below : List Op) → owes (op.User (user_op.DropOwn r) ∷ rest ∷ below) ≡ true
 owes_going r rest unlisted below = refl
@@ -114,6 +115,8 @@ follows_here e q (dropping taker final below f b it nested (loses awaiter next i
 follows_here e q (untaken taker final below f awaiter g gs codes it nested stops) even =
     absurd (clash even (ap (λ os. owes os) stops.left))
 follows_here e q (forgetting taker final below f b it nested stops) even = absurd (clash even (ap (λ os. owes os) stops.left))
+follows_here e q (forgotten taker final below f g gs codes it nested stops) even =
+    absurd (clash even (ap (λ os. owes os) stops.left))
 
 -- numbers in use are distinct
 apart_here : (s : Machine) → Reached s → (x : TickOrRun) → SleepsAlone s.world x
@@ -230,6 +233,10 @@ alike_rests e q (forgetting taker final below f b it nested stops) =
     (subst
     (λ codes. Rests codes (op.User (user_op.Drop f) ∷ op.Table (table_op.LeaveTable f) ∷ op.Handle (handle_op.LetGo f) ∷ final ∷ below))
     (sym stops.inside) (behind_drop taker final below it (due_in below b.inside nested) f _ (op.Handle (handle_op.LetGo f)) refl b.inside))
+alike_rests e q (forgotten taker final below f g gs codes it nested stops) =
+    let os = op.User (user_op.Drop f) ∷ op.Table (table_op.LeaveTable f) ∷ op.Handle (handle_op.LetGo f) ∷ final ∷ below in
+    subst (λ os. Rests q.inside os) (sym stops.left)
+    (behind_lost g (loss_ops gs os) (due_resting (loss_ops gs os) (loss_rests gs os refl)) q.inside)
 
 module _ (s : Machine) (reached : Reached s) (p : ℕ) (q : Plain Output Waker) (stands : StandsAlike (standing s p) q) (new : Machine) where
   abbrev Turns : ℕ → Type 0

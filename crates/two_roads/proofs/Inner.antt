@@ -16,9 +16,11 @@ use Rattle.plain_scheduler.specs.Lists.{on}
 use Rattle.plain_scheduler.specs.Moves.{runs, task}
 use Rattle.plain_scheduler.specs.Calls.{Call, course, new}
 use Rattle.machine_roads.specs.Dropped.{Drops, answered, loses, without_run}
+use Rattle.machine_roads.specs.Forgotten.{without_awaiter}
 use Rattle.machine_roads.specs.Seeing.{heard_in, shown as shown_alike}
 use Rattle.machine_roads.specs.View.{Output, wakes as wakes_in}
-use Rattle.machine_roads.specs.Within.{Act, ActAlike, StandsAlike, alike, dropping, forgetting, going, losing, standing, untaken}
+use Rattle.machine_roads.specs.Within.{Act, ActAlike, StandsAlike, alike, dropping, forgetting, forgotten, going}
+use Rattle.machine_roads.specs.Within.{losing, standing, untaken}
 use Rattle.machine_roads.proofs.InLoss.{trace_through}
 use Rattle.machine_roads.proofs.Puts.{put_by}
 use Rattle.solo_laws.specs.Courses.{Leads}
@@ -62,6 +64,10 @@ seen_in e q (untaken taker final below f awaiter g gs codes it nested stops) =
 seen_in e q (forgetting taker final below f b it nested stops) =
     stops.forgotten.follows.seen
     ∙ put_by (λ p. map shown_alike p.events) f (record (task f q) { awaiter = None }) q (λ fs. refl)
+seen_in e q (forgotten taker final below f g gs codes it nested stops) =
+    ap (λ t. heard_in t) (sym (trace_through (g ∷ gs) (without_awaiter f e.world)))
+    ∙ (stops.stands.follows.follows.seen
+    ∙ put_by (λ p. map shown_alike p.events) f (record (task f q) { awaiter = None }) q (λ fs. refl))
 
 pub acts_seen : (s : Machine) (q : Plain Output Waker) (acts : List Act) (go : ActAlike s q acts)
     → heard_in s.world.trace ≡ map shown_alike q.events

@@ -24,7 +24,7 @@ use Rattle.machine_roads.specs.InLoss.{without_handles}
 use Rattle.machine_roads.specs.Refused.{IsLaterAnew, OneMoreLies}
 use Rattle.machine_roads.specs.Road.{Follows, sleeper, uncalled}
 use Rattle.machine_roads.specs.View.{Output, wakes as wakes_in}
-use Rattle.machine_roads.specs.Within.{StandsAlike, alike, dropping, forgetting, going, losing, untaken}
+use Rattle.machine_roads.specs.Within.{StandsAlike, alike, dropping, forgetting, forgotten, going, losing, untaken}
 use Rattle.machine_roads.proofs.InLoss.{sleepers_through}
 use Rattle.machine_roads.proofs.Puts.{put_by}
 use Rattle.two_roads.specs.Acting.{goes_on_in, is_runs, takes_for_run}
@@ -313,6 +313,9 @@ lie_in e q (untaken taker final below f awaiter g gs codes it nested stops) =
     lie_without (g ∷ gs) (without_run f e.world) q stops.stands.follows.follows
 lie_in e q (forgetting taker final below f b it nested stops) =
     lie_of (without_awaiter f e.world) (unawaited f q) stops.forgotten.follows
+    ∙ put_by (λ p. length (uncalled p.lying)) f (record (task f q) { awaiter = None }) q (λ fs. refl)
+lie_in e q (forgotten taker final below f g gs codes it nested stops) =
+    lie_without (g ∷ gs) (without_awaiter f e.world) (unawaited f q) stops.stands.follows.follows
     ∙ put_by (λ p. length (uncalled p.lying)) f (record (task f q) { awaiter = None }) q (λ fs. refl)
 
 pub lie_in_drop : (e : Done) (q : Plain Output Waker) → StandsDropping e q → Lie e.world q

@@ -13,7 +13,7 @@ use Rattle.solo.specs.declared.names.SoloWaker.{SoloWaker}
 use Rattle.solo.specs.declared.owed.Lent.{Lent}
 use Rattle.solo.specs.declared.solo.Solo.{Solo}
 use Rattle.solo.specs.Solo.{IsNew, counts}
-use Rattle.plain_scheduler.specs.State.{Answers, Choice, Close, Code, Drop, DropOwn, Event, Gives, Lose, Plain, Poll, PollOwn, Run, Taker}
+use Rattle.plain_scheduler.specs.State.{Answers, Choice, Close, Code, Drop, DropOwn, Due, Event, Gives, Lose, Plain, Poll, PollOwn, Run, Taker}
 use Rattle.plain_scheduler.specs.State.{Tick, Try, Who}
 use Rattle.plain_scheduler.specs.Calls as calls
 use Rattle.plain_scheduler.specs.Calls.{Call, course, does, new}
@@ -68,15 +68,15 @@ module _ {A : Type 0} (c d : Choice) where
   goes_on_alone (Run r w) is = absurd cc
 
 module _ {T A : Type 0} (c d : Choice) where
-  ends_alone : (codes : List (Code T A)) → goes_on_in codes ≡ false → InnermostAlike c d codes
-  ends_alone [] is = tt
-  ends_alone (Poll f by ∷ codes) is = goes_on_alone c d by is
-  ends_alone (Drop f end by ∷ codes) is = goes_on_alone c d by is
-  ends_alone (Lose awaiter None ∷ codes) is = tt
-  ends_alone (Lose awaiter (Some by) ∷ codes) is = goes_on_alone c d by is
-  ends_alone (PollOwn r w ∷ codes) is = absurd cc
-  ends_alone (DropOwn r answer ∷ codes) is = tt
-  ends_alone (Close fs all ∷ codes) is = tt
+  ends_alone : (due : List Due) (codes : List (Code T A)) → goes_on_in codes ≡ false → InnermostAlike c d due codes
+  ends_alone due [] is = tt
+  ends_alone due (Poll f by ∷ codes) is = goes_on_alone c d by is
+  ends_alone due (Drop f end by ∷ codes) is = goes_on_alone c d by is
+  ends_alone due (Lose awaiter None ∷ codes) is = tt
+  ends_alone due (Lose awaiter (Some by) ∷ codes) is = goes_on_alone c d by is
+  ends_alone due (PollOwn r w ∷ codes) is = absurd cc
+  ends_alone due (DropOwn r answer ∷ codes) is = tt
+  ends_alone due (Close fs all ∷ codes) is = tt
 
 -- each call tells who lay down last
 module _ {T X : Type 0} where
@@ -114,8 +114,8 @@ module _ {T X : Type 0} (number : X → ℕ) where
           → (is_take (call_as nothing (numbered number) call) ≡ true → d.first ≡ first_of s.world.urgent_turns) → CallsAlike c d p call
       by calls.TryTick looks alone takes = λ both. looks refl ∙ sym (takes refl)
       by (calls.PollTick t w) looks alone takes = λ both. looks refl ∙ sym (takes refl)
-      by calls.Pends looks alone takes = ends_alone c d p.inside alone
-      by calls.Ends looks alone takes = ends_alone c d p.inside alone
+      by calls.Pends looks alone takes = ends_alone c d p.due p.inside alone
+      by calls.Ends looks alone takes = ends_alone c d p.due p.inside alone
       by (calls.Spawn m) looks alone takes = tt
       by calls.IsEmpty looks alone takes = tt
       by (calls.Wake f) looks alone takes = tt

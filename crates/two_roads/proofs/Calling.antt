@@ -287,18 +287,18 @@ module _ {T U A B : Type 0} (k : Setting T U A B) where
   pending_same abstract.PendingEnd.Queues f by on_so p few = goes_on_same f by on_so p few
   pending_same abstract.PendingEnd.Rests f by on_so p few = goes_on_same f by on_so p few
 
-  pends_same : (code : Code T A) → EndsAlike c d code → (p : Plain T A) → Few k p
+  pends_same : (code : Code T A) (p : Plain T A) → EndsAlike c d p.due code → Few k p
       → Same k (calls.pends k.wakes c code p) (calls.pends k.wakes_as d (code_so code) (now k p))
-  pends_same (Poll f by) alike p few =
+  pends_same (Poll f by) p alike few =
       subst
       (λ (t : AbstractTask U B). Same k (calls.pends k.wakes c (Poll f by) p)
       (calls.pending_by k.wakes_as d (abstract.pending_end t) f (taker k by) (now k p)))
       (task_alike k f p) (pending_same (abstract.pending_end (task f p)) f by alike p few)
-  pends_same (PollOwn r w) alike p few = take_same k (Run r w) p alike few
-  pends_same (Drop f end by) alike p few = stays_same k p
-  pends_same (Lose awaiter by) alike p few = stays_same k p
-  pends_same (DropOwn r answer) alike p few = stays_same k p
-  pends_same (Closing fs all) alike p few = stays_same k p
+  pends_same (PollOwn r w) p alike few = take_same k (Run r w) p alike few
+  pends_same (Drop f end by) p alike few = stays_same k p
+  pends_same (Lose awaiter by) p alike few = stays_same k p
+  pends_same (DropOwn r answer) p alike few = stays_same k p
+  pends_same (Closing fs all) p alike few = stays_same k p
 
   gives_same : (v : T) (code : Code T A) (p : Plain T A) → Few k p
       → Same k (calls.gives k.wakes c v code p) (calls.gives k.wakes_as d (k.output v) (code_so code) (now k p))
@@ -309,22 +309,22 @@ module _ {T U A B : Type 0} (k : Setting T U A B) where
   gives_same v (DropOwn r answer) p few = stays_same k p
   gives_same v (Closing fs all) p few = stays_same k p
 
-  ends_same : (code : Code T A) → EndsAlike c d code → (p : Plain T A) → Few k p
+  ends_same : (code : Code T A) (p : Plain T A) → EndsAlike c d p.due code → Few k p
       → Same k (calls.ends k.wakes c code p) (calls.ends k.wakes_as d (code_so code) (now k p))
-  ends_same (Drop f end by) alike p few = dropped_same k f end by alike p few
-  ends_same (Lose awaiter by) alike p few = lost_same k awaiter by alike p few
-  ends_same (DropOwn r answer) alike p few =
+  ends_same (Drop f end by) p alike few = dropped_same k f end by alike p few
+  ends_same (Lose awaiter by) p alike few = lost_same k awaiter by alike p few
+  ends_same (DropOwn r answer) p alike few =
       says answer (calls.gone k.wakes c r p) (calls.gone k.wakes_as d r (now k p)) (gone_alike r p few)
-  ends_same (Closing fs all) alike p few = close_same fs all p few
-  ends_same (Poll f by) alike p few = stays_same k p
-  ends_same (PollOwn r w) alike p few = stays_same k p
+  ends_same (Closing fs all) p alike few = close_same fs all p few
+  ends_same (Poll f by) p alike few = stays_same k p
+  ends_same (PollOwn r w) p alike few = stays_same k p
 
   innermost_same : (end : Code T A → Plain T A → Plain T A) (end_as : Code U B → Plain U B → Plain U B)
-      → ((code : Code T A) → EndsAlike c d code → (p : Plain T A) → Few k p → Same k (end code p) (end_as (code_so code) (now k p)))
-      → (codes : List (Code T A)) → InnermostAlike c d codes → (p : Plain T A) → Few k p
+      → ((code : Code T A) (p : Plain T A) → EndsAlike c d p.due code → Few k p → Same k (end code p) (end_as (code_so code) (now k p)))
+      → (codes : List (Code T A)) (p : Plain T A) → InnermostAlike c d p.due codes → Few k p
       → Same k (calls.innermost k.wakes c codes end p) (calls.innermost k.wakes_as d (map code_so codes) end_as (now k p))
-  innermost_same end end_as both [] alike p few = stays_same k p
-  innermost_same end end_as both (code ∷ rest) alike p few = both code alike (record p { inside = rest }) few
+  innermost_same end end_as both [] p alike few = stays_same k p
+  innermost_same end end_as both (code ∷ rest) p alike few = both code (record p { inside = rest }) alike few
 
   gives_innermost : (v : T) (codes : List (Code T A)) (p : Plain T A) → Few k p
       → Same k (calls.innermost k.wakes c codes (calls.gives k.wakes c v) p)
@@ -389,10 +389,10 @@ module _ {T U A B : Type 0} (k : Setting T U A B) where
       subst (λ ns. Same k (does k.wakes c calls.DropExecutor p) (calls.close k.wakes_as d ns ns (now k p)))
       (sym (living_so 0 p.futures)) (close_same (living_from 0 p.futures) (living_from 0 p.futures) p few)
   call_same calls.Pends p alike few =
-      innermost_same (calls.pends k.wakes c) (calls.pends k.wakes_as d) pends_same p.inside alike p few
+      innermost_same (calls.pends k.wakes c) (calls.pends k.wakes_as d) pends_same p.inside p alike few
   call_same (calls.EndsWith v) p alike few = gives_innermost v p.inside p few
   call_same calls.Ends p alike few =
-      innermost_same (calls.ends k.wakes c) (calls.ends k.wakes_as d) ends_same p.inside alike p few
+      innermost_same (calls.ends k.wakes c) (calls.ends k.wakes_as d) ends_same p.inside p alike few
 
 module _ {T U A B : Type 0} (output : T → U) (waker : A → B) (wakes : A → Option ℕ) (wakes_as : B → Option ℕ)
     (same : (a : A) → wakes_as (waker a) ≡ wakes a) where

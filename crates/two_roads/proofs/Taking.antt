@@ -18,6 +18,7 @@ use Rattle.plain_scheduler.specs.Moves.{answers, called, chosen, copied, enters,
 use Rattle.plain_scheduler.specs.Moves.{put}
 use Rattle.plain_scheduler.specs.Moves.{runs, see, task, tell, up, wake}
 use Rattle.plain_scheduler.specs.Takes as takes
+use Rattle.machine_roads.proofs.RunLies.{none_due}
 use Rattle.two_roads.specs.Renaming.{AreBothDue, GoesOnAlike, GoesOnIf, RunsAlike, TakesAlike}
 use Rattle.two_roads.specs.Renaming.{answer_as, end_as, event_as, lying_as, taker_as}
 use Rattle.two_roads.proofs.Words.{find_map, map_append, without_map}
@@ -252,30 +253,18 @@ module _ {T U A B : Type 0} (k : Setting T U A B) where
   nothing_same (Tick t w) p few = rests_so (ATick t) w p few
   nothing_same (Run r w) p few = rests_so (ARun r) w p few
 
-  pub take_same : (by : Taker A) (p : Plain T A) → TakesAlike c d by p.due → Few k p
+  take_so : (by : Taker A) (p : Plain T A) → chosen (looks c by) p.due ≡ chosen (looks d (taker by)) p.due → GoesOnAlike c d by → Few k p
       → Same (takes.take k.wakes c by p) (takes.take k.wakes_as d (taker by) (now k p))
-  take_same by p alike few =
+  take_so by p looked on_so few =
       subst
       (λ test. Same (takes.take k.wakes c by p)
       (or (find test p.due)
       (λ due. takes.takes k.wakes_as d (taker by) due (record (now k p) { due = without test p.due }))
       (takes.nothing k.wakes_as d (taker by) (now k p))))
-      (looked by alike) (found (find test p.due))
+      looked (found (find test p.due))
     where
       test : Due → Bool
       test = chosen (looks c by) p.due
-
-      looked : (by : Taker A) → TakesAlike c d by p.due → chosen (looks c by) p.due ≡ chosen (looks d (taker by)) p.due
-      looked Try alike = looks_alike c.first d.first p.due alike
-      looked (Tick t w) alike = looks_alike c.first d.first p.due alike
-      looked (Run r w) alike =
-          ap (λ first. chosen (is_kept r ∷ is_common first ∷ is_common (other first) ∷ is_kept c.robs ∷ is_due ∷ []) p.due) alike.first
-          ∙ ap (λ robs. chosen (is_kept r ∷ is_common d.first ∷ is_common (other d.first) ∷ is_kept robs ∷ is_due ∷ []) p.due) alike.robs
-
-      goes_on : (by : Taker A) → TakesAlike c d by p.due → GoesOnAlike c d by
-      goes_on Try alike = tt
-      goes_on (Tick t w) alike = tt
-      goes_on (Run r w) alike = alike
 
       found : (o : Option Due)
           → Same
@@ -283,7 +272,39 @@ module _ {T U A B : Type 0} (k : Setting T U A B) where
           (or o (λ due. takes.takes k.wakes_as d (taker by) due (record (now k p) { due = without test p.due }))
           (takes.nothing k.wakes_as d (taker by) (now k p)))
       found None = nothing_same by p few
-      found (Some due) = (takes_alike by due (goes_on by alike) (record p { due = without test p.due }) few).same
+      found (Some due) = (takes_alike by due on_so (record p { due = without test p.due }) few).same
+
+  -- where nothing is due, no choice matters
+  none_taken : (by : Taker A) (p : Plain T A) → p.due ≡ [] → Few k p
+      → Same (takes.take k.wakes c by p) (takes.take k.wakes_as d (taker by) (now k p))
+  none_taken by p none few =
+      subst
+      (λ (ds : List Due). Same
+      (or (find (chosen (looks c by) ds) ds)
+      (λ due. takes.takes k.wakes c by due (record p { due = without (chosen (looks c by) ds) ds })) (takes.nothing k.wakes c by p))
+      (or (find (chosen (looks d (taker by)) ds) ds)
+      (λ due. takes.takes k.wakes_as d (taker by) due (record (now k p) { due = without (chosen (looks d (taker by)) ds) ds }))
+      (takes.nothing k.wakes_as d (taker by) (now k p))))
+      (sym none) (nothing_same by p few)
+
+  run_taken : (r : ℕ) (w : A) (p : Plain T A) → (any is_due p.due ≡ true → RunsAlike c d) → Few k p → (b : Bool)
+      → any is_due p.due ≡ b → Same (takes.take k.wakes c (Run r w) p) (takes.take k.wakes_as d (Run r (k.waker w)) (now k p))
+  run_taken r w p alike few false none = none_taken (Run r w) p (none_due p.due none) few
+  run_taken r w p alike few true some = take_so (Run r w) p looked both few
+    where
+      both : RunsAlike c d
+      both = alike some
+
+      looked : chosen (looks c (Run r w)) p.due ≡ chosen (looks d (Run r (k.waker w))) p.due
+      looked =
+          ap (λ first. chosen (is_kept r ∷ is_common first ∷ is_common (other first) ∷ is_kept c.robs ∷ is_due ∷ []) p.due) both.first
+          ∙ ap (λ robs. chosen (is_kept r ∷ is_common d.first ∷ is_common (other d.first) ∷ is_kept robs ∷ is_due ∷ []) p.due) both.robs
+
+  pub take_same : (by : Taker A) (p : Plain T A) → TakesAlike c d by p.due → Few k p
+      → Same (takes.take k.wakes c by p) (takes.take k.wakes_as d (taker by) (now k p))
+  take_same Try p alike few = take_so Try p (looks_alike c.first d.first p.due alike) tt few
+  take_same (Tick t w) p alike few = take_so (Tick t w) p (looks_alike c.first d.first p.due alike) tt few
+  take_same (Run r w) p alike few = run_taken r w p alike few (any is_due p.due) refl
 
   -- what goes on after a future
   gives_way_same : (r : ℕ) (w : A) (p : Plain T A) → Few k p
@@ -321,7 +342,7 @@ module _ {T U A B : Type 0} (k : Setting T U A B) where
   next_same (Run r w) on p few =
       if_same (nat_lt (or (slice_get p.runs r) (λ run. run.taken) 0) 200) (takes.take k.wakes c (Run r w) p)
       (takes.gives_way k.wakes c r w p) (takes.take k.wakes_as d (Run r (k.waker w)) (now k p))
-      (takes.gives_way k.wakes_as d r (k.waker w) (now k p)) (take_same (Run r w) p on few) (gives_way_same r w p few)
+      (takes.gives_way k.wakes_as d r (k.waker w) (now k p)) (take_same (Run r w) p (λ some. on) few) (gives_way_same r w p few)
 
   pub lost_same : (awaiter : Option A) (by : Option (Taker A)) → GoesOnIf c d by → (p : Plain T A) → Few k p
       → Same (takes.lost k.wakes c awaiter by p)

@@ -8,7 +8,7 @@ use Rattle.plain_scheduler.specs.State.{DropOwn}
 use Rattle.plain_scheduler.specs.State.{Close, Event, Polls, Drops, Loses, Calls, Answers, Choice, Plain}
 use Rattle.plain_scheduler.specs.State.{Answer, Made, Full, NoMemory, Yes, No, Pending, Ready, Gives, Cancelled, Finished, Done}
 use Rattle.plain_scheduler.specs.Lists.{any}
-use Rattle.plain_scheduler.specs.Moves.{is_common}
+use Rattle.plain_scheduler.specs.Moves.{is_common, is_due}
 use Rattle.plain_scheduler.specs.Calls.{Call, Spawn, TryTick, IsEmpty, Wake, Use, Copy, Release, PollHandle, Cancel, Detach, DropHandle}
 use Rattle.plain_scheduler.specs.Calls.{NewTick, PollTick, DropTick, NewRun, PollRun, DropRun, Leak, DropExecutor, Pends, EndsWith, Ends}
 use Rattle.plain_scheduler.specs.Calls.{does}
@@ -126,7 +126,7 @@ pub record RunsAlike (c d : Choice) : Type 0 where
   pub moves : c.moves ≡ d.moves
 
 -- which of the two choices have to be the same: at which mark is looked first matters where a try or a tick takes a future while
--- futures of both are due; how a run takes and keeps matters only to a run
+-- futures of both are due; how a run takes and keeps matters only to a run, and where any is due
 module _ (c d : Choice) where
   abbrev pub FirstAlike : List Due → Type 0
   FirstAlike due = AreBothDue due → c.first ≡ d.first
@@ -135,7 +135,7 @@ module _ (c d : Choice) where
     abbrev pub TakesAlike : Taker A → List Due → Type 0
     TakesAlike Try due = FirstAlike due
     TakesAlike (Tick t w) due = FirstAlike due
-    TakesAlike (Run r w) due = RunsAlike c d
+    TakesAlike (Run r w) due = any is_due due ≡ true → RunsAlike c d
 
     -- behind a future a run takes another
     abbrev pub GoesOnAlike : Taker A → Type 0
@@ -148,23 +148,24 @@ module _ (c d : Choice) where
     GoesOnIf (Some by) = GoesOnAlike by
 
   module _ {T A : Type 0} where
-    abbrev pub EndsAlike : Code T A → Type 0
-    EndsAlike (Poll f by) = GoesOnAlike by
-    EndsAlike (Drop f end by) = GoesOnAlike by
-    EndsAlike (Lose awaiter by) = GoesOnIf by
-    EndsAlike (PollOwn r w) = RunsAlike c d
-    EndsAlike (DropOwn r answer) = Unit {0}
-    EndsAlike (Close fs all) = Unit {0}
+    -- where its own future is pending it takes one only where any is due
+    abbrev pub EndsAlike : List Due → Code T A → Type 0
+    EndsAlike due (Poll f by) = GoesOnAlike by
+    EndsAlike due (Drop f end by) = GoesOnAlike by
+    EndsAlike due (Lose awaiter by) = GoesOnIf by
+    EndsAlike due (PollOwn r w) = TakesAlike (Run r w) due
+    EndsAlike due (DropOwn r answer) = Unit {0}
+    EndsAlike due (Close fs all) = Unit {0}
 
-    abbrev pub InnermostAlike : List (Code T A) → Type 0
-    InnermostAlike [] = Unit {0}
-    InnermostAlike (code ∷ codes) = EndsAlike code
+    abbrev pub InnermostAlike : List Due → List (Code T A) → Type 0
+    InnermostAlike due [] = Unit {0}
+    InnermostAlike due (code ∷ codes) = EndsAlike due code
 
     abbrev pub CallsAlike : Plain T A → Call T A → Type 0
     CallsAlike p TryTick = FirstAlike p.due
     CallsAlike p (PollTick t w) = FirstAlike p.due
-    CallsAlike p Pends = InnermostAlike p.inside
-    CallsAlike p Ends = InnermostAlike p.inside
+    CallsAlike p Pends = InnermostAlike p.due p.inside
+    CallsAlike p Ends = InnermostAlike p.due p.inside
     CallsAlike p _ = Unit {0}
 
 -- one call, by two choices: the same is refused, and both tell who lay down last

@@ -1,6 +1,6 @@
 -- The ends of codes in which a party stands in calls one inside another, by kinds of code: where its call rests next, both stand alike.
 use Rattle.std.proofs.Common.{◌≡◌, ℕ, suc, ◌<◌, ◌≤◌, ◌++◌, Bool, true, false, List, ◌∷◌, length, Option, Some, None}
-use Rattle.std.proofs.Common.{◌==◌, ◌||◌, nat_lt, if◌then◌else◌, refl, sym, ap, subst, ◌∙◌, slice_get, arith}
+use Rattle.std.proofs.Common.{◌==◌, ◌||◌, ◌&&◌, not, nat_lt, if◌then◌else◌, refl, sym, ap, subst, ◌∙◌, slice_get, arith}
 use Rattle.std.specs.Prelude.{reverse}
 use Rattle.task_moves.specs.declared.moves.owed.Move.{Move}
 use Rattle.task_moves.specs.declared.moves.owed.Move.TheVariants as move
@@ -18,6 +18,7 @@ use Rattle.executor_model.specs.declared.op.TickOp.TheVariants as tick_op
 use Rattle.executor_model.specs.declared.op.UserOp.TheVariants as user_op
 use Rattle.executor_model.specs.declared.op.Waker.{Waker}
 use Rattle.executor_model.specs.declared.step.Step.TheVariants.{Answer}
+use Rattle.executor_model.specs.declared.step.Hint.{Hint}
 use Rattle.executor_model.specs.declared.step.StepError.TheVariants.{WrongAnswer}
 use Rattle.executor_model.specs.declared.step.UserEnd.{UserEnd}
 use Rattle.executor_model.specs.declared.step.UserEnd.TheVariants as end
@@ -31,28 +32,27 @@ use Rattle.executor_model.proofs.OwnQueues.Using.{emptying_of, polling_of}
 use Rattle.executor_model.proofs.Steps.Reached.{Reached}
 use Rattle.executor_model.proofs.Steps.Stepping.{refusal-there}
 use Rattle.executor_laws.proofs.Termination.LoneEnds.{OthersRest}
-use Rattle.plain_scheduler.specs.State.{Done as DoneAnswer}
 use Rattle.plain_scheduler.specs.State.{Choice, Closed, Code, Drop, DropOwn, End, Future, Granted, Lose, Plain, Poll, PollOwn, Ready, Run}
-use Rattle.plain_scheduler.specs.State.{Taker}
-use Rattle.plain_scheduler.specs.Lists.{on, or}
-use Rattle.plain_scheduler.specs.Moves.{is_kept}
+use Rattle.plain_scheduler.specs.State.{Done as DoneAnswer, Taker}
+use Rattle.plain_scheduler.specs.Lists.{any, on, or}
+use Rattle.plain_scheduler.specs.Moves.{is_due, is_kept}
 use Rattle.plain_scheduler.specs.Takes as plain_takes
 use Rattle.plain_scheduler.specs.Moves as plain
 use Rattle.plain_scheduler.specs.Calls as plain_calls
 use Rattle.plain_scheduler.specs.Calls.{does, Ends, EndsWith, Pends}
 use Rattle.machine_roads.specs.View.{Output, wakes}
 use Rattle.machine_roads.specs.Road.{Follows, futures_in, waking_in}
-use Rattle.machine_roads.specs.Alone.{alone, is_resting}
+use Rattle.machine_roads.specs.Alone.{HasAll, alone, is_resting}
 use Rattle.machine_roads.specs.Dropped.{Drops, IsEnding, rest_of, without_run}
 use Rattle.machine_roads.specs.Forgotten.{IsForgotten, IsLastPoll, unawaited, without_awaiter}
+use Rattle.machine_roads.specs.Refused.{IsLaterAnew, OneMoreLies, is_in_own}
 use Rattle.machine_roads.specs.Searching.{goes_on_by}
 use Rattle.machine_roads.specs.Stopped.{IsInPoll, given, pended}
-use Rattle.machine_roads.specs.Within.{IsLeaving, listed, unlisted}
 use Rattle.machine_roads.specs.Within.{ActsBy, IsMade, Nested, alike, ends, gives, pends}
-use Rattle.machine_roads.specs.Within.{GoesOnBy, by_run, by_tick, by_try, drops_own}
+use Rattle.machine_roads.specs.Within.{GoesOnBy, IsLeaving, by_run, by_tick, by_try, drops_own, listed, unlisted}
 use Rattle.machine_roads.proofs.ActBegins.{choice_in, enough, more_by_one}
 use Rattle.machine_roads.proofs.ActLands.{Facts, FactsOf, after_lands, between, drops_lands, forgets_lands, goes_lands, passes_lands}
-use Rattle.machine_roads.proofs.ActLands.{stays_lands}
+use Rattle.machine_roads.proofs.ActLands.{rests_so, stays_lands}
 use Rattle.machine_roads.proofs.Calling.{idles}
 use Rattle.machine_roads.proofs.Counting.{Alike, Counted, StandsSo, Taken, lasts, leaves, like, none_last, none_left, over_in, some_op}
 use Rattle.machine_roads.proofs.Counting.{taken_in}
@@ -69,6 +69,7 @@ use Rattle.machine_roads.proofs.Pending.{gives_so, pends_by}
 use Rattle.machine_roads.proofs.Puts.{put_at, put_by}
 use Rattle.machine_roads.proofs.RunApart.{drop_ends, gives_ends, gone_spares, gone_taken, loss_ends, pends_ends, take_ends}
 use Rattle.machine_roads.proofs.RunEnding.{dropped_by, lost_by}
+use Rattle.machine_roads.proofs.RunLies.{lies_so}
 use Rattle.machine_roads.proofs.RunHere.{Above, final_none, going_here, left_here, none_empty, off_left, used_once}
 use Rattle.machine_roads.proofs.Runs.{changed, ended_run, runs_is}
 use Rattle.machine_roads.proofs.RunsOn.{goes_from}
@@ -107,8 +108,8 @@ module _ (s : Machine) (reached : Reached s) (p : ℕ) (there : p < length s.par
       (sym (ap (λ t. answer_refusal t u) (top_of (stack s p) o os is).0) ∙ (sym (refusal-there s (Answer p u) there) ∙ may))
 
   came_by : (u : UserEnd) (x : plain_calls.Call Output Waker) → IsMade s p (Answer p u) x → (e : Done) (d : Choice)
-      → d.tells ≡ c1.tells → StandsSo e (does wakes d x q) → Comes u e
-  came_by u x is e d tells so = (
+      → d.tells ≡ c1.tells → IsLaterAnew d.refusal x q (does wakes d x q) → StandsSo e (does wakes d x q) → Comes u e
+  came_by u x is e d tells anew so = (
     does wakes d x q,
     record {
       choice = d;
@@ -116,7 +117,7 @@ module _ (s : Machine) (reached : Reached s) (p : ℕ) (there : p < length s.par
       chosen = subst (λ n. length q.lying < n) (sym tells) room;
       is = is;
       so = refl;
-      anew = ends_anew q (does wakes d x q) s p (Answer p u) d.refusal x refl is;
+      anew = anew;
     },
     so,
   )
@@ -141,11 +142,12 @@ module _ (s : Machine) (reached : Reached s) (p : ℕ) (there : p < length s.par
 
     -- the call has ended, and no run has changed
     back : (u : UserEnd) (x : plain_calls.Call Output Waker) → IsMade s p (Answer p u) x → (code : Code Output Waker)
-        → q.inside ≡ code ∷ inside → (e : Done) → e.next ≡ below → (does wakes c1 x (r1 code)).inside ≡ inside
+        → q.inside ≡ code ∷ inside → is_in_own (code ∷ inside) ≡ false → (e : Done) → e.next ≡ below
+        → (does wakes c1 x (r1 code)).inside ≡ inside
         → Counted below (does wakes c1 x (r1 code)).runs → Follows e.world (does wakes c1 x (r1 code)) → Comes u e
-    back u x is code at e next stays count follows =
+    back u x is code at other e next stays count follows =
         let z = does wakes c1 x (r1 code) in
-        came_by u x is e c1 refl
+        came_by u x is e c1 refl (ends_anew q (does wakes c1 x q) s p (Answer p u) c1.refusal x refl is code inside at other)
         (subst (λ y. StandsSo e (does wakes c1 x y)) (same code at)
         (record {
           alike = alike (subst (λ os. Nested os z.inside) (sym next) (subst (λ codes. Nested below codes) (sym stays) nested)) follows;
@@ -200,10 +202,13 @@ module _ (s : Machine) (reached : Reached s) (p : ℕ) (there : p < length s.par
 
       -- where the call comes to, by a choice that tells alike
       came : (u : UserEnd) (x : plain_calls.Call Output Waker) → IsMade s p (Answer p u) x → (code : Code Output Waker)
-          → q.inside ≡ code ∷ inside → (e : Done) → (d : Choice) × (d.tells ≡ c1.tells) × StandsSo e (does wakes d x (r1 code))
+          → q.inside ≡ code ∷ inside → is_in_own (code ∷ inside) ≡ false → (e : Done)
+          → (d : Choice) × (d.tells ≡ c1.tells) × StandsSo e (does wakes d x (r1 code))
           → Comes u e
-      came u x is_made code at e lands =
-          came_by u x is_made e lands.0 lands.1 (subst (λ y. StandsSo e (does wakes lands.0 x y)) (same code at) lands.2)
+      came u x is_made code at other e lands =
+          let z = does wakes lands.0 x q in
+          came_by u x is_made e lands.0 lands.1 (ends_anew q z s p (Answer p u) lands.0.refusal x refl is_made code inside at other)
+          (subst (λ y. StandsSo e (does wakes lands.0 x y)) (same code at) lands.2)
 
       -- a poll
       pub from_poll : (f : ℕ) → os ≡ op.User (user_op.Poll f) ∷ final ∷ below → q.inside ≡ Poll f taker ∷ inside
@@ -230,7 +235,7 @@ module _ (s : Machine) (reached : Reached s) (p : ℕ) (there : p < length s.par
               let in_poll : IsInPoll s.world f =
               record { known = taken.known; polled = taken.polled; entered = taken.entered; reached = left } in
               let e = alone p hints (pended p f final below s.world) in
-              came (end.Polled answer.Pending) Pends pends (Poll f taker) at e
+              came (end.Polled answer.Pending) Pends pends (Poll f taker) at refl e
               (goes_lands p below r0 nested under c1 room e rests (λ d. does wakes d Pends (r1 (Poll f taker))) taker final it count its
               (λ d. pends_ends d taker r0 f)
               (λ z. StaysSo taker final below r0 e z)
@@ -243,13 +248,13 @@ module _ (s : Machine) (reached : Reached s) (p : ℕ) (there : p < length s.par
               record { known = taken.known; polled = taken.polled; entered = taken.entered; last = last } in
               let e = alone p hints (pended p f final below s.world) in
               let g = forgets_by p below s.world r0 under here taker final f last_poll c1 hints all rests in
-              came (end.Polled answer.Pending) Pends pends (Poll f taker) at e
+              came (end.Polled answer.Pending) Pends pends (Poll f taker) at refl e
               (forgets_lands p below r0 nested under c1 room e rests (λ d. does wakes d Pends (r1 (Poll f taker))) taker final it count its
               (λ d. pends_ends d taker r0 f) f c1 refl g.stops g.stay.runs)
       from_poll f first at follows (end.Polled answer.Ready) ok = λ hints all rests.
           let taken : IsTaken s.world f = is_taken s p reached there open_still f (final ∷ below) (is ∙ first) in
           let e = alone p hints (given p f final below s.world) in
-          came (end.Polled answer.Ready) (EndsWith tt) gives (Poll f taker) at e
+          came (end.Polled answer.Ready) (EndsWith tt) gives (Poll f taker) at refl e
           (stays_lands p below r0 nested under c1 room e rests (λ d. does wakes d (EndsWith tt) (r1 (Poll f taker))) taker final it count
           (facts s.world follows refl refl) (λ d. gives_ends d taker r0 f tt) c1 refl
           ((gives_so p below s.world r0 under (follows0 (Poll f taker) at refl s.world follows) taker final f c1 hints all rests).0 taken)
@@ -265,7 +270,7 @@ module _ (s : Machine) (reached : Reached s) (p : ℕ) (there : p < length s.par
           let going : IsGoing s.world f m why = is_going s p reached there open_still f m why (final ∷ below) how (is ∙ first) in
           let e = alone p hints (done s.world (op.Table (table_op.LeaveTable f) ∷ op.Move m f ∷ final ∷ below)) in
           let its = facts s.world follows refl refl in
-          came end.Done Ends ends (Drop f why taker) at e
+          came end.Done Ends ends (Drop f why taker) at refl e
           (goes_lands p below r0 nested under c1 room e rests (λ d. does wakes d Ends (r1 (Drop f why taker))) taker final it count its
           (λ d. drop_ends d taker r0 f why)
           (λ z. Drops taker final below f r0 e z)
@@ -292,7 +297,7 @@ module _ (s : Machine) (reached : Reached s) (p : ℕ) (there : p < length s.par
             follows = follows0 (Lose awaiter (Some taker)) at refl (without_run f s.world) ending.follows;
           } in
           let e = alone p hints (done s.world (rest_of (task s.world f).awaiter f final ++ below)) in
-          came end.Done Ends ends (Lose awaiter (Some taker)) at e
+          came end.Done Ends ends (Lose awaiter (Some taker)) at refl e
           (passes_lands p below r0 nested under c1 room e rests (λ d. does wakes d Ends (r1 (Lose awaiter (Some taker)))) taker final it
           count (facts (without_run f s.world) ending.follows refl refl) (λ d. loss_ends d taker r0 awaiter)
           (lost_by taker final p f below s.world r0 awaiter c1 ending0 many hints all rests))
@@ -336,7 +341,7 @@ module _ (s : Machine) (reached : Reached s) (p : ℕ) (there : p < length s.par
             follows = there_follows;
           } in
           let e = alone p hints (done s.world (op.Table (table_op.LeaveTable f) ∷ op.Handle (handle_op.LetGo f) ∷ final ∷ below)) in
-          came end.Done Ends ends (Drop f Closed taker) at e
+          came end.Done Ends ends (Drop f Closed taker) at refl e
           (passes_lands p below r0 nested under c1 room e rests (λ d. does wakes d Ends (r1 (Drop f Closed taker))) taker final it count
           (facts_forgotten f it_is) (λ d. drop_ends d taker r0 f Closed)
           (forgotten_by taker final p f below s.world r0 c1 forgotten0 many hints all rests))
@@ -352,7 +357,7 @@ module _ (s : Machine) (reached : Reached s) (p : ℕ) (there : p < length s.par
         let e = alone p hints (done s.world os) in
         let stays : done s.world os ≡ e = sym (idles p hints os s.world refl) in
         let z : Plain Output Waker = r1 (DropOwn x.run Ready) in
-        came_by (end.Polled answer.Ready) (EndsWith tt) gives e c1 refl
+        came_by (end.Polled answer.Ready) (EndsWith tt) gives e c1 refl tt
         (subst (λ y. StandsSo e (does wakes c1 (EndsWith tt) y)) (same (PollOwn x.run x.waker) at)
         (subst (λ (d : Done). StandsSo d z) stays
         (record {
@@ -378,21 +383,7 @@ module _ (s : Machine) (reached : Reached s) (p : ℕ) (there : p < length s.par
         goes : (r : ℕ) (b : Bool) → (r == x.run) ≡ b → ((r == x.run) || some_op (leaves r) below) ≡ true → over_in r q.runs ≡ false
         goes r true here is_left = ap (λ k. over_in k q.runs) (same_of r x.run here) ∙ polled
         goes r false apart is_left = count0.going r (ap (λ b. b || some_op (leaves r) below) (sym apart) ∙ is_left)
-    from_own_poll x is at follows (end.Polled answer.Pending) ok = λ hints all rests.
-        let search = op.Tick (tick_op.Search (asleep x)) in
-        let e = alone p hints (done s.world (search ∷ below)) in
-        let will : Choice → Plain Output Waker = λ d. does wakes d Pends (r1 (PollOwn x.run x.waker)) in
-        let here = follows0 (PollOwn x.run x.waker) at refl s.world follows in
-        let lands =
-        after_lands p below r0 nested under c1 room e rests will x false count facts0
-        (λ d. take_ends d x.run x.waker r0 few) (taken_in x.run q.runs)
-        (goes_from p x below r0 c1.tells (taken_in x.run q.runs) e will under rests c1 s.world r0 here room
-        (between p below r0 nested under c1 room e rests will x false count facts0) refl
-        (record { hints = hints; has = all; is = refl })
-        (λ d. sym (ap (λ b. if b then plain_takes.take wakes (telling c1.tells d) (Run x.run x.waker) r0
-        else plain_takes.gives_way wakes (telling c1.tells d) x.run x.waker r0) few))) in
-        came_by (end.Polled answer.Pending) Pends pends e lands.0 lands.1
-        (subst (λ y. StandsSo e (does wakes lands.0 Pends y)) (same (PollOwn x.run x.waker) at) lands.2)
+    from_own_poll x is at follows (end.Polled answer.Pending) ok = λ hints all rests. by hints all rests (any is_due q.due) refl
       where
         xs : List Op
         xs = op.User (user_op.PollOwn x) ∷ below
@@ -413,6 +404,40 @@ module _ (s : Machine) (reached : Reached s) (p : ℕ) (there : p < length s.par
           left = left_here s reached p there xs is q s.world follows refl refl others
               (λ k off. omega (arith, none_empty k below inside nested off)) (subst (λ os. Counted os q.runs) is counted);
         }
+
+        search : Done
+        search = done s.world (op.Tick (tick_op.Search (asleep x)) ∷ below)
+
+        will : Choice → Plain Output Waker
+        will d = does wakes d Pends (r1 (PollOwn x.run x.waker))
+
+        here : Follows s.world r0
+        here = follows0 (PollOwn x.run x.waker) at refl s.world follows
+
+        -- where something is due it takes, and else it lies down, or is refused memory
+        by : (hints : List Hint) → HasAll p hints search → is_resting (alone p hints search).next ≡ true → (some : Bool)
+            → any is_due q.due ≡ some → Comes (end.Polled answer.Pending) (alone p hints search)
+        by hints all rests true some =
+            let e = alone p hints search in
+            let lands =
+            after_lands p below r0 nested under c1 room e rests will x false count facts0
+            (λ d. take_ends d x.run x.waker r0 few) (taken_in x.run q.runs)
+            (goes_from p x below r0 c1.tells (taken_in x.run q.runs) e will under rests c1 s.world r0 here room
+            (between p below r0 nested under c1 room e rests will x false count facts0) refl (record { hints = hints; has = all; is = refl })
+            (λ d. sym (ap (λ b. if b then plain_takes.take wakes (telling c1.tells d) (Run x.run x.waker) r0
+            else plain_takes.gives_way wakes (telling c1.tells d) x.run x.waker r0) few))) in
+            came_by (end.Polled answer.Pending) Pends pends e lands.0 lands.1
+            (λ vain later. absurd (clash (ap (λ codes. is_in_own codes && not (any is_due q.due)) at ∙ ap (λ b. not b) some) vain))
+            (subst (λ y. StandsSo e (does wakes lands.0 Pends y)) (same (PollOwn x.run x.waker) at) lands.2)
+        by hints all rests false none =
+            let e = alone p hints search in
+            let g = lies_so p x below e under rests c1 s.world r0 here room none (record { hints = hints; has = all; is = refl }) in
+            let d : Choice = record c1 { refusal = g.0 } in
+            let in_own = same (PollOwn x.run x.waker) at in
+            came_by (end.Polled answer.Pending) Pends pends e d refl
+            (λ vain later. subst (λ y. OneMoreLies q (does wakes d Pends y)) in_own (g.5 later))
+            (subst (λ y. StandsSo e (does wakes d Pends y)) in_own
+            (rests_so p below r0 nested under c1 room e rests will x false count facts0 (λ d. take_ends d x.run x.waker r0 few) d g.1 g.2 g.3))
     from_own_poll x is at follows u ok = absurd cc
 
     -- a run has gone: what others have taken stays
@@ -442,7 +467,7 @@ module _ (s : Machine) (reached : Reached s) (p : ℕ) (there : p < length s.par
         let counted0 : Counted xs q.runs = subst (λ os. Counted os q.runs) is counted in
         let so =
         own_goes p below under s.world r0 (follows0 (DropOwn r Ready) at refl s.world follows) c1 many r hints all rests in
-        back end.Done Ends ends (DropOwn r Ready) at e so.0 so.2
+        back end.Done Ends ends (DropOwn r Ready) at refl e so.0 so.2
         (gone_count r (omega (arith, used_once s reached p there xs is r, same_self r)) counted0.taken
         (λ k apart is_left. counted0.going k (ap (λ b. b || some_op (leaves k) below) apart ∙ is_left))) so.1
     from_own_drop r is at follows u ok = absurd cc
@@ -457,7 +482,7 @@ module _ (s : Machine) (reached : Reached s) (p : ℕ) (there : p < length s.par
         own_went p below under s.world r0 r rest leaving
         (stands_in inside s.world (record q { runs = changed ended_run r q.runs }) (subst (Follows s.world) (runs_is ended_run r q) follows)
         (sym (ap (λ codes. waking_in codes) at))) c1 many hints all rests in
-        back end.Done Ends ends (DropOwn r DoneAnswer) at e so.0 so.2 (by rest leaving is) so.1
+        back end.Done Ends ends (DropOwn r DoneAnswer) at refl e so.0 so.2 (by rest leaving is) so.1
       where
         by : (rest : Op) → IsLeaving r rest → reverse (stack s p) ≡ op.User (user_op.DropOwn r) ∷ rest ∷ below
             → Counted below (plain_calls.gone wakes c1 r r0).runs

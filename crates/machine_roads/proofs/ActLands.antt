@@ -149,17 +149,16 @@ module _ (p : ℕ) (below : List Op) (q : Plain Output Waker) (nested : Nested b
       (λ (is : nat_lt (taken_in x.run (will d).runs) 200 ≡ true). is) ((so d).own x.run x.waker refl))
 
   -- the call is answered
+  back_so : (d : Choice) → Counted below (will d).runs → e.next ≡ below → (will d).inside ≡ q.inside → Follows e.world (will d)
+      → StandsSo e (will d)
+  back_so d count next inside follows = record {
+    alike = alike (subst (λ os. Nested os (will d).inside) (sym next) (subst (λ codes. Nested below codes) (sym inside) nested)) follows;
+    counted = subst (λ os. Counted os (will d).runs) (sym next) count;
+  }
+
   lands_back : (d : Choice) → d.tells ≡ c1.tells → Counted below (will d).runs → e.next ≡ below → (will d).inside ≡ q.inside
       → Follows e.world (will d) → Lands
-  lands_back d tells count next inside follows = (
-    d,
-    tells,
-    record {
-      alike = alike
-          (subst (λ os. Nested os (will d).inside) (sym next) (subst (λ codes. Nested below codes) (sym inside) nested)) follows;
-      counted = subst (λ os. Counted os (will d).runs) (sym next) count;
-    },
-  )
+  lands_back d tells count next inside follows = (d, tells, back_so d count next inside follows)
 
   -- it has taken the next one, or its poll has ended
   pub after_lands : (x : RunPoll) (last : Bool) → Counted (goes_on_by x last ∷ below) q.runs → Facts below q x
@@ -188,6 +187,13 @@ module _ (p : ℕ) (below : List Op) (q : Plain Output Waker) (nested : Nested b
           subst (λ os. Counted os (will d).runs) (sym at)
           (back (Run x.run x.waker) (goes_on_by x last) (by_run x last) count facts so d codes)
       by d (in_code same) one = like (goes_on_by x l ∷ below) e.next (will d).runs same one
+
+  -- a run that takes none has lain down
+  pub rests_so : (x : RunPoll) (last : Bool) → Counted (goes_on_by x last ∷ below) q.runs → Facts below q x
+      → AllEnd (Run x.run x.waker) → (d : Choice) → e.next ≡ below → Follows e.world (will d) → (will d).inside ≡ q.inside
+      → StandsSo e (will d)
+  rests_so x last count facts so d next follows inside =
+      back_so d (back (Run x.run x.waker) (goes_on_by x last) (by_run x last) count facts so d inside) next inside follows
 
   -- what a run that takes has taken, where it goes on
   pub between : (x : RunPoll) (last : Bool) → Counted (goes_on_by x last ∷ below) q.runs → Facts below q x

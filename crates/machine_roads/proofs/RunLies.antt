@@ -9,13 +9,14 @@ use Rattle.executor_model.specs.declared.op.TickOrRun.TheVariants as tick_or_run
 use Rattle.executor_model.specs.declared.op.Waker.{Waker}
 use Rattle.executor_model.specs.ActsOfRuns.{asleep}
 use Rattle.executor_model.specs.World.{Done, World}
-use Rattle.plain_scheduler.specs.State.{ARun, Choice, Due, Plain, Refusal, Run, Taker}
+use Rattle.plain_scheduler.specs.State.{ARun, Choice, Due, Later, Plain, Refusal, Run, Taker}
 use Rattle.plain_scheduler.specs.Lists.{any, or, without}
 use Rattle.plain_scheduler.specs.Moves.{chosen, is_due, looks}
 use Rattle.plain_scheduler.specs.Takes as plain_takes
 use Rattle.machine_roads.specs.View.{Output, wakes}
 use Rattle.machine_roads.specs.Road.{Follows}
 use Rattle.machine_roads.specs.Alone.{alone, is_resting}
+use Rattle.machine_roads.specs.Refused.{OneMoreLies}
 use Rattle.machine_roads.specs.Searching.{RunLiesAlike, unready}
 use Rattle.machine_roads.specs.Stopped.{taken_by}
 use Rattle.machine_roads.proofs.Bedding.{lies_down_so}
@@ -42,12 +43,13 @@ module _ (p : ℕ) (x : RunPoll) (below : List Op) (end : Done) (under : is_rest
       (λ e. plain_takes.takes wakes d taker e (record b { due = without (chosen (looks d taker) b.due) b.due }))
       (plain_takes.nothing wakes d taker b)) quiet
 
-  -- it has lain down, as the plain scheduler's does where memory is refused so
+  -- it has lain down, as the plain scheduler's does where memory is refused so; once it lies only where it lies anew
   abbrev Lies : Choice → Plain Output Waker → Type 0
   Lies c b =
       (r : Refusal) × (end.next ≡ below) × Follows end.world (plain_takes.take wakes (record c { refusal = r }) taker b)
       × ((plain_takes.take wakes (record c { refusal = r }) taker b).inside ≡ b.inside)
       × ((plain_takes.take wakes (record c { refusal = r }) taker b).runs ≡ b.runs)
+      × (r ≡ Later → OneMoreLies b (plain_takes.take wakes (record c { refusal = r }) taker b))
 
   pub lies_so : (c : Choice) (w : World) (b : Plain Output Waker) → Follows w b → length b.lying < c.tells → any is_due b.due ≡ false
       → Way p end w (op.Tick (tick_op.Search (asleep x)) ∷ below) → Lies c b
@@ -65,6 +67,7 @@ module _ (p : ℕ) (x : RunPoll) (below : List Op) (end : Done) (under : is_rest
         ap (λ (q : Plain Output Waker). q.inside) same ∙ g.1.inside,
         ap (λ (q : Plain Output Waker). q.runs) same
             ∙ rests_keeps (λ (q : Plain Output Waker). q.runs) runs_aside c g.0 (ARun x.run) x.waker b,
+        λ later. subst (OneMoreLies b) (sym same) (g.2 later),
       )
 
   -- also behind a future that it took, where it has taken fewer than 200

@@ -65,7 +65,7 @@ use Rattle.machine_roads.proofs.Inmost.{rests_in}
 use Rattle.machine_roads.proofs.LoneRuns.{Walks, passed, within as is_within}
 use Rattle.machine_roads.proofs.Tying.{top_of}
 use Rattle.machine_roads.proofs.Walked.{answer_leads_of, begun_leads_of, no_answer}
-use Rattle.two_roads.specs.Acting.{goes_on_in, is_runs, takes_for_run}
+use Rattle.two_roads.specs.Acting.{goes_on_in, is_runs, seeks_for_run}
 use Rattle.two_roads.specs.Refusing.{refused_in}
 use Rattle.two_roads.specs.Turns.{ActsTakeTurns, tick_turns, turned, turns_of}
 use Rattle.two_roads.proofs.Seeking.{alone_still, begins_none, begins_still, due, due_push, due_resting, is_still, mild_seeks, seeks}
@@ -339,7 +339,7 @@ module _ (s : Machine) (reached : Reached s) (p : ℕ) (q : Plain Output Waker) 
       (run-first t ts s new made).0))
 
   one : (t : Step) (ts : List Step) (x : plain.Call Output Waker) → IsMade s p t x → rests_after p ts (after s t) ≡ true
-      → run_all (t ∷ ts) s ≡ Ok new → is_on_way (reverse (stack s p)) t ≡ true → takes_for_run q x ≡ false → Turns (turns_of refusal q x)
+      → run_all (t ∷ ts) s ≡ Ok new → is_on_way (reverse (stack s p)) t ≡ true → seeks_for_run q x ≡ false → Turns (turns_of refusal q x)
   one t ts x (within.begins c y is) rests made on alone =
       by_call c ts y is (there t ts refl made) rests made (both_true (may_stand_in c) (may_begin_in (reverse (stack s p)) c) on).1
   one t ts x within.pends rests made on alone = ended (Polled Pending) ts (there t ts refl made) rests made alone
@@ -348,7 +348,7 @@ module _ (s : Machine) (reached : Reached s) (p : ℕ) (q : Plain Output Waker) 
 
 pub act_turns : (s : Machine) → Reached s → (q : Plain Output Waker) (a : Act) (x : plain.Call Output Waker)
     → StandsAlike (standing s a.party) q → IsAct s a → is_on_way (reverse (stack s a.party)) a.first ≡ true → IsMade s a.party a.first x
-    → takes_for_run q x ≡ false → a.left.world.urgent_turns ≡ turned (turns_of (refused_in s a) q x) s.world.urgent_turns
+    → seeks_for_run q x ≡ false → a.left.world.urgent_turns ≡ turned (turns_of (refused_in s a) q x) s.world.urgent_turns
 act_turns s reached q a x stands is on made alone =
     one s reached a.party q stands a.left a.first a.steps x made is.rests is.made on alone
 

@@ -23,12 +23,14 @@ use Rattle.machine_roads.specs.Seeing.{heard_in, shown as shown_alike}
 use Rattle.machine_roads.specs.View.{Output, wakes as wakes_in}
 use Rattle.machine_roads.specs.Within.{Act, ActAlike, ActsBy, AreActs, IsChosenAt, standing}
 use Rattle.machine_roads.proofs.Acts.{acts_alike}
+use Rattle.machine_roads.proofs.Lists.{clash}
 use Rattle.solo_laws.specs.Courses.{Leads, leads, stays}
 use Rattle.solo_laws.specs.Owner.{Owner, new_owner}
 use Rattle.solo_laws.specs.Road.{wakes}
 use Rattle.solo_laws.specs.Tabled.{Stands}
 use Rattle.solo_laws.proofs.Showing.Courses.{leads_alike, new_known}
-use Rattle.two_roads.specs.Acting.{IsOfStep, acts_by, goes_on_in, is_runs, left_of, takes_for_run}
+use Rattle.two_roads.specs.Acting.{AreActed, IsActed, acts_by, goes_on_in, is_runs, left_of, looks_first, seeks_for_run}
+use Rattle.two_roads.specs.Acting.{takes_for_run, takes_in}
 use Rattle.two_roads.specs.Refusing.{asks_memory, ends_refused, refused_in, refused_so}
 use Rattle.two_roads.specs.Renaming.{CallsAlike, GoesOnAlike, InnermostAlike, call_as, event_as, is_refusal, lying_as}
 use Rattle.two_roads.specs.Renaming.{renamed}
@@ -39,23 +41,6 @@ use Rattle.two_roads.proofs.Inner.{acts_seen, seen_in}
 use Rattle.two_roads.proofs.Meant.{is_begin, is_take, one_made, takes_begin}
 use Rattle.two_roads.proofs.Refusing.{Lie, asks_so, lie_in, map_last, seen_refused, unasked}
 use Rattle.two_roads.proofs.Words.{length_map}
-
--- a try and a poll of a tick look first at the one mark or the other
-abbrev pub looks_first : {T A : Type 0} → Call T A → Bool
-looks_first calls.TryTick = true
-looks_first (calls.PollTick t w) = true
-looks_first _ = false
-
-module _ {T X : Type 0} (number : X → ℕ) where
-  -- a call is of the machine's step, and where it looks for a future, it looks first at the mark that the machine's turn names
-  pub record IsActed (s : Machine) (a : Act) (p : Plain T (SoloWaker X)) (c : Choice) (call : Call T (SoloWaker X)) : Type 0 where
-    pub step : IsOfStep number s a p c call
-    pub first : looks_first call ≡ true → c.first ≡ first_of s.world.urgent_turns
-
-  abbrev pub AreActed : Machine → List Act → Plain T (SoloWaker X) → List (Choice × Call T (SoloWaker X)) → Type 0
-  AreActed s [] p [] = Unit {0}
-  AreActed s (a ∷ acts) p (x ∷ xs) = IsActed s a p x.0 x.1 × AreActed a.left acts (does wakes x.0 x.1 p) xs
-  AreActed s acts p xs = ⊥
 
 refusal_shown : (e : Event Output Waker) → is_refusal (shown_alike e) ≡ is_refusal e
 refusal_shown (Answers (Gives v)) = refl
@@ -68,15 +53,31 @@ module _ {A : Type 0} (c d : Choice) where
   goes_on_alone (Run r w) is = absurd cc
 
 module _ {T A : Type 0} (c d : Choice) where
-  ends_alone : (due : List Due) (codes : List (Code T A)) → goes_on_in codes ≡ false → InnermostAlike c d due codes
+  ends_alone : (due : List Due) (codes : List (Code T A)) → takes_in due codes ≡ false → InnermostAlike c d due codes
   ends_alone due [] is = tt
   ends_alone due (Poll f by ∷ codes) is = goes_on_alone c d by is
   ends_alone due (Drop f end by ∷ codes) is = goes_on_alone c d by is
   ends_alone due (Lose awaiter None ∷ codes) is = tt
   ends_alone due (Lose awaiter (Some by) ∷ codes) is = goes_on_alone c d by is
-  ends_alone due (PollOwn r w ∷ codes) is = absurd cc
+  ends_alone due (PollOwn r w ∷ codes) is = λ some. absurd (clash is some)
   ends_alone due (DropOwn r answer ∷ codes) is = tt
   ends_alone due (Close fs all ∷ codes) is = tt
+
+-- where no run searches none takes
+module _ {T A : Type 0} where
+  none_sought : (due : List Due) (codes : List (Code T A)) → goes_on_in codes ≡ false → takes_in due codes ≡ false
+  none_sought due [] is = is
+  none_sought due (Poll f by ∷ codes) is = is
+  none_sought due (Drop f end by ∷ codes) is = is
+  none_sought due (Lose awaiter by ∷ codes) is = is
+  none_sought due (PollOwn r w ∷ codes) is = absurd cc
+  none_sought due (DropOwn r answer ∷ codes) is = is
+  none_sought due (Close fs all ∷ codes) is = is
+
+  pub unsought : (p : Plain T A) (call : Call T A) → seeks_for_run p call ≡ false → takes_for_run p call ≡ false
+  unsought p calls.Pends is = none_sought p.due p.inside is
+  unsought p calls.Ends is = none_sought p.due p.inside is
+  unsought p _ is = refl
 
 -- each call tells who lay down last
 module _ {T X : Type 0} where
@@ -146,7 +147,7 @@ module _ {T X : Type 0} (number : X → ℕ) where
       same_call = call_as nothing (numbered number) call
 
       call_is : by.made ≡ same_call
-      call_is = one_made s a.party a.first by.made same_call by.is are.step.made
+      call_is = one_made s a.party a.first by.made same_call by.is are.made
 
       so : does wakes_in by.choice same_call q ≡ r
       so = ap (λ (x : Call Output Waker). does wakes_in by.choice x q) (sym call_is) ∙ by.so
@@ -161,7 +162,7 @@ module _ {T X : Type 0} (number : X → ℕ) where
           less n m t same below = omega (arith, same, below)
 
       first : is_take same_call ≡ true → by.choice.first ≡ first_of s.world.urgent_turns
-      first take = first_at s.world q by.choice a.first (takes_begin s a.party a.first same_call are.step.made take) by.chosen
+      first take = first_at s.world q by.choice a.first (takes_begin s a.party a.first same_call are.made take) by.chosen
 
       -- what is refused in the act is seen in what the call makes
       seen_so : refused_in s a ≡ refused_so (ends_refused r.events) (nat_lt (length (uncalled q.lying)) (length (uncalled r.lying)))
@@ -185,7 +186,7 @@ module _ {T X : Type 0} (number : X → ℕ) where
             refusal = refl;
             tells = tells;
             tells_so = tells_so;
-            takes = chosen_alike s p c d call are.first are.step.runless first;
+            takes = chosen_alike s p c d call are.first are.untaken first;
           })
           ∙ (ap (λ (z : Plain Output Waker). does wakes_in d same_call z) is
           ∙ (seen_refused by.choice c.refusal same_call q asks_there
@@ -194,18 +195,18 @@ module _ {T X : Type 0} (number : X → ℕ) where
           (subst
           (λ (z : Plain Output Waker). c.refusal
           ≡ refused_so (ends_refused z.events) (nat_lt (length (uncalled q.lying)) (length (uncalled z.lying))))
-          (sym so) (are.step.refused asks ∙ seen_so))
+          (sym so) (are.refused asks ∙ seen_so))
           ∙ so))
       whether false asks =
           let d : Choice = record c { refusal = by.choice.refusal } in
           ap (λ (z : Plain T (SoloWaker X)). renamed nothing (numbered number) z)
-          (sym (unasked wakes c by.choice.refusal call p asks are.step.runless))
+          (sym (unasked wakes c by.choice.refusal call p asks are.untaken))
           ∙ (calls_same nothing (numbered number) wakes wakes_in (wakes_so number) d by.choice call p
           (record {
             refusal = refl;
             tells = tells;
             tells_so = tells_so;
-            takes = chosen_alike s p d by.choice call are.first are.step.runless first;
+            takes = chosen_alike s p d by.choice call are.first are.untaken first;
           })
           ∙ (ap (λ (z : Plain Output Waker). does wakes_in by.choice same_call z) is ∙ so))
 

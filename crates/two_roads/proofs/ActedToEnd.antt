@@ -29,19 +29,14 @@ use Rattle.solo_laws.specs.Road.{wakes}
 use Rattle.solo_laws.proofs.Showing.AllThere.{none_lost}
 use Rattle.solo_laws.proofs.Showing.Courses.{leads_alike, new_known}
 use Rattle.solo_laws.proofs.Showing.LastCalls.{last_calls_alike}
-use Rattle.two_roads.specs.Acting.{drop_acts_by, left_of}
+use Rattle.two_roads.specs.Acting.{AreActed, EndActed, drop_acts_by, left_of}
 use Rattle.two_roads.specs.Renaming.{code_as, event_as, renamed}
 use Rattle.two_roads.specs.Together.{as_heard, nothing, numbered}
-use Rattle.two_roads.proofs.Acted.{AllTell, AreActed, acted, all_tell, one_same}
+use Rattle.two_roads.proofs.Acted.{AllTell, acted, all_tell, one_same}
 use Rattle.two_roads.proofs.Both.{course_of_both, map_twice, wakes_so}
 use Rattle.two_roads.proofs.Calling.{calls_same}
 use Rattle.two_roads.proofs.InDrop.{acts_come, drop_acts_seen, drop_seen}
 use Rattle.two_roads.proofs.Refusing.{Lie, lie_in_drop}
-
-module _ {T X : Type 0} (number : X → ℕ) where
-  abbrev pub EndActed : Act → List Act → Plain T (SoloWaker X) → List (Choice × Call T (SoloWaker X)) → Type 0
-  EndActed a acts p [] = ⊥
-  EndActed a acts p (x ∷ xs) = (x.1 ≡ calls.DropExecutor) × AreActed number a.left acts (does wakes x.0 x.1 p) xs
 
 module _ {F T X : Type 0} (its : ℕ → Lent) where
   after_tell : (cs : List (Choice × Call T (SoloWaker X))) (s z : Solo F T X) (p : Plain T (SoloWaker X))

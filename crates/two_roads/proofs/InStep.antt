@@ -40,14 +40,14 @@ use Rattle.solo_laws.specs.Owner.{Owner, new_owner}
 use Rattle.solo_laws.specs.Road.{wakes}
 use Rattle.solo_laws.specs.RunGoing.{IsEnding, Stage, drop_ends, loss_ends, poll_ends}
 use Rattle.solo_laws.specs.Tabled.{Stands}
-use Rattle.two_roads.specs.Acting.{AreOfSteps, goes_on_in, is_runs, left_of, takes_for_run}
+use Rattle.two_roads.specs.Acting.{AreActed, AreOfSteps, IsActed, goes_on_in, is_runs, left_of, looks_first, seeks_for_run}
 use Rattle.two_roads.specs.Renaming.{call_as, code_as, lying_as, renamed, taker_as}
 use Rattle.two_roads.specs.Refusing.{asks_memory, refused_in}
 use Rattle.two_roads.specs.Together.{as_heard, nothing, numbered}
 use Rattle.two_roads.specs.Turns.{lies_uncalled, searches_by, tick_turns, turned, turned_in, turns_of}
 use Rattle.two_roads.proofs.Refusing.{lie_in}
 use Rattle.two_roads.proofs.ActTurns.{act_turns}
-use Rattle.two_roads.proofs.Acted.{AreActed, IsActed, looks_first, one_same, runless_together}
+use Rattle.two_roads.proofs.Acted.{one_same, runless_together, unsought}
 use Rattle.two_roads.proofs.Inner.{seen_in}
 use Rattle.two_roads.proofs.SoloTurns.{call_turns}
 
@@ -115,7 +115,7 @@ module _ {T A U B : Type 0} (output : T → U) (waker : A → B) where
   goes_on_as (DropOwn r answer ∷ codes) = refl
   goes_on_as (Close fs all ∷ codes) = refl
 
-  takes_as : (p : Plain T A) (call : Call T A) → takes_for_run (renamed output waker p) (call_as output waker call) ≡ takes_for_run p call
+  takes_as : (p : Plain T A) (call : Call T A) → seeks_for_run (renamed output waker p) (call_as output waker call) ≡ seeks_for_run p call
   takes_as p calls.Pends = goes_on_as p.inside
   takes_as p calls.Ends = goes_on_as p.inside
   takes_as p _ = refl
@@ -181,7 +181,7 @@ module _ {F T X : Type 0} (its : ℕ → Lent) (number : X → ℕ) where
       let refusal : Refusal = refused_in s a in
       let theirs : a.left.world.urgent_turns ≡ turned (turns_of refusal p call) s.world.urgent_turns =
       act_turns s reached q a made here it are.1 of.0.made
-      (ap (λ (q : Plain Output Waker). takes_for_run q made) (sym is) ∙ (takes_as nothing (numbered number) p call ∙ of.0.runless))
+      (ap (λ (q : Plain Output Waker). seeks_for_run q made) (sym is) ∙ (takes_as nothing (numbered number) p call ∙ of.0.runless))
       ∙ ap (λ n. turned n s.world.urgent_turns)
       (ap (λ (q : Plain Output Waker). turns_of refusal q made) (sym is) ∙ turns_as nothing (numbered number) refusal p call) in
       let its_own : u.lines.turn ≡ turned_in (turns_of refusal p call) t.lines.turn =
@@ -194,7 +194,8 @@ module _ {F T X : Type 0} (its : ℕ → Lent) (number : X → ℕ) where
       let next : Known its now u (does wakes c call p) =
       (leads_alike its ((c, call) ∷ []) b now t u p (first ++ []) known
       (leads c call [] b now now t u u p first [] tells acts_so (stays now u (does wakes c call p)))).0 in
-      let acted : IsActed number s a p c call = record { step = of.0; first = looks } in
+      let acted : IsActed number s a p c call =
+      record { made = of.0.made; refused = of.0.refused; untaken = unsought p call of.0.runless; first = looks } in
       let one =
       one_same number s a q go.0 go.1 (lie_in (standing s a.party) q here) (seen_in (standing a.left a.party) go.0 go.2)
       (lie_in (standing a.left a.party) go.0 go.2) p c call is acted tells in (

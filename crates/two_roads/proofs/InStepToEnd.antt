@@ -24,10 +24,10 @@ use Rattle.solo_laws.specs.LastCalls.{After, Closes, LastCalls, Meanwhile, and_t
 use Rattle.solo_laws.specs.LastCalls.{meanwhile, next_drop, no_drop, on_task, over}
 use Rattle.solo_laws.specs.Owner.{Owner, new_owner}
 use Rattle.solo_laws.specs.Road.{wakes}
-use Rattle.two_roads.specs.Acting.{AreOfSteps, EndOfSteps, IsOfStep, left_of}
+use Rattle.two_roads.specs.Acting.{AreActed, AreOfSteps, EndActed, EndOfSteps, IsActed, IsOfStep, left_of, looks_first}
 use Rattle.two_roads.specs.Together.{as_heard}
-use Rattle.two_roads.proofs.Acted.{AreActed, IsActed, looks_first}
-use Rattle.two_roads.proofs.ActedToEnd.{EndActed, runless_end_together}
+use Rattle.two_roads.proofs.Acted.{unsought}
+use Rattle.two_roads.proofs.ActedToEnd.{runless_end_together}
 use Rattle.two_roads.proofs.InStep.{steps_acted}
 
 task_looks : {T A : Type 0} (call : Call T A) → is_on_task call ≡ true → looks_first call ≡ false
@@ -38,7 +38,12 @@ task_looks _ on = refl
 module _ {T X : Type 0} (number : X → ℕ) where
   unlooked : (s : Machine) (a : Act) (p : Plain T (SoloWaker X)) (c : Choice) (call : Call T (SoloWaker X)) → looks_first call ≡ false
       → IsOfStep number s a p c call → IsActed number s a p c call
-  unlooked s a p c call none of = record { step = of; first = λ looks. absurd (clash none looks) }
+  unlooked s a p c call none of = record {
+    made = of.made;
+    refused = of.refused;
+    untaken = unsought p call of.runless;
+    first = λ looks. absurd (clash none looks);
+  }
 
 module _ {F T X : Type 0} (its : ℕ → Lent) (number : X → ℕ) where
   meanwhile_looks : (c : Choice) (y : Solo F T X) (p : Plain T (SoloWaker X)) (call : Call T (SoloWaker X))

@@ -1,16 +1,17 @@
 -- What memory refuses in a call is seen in what the call answers and in who lies behind it.
-use Rattle.std.proofs.Common.{◌≡◌, ℕ, ◌<◌, nat_lt, cond, not, Bool, true, false, List, [], ◌∷◌, ◌++◌, length, map, Option, Some, None}
-use Rattle.std.proofs.Common.{find, slice_get, slice_set, refl, sym, ap, ◌∙◌, arith}
+use Rattle.std.proofs.Common.{◌≡◌, ℕ, ◌<◌, ◌&&◌, nat_lt, cond, not, Bool, true, false, List, [], ◌∷◌, ◌++◌, length, map, Option, Some, None}
+use Rattle.std.proofs.Common.{find, slice_get, slice_set, refl, sym, ap, subst, ◌∙◌, arith}
 use Rattle.std.proofs.lemmas.Bool.Decides.{nat_tests}
 use Rattle.executor_parts.specs.declared.mark.Mark.{Mark}
 use Rattle.executor_model.specs.declared.op.Waker.{Waker}
 use Rattle.executor_model.specs.World.{Done, World}
 use Rattle.task_moves.specs.AbstractTask as abstract
 use Rattle.task_moves.specs.AbstractTask.{AbstractTask}
-use Rattle.plain_scheduler.specs.State.{Answers, ATick, AtOnce, Choice, Close, Closed, Code, Drop, DropOwn, Due, Event, Full, Gave, Granted}
+use Rattle.plain_scheduler.specs.State.{Answers, ARun, ATick, AtOnce, Choice, Close, Closed, Code, Drop, DropOwn, Due, Event, Full, Gave, Granted}
 use Rattle.plain_scheduler.specs.State.{Later, Lose, Made, NoMemory, Pending, Plain, Poll, PollOwn, Refusal, Run, Running, Taker, Tick, Try}
-use Rattle.plain_scheduler.specs.Lists.{on, or, without}
-use Rattle.plain_scheduler.specs.Moves.{answers, appended, chosen, copied, looks, put, runs, task, tell}
+use Rattle.plain_scheduler.specs.State.{Who}
+use Rattle.plain_scheduler.specs.Lists.{any, on, or, without}
+use Rattle.plain_scheduler.specs.Moves.{answers, appended, chosen, copied, is_due, looks, put, runs, task, tell}
 use Rattle.plain_scheduler.specs.Moves as moves
 use Rattle.plain_scheduler.specs.Takes as takes
 use Rattle.plain_scheduler.specs.Calls as calls
@@ -21,15 +22,17 @@ use Rattle.machine_roads.specs.Dropped.{answered, loses, without_run}
 use Rattle.machine_roads.specs.DropActs.{StandsDropping, behind, drops}
 use Rattle.machine_roads.specs.Forgotten.{unawaited, without_awaiter}
 use Rattle.machine_roads.specs.InLoss.{without_handles}
-use Rattle.machine_roads.specs.Refused.{IsLaterAnew, OneMoreLies}
+use Rattle.machine_roads.specs.Refused.{IsLaterAnew, OneMoreLies, is_in_own, is_in_vain}
 use Rattle.machine_roads.specs.Road.{Follows, sleeper, uncalled}
 use Rattle.machine_roads.specs.View.{Output, wakes as wakes_in}
 use Rattle.machine_roads.specs.Within.{StandsAlike, alike, dropping, forgetting, forgotten, going, losing, untaken}
 use Rattle.machine_roads.proofs.InLoss.{sleepers_through}
+use Rattle.machine_roads.proofs.Lists.{clash}
 use Rattle.machine_roads.proofs.Puts.{put_by}
-use Rattle.two_roads.specs.Acting.{goes_on_in, is_runs, takes_for_run}
+use Rattle.machine_roads.proofs.RunLies.{none_due}
+use Rattle.two_roads.specs.Acting.{is_runs, takes_for_run, takes_in}
 use Rattle.two_roads.specs.Refusing.{asks_memory, ends_refused, has_to_wait, refused_so}
-use Rattle.two_roads.specs.Renaming.{call_as, is_refusal}
+use Rattle.two_roads.specs.Renaming.{call_as, code_as, is_refusal}
 use Rattle.two_roads.proofs.Moving.{Setting, now, task_alike}
 use Rattle.two_roads.proofs.Tasks.{polled_as, asks_so as polled_so}
 use Rattle.two_roads.proofs.Words.{length_map}
@@ -87,7 +90,16 @@ module _ {T U A B : Type 0} (k : Setting T U A B) where
   asks_so (calls.DropRun r) p = refl
   asks_so calls.Leak p = refl
   asks_so calls.DropExecutor p = refl
-  asks_so calls.Pends p = refl
+  asks_so calls.Pends p = ap (λ b. b && not (any is_due p.due)) (own p.inside)
+    where
+      own : (codes : List (Code T A)) → is_in_own (map (code_as k.output k.waker) codes) ≡ is_in_own codes
+      own [] = refl
+      own (Poll f by ∷ codes) = refl
+      own (Drop f end by ∷ codes) = refl
+      own (Lose awaiter by ∷ codes) = refl
+      own (PollOwn r w ∷ codes) = refl
+      own (DropOwn r answer ∷ codes) = refl
+      own (Close fs all ∷ codes) = refl
   asks_so (calls.EndsWith v) p = refl
   asks_so calls.Ends p = refl
 
@@ -143,16 +155,16 @@ module _ (d : Choice) (x : Refusal) where
       (Answers Pending))
       (last_is q.events (Answers NoMemory)) (is_granted d.refusal) is
 
-  rested : (t : ℕ) (w : Waker) (q : Plain Output Waker) (r : Refusal) → (r ≡ Later → OneMoreLies q (takes.rests wakes_in d r (ATick t) w q))
-      → IsSeen q (takes.rests wakes_in d r (ATick t) w q) → takes.rests wakes_in e x (ATick t) w q ≡ takes.rests wakes_in d r (ATick t) w q
-  rested t w q r anew is = ap (λ r. takes.rests wakes_in d r (ATick t) w q) (is ∙ seen r anew)
+  rested : (who : Who) (w : Waker) (q : Plain Output Waker) (r : Refusal) → (r ≡ Later → OneMoreLies q (takes.rests wakes_in d r who w q))
+      → IsSeen q (takes.rests wakes_in d r who w q) → takes.rests wakes_in e x who w q ≡ takes.rests wakes_in d r who w q
+  rested who w q r anew is = ap (λ r. takes.rests wakes_in d r who w q) (is ∙ seen r anew)
     where
       lain : Plain Output Waker
-      lain = takes.lies_down wakes_in d (ATick t) w q
+      lain = takes.lies_down wakes_in d who w q
 
-      seen : (r : Refusal) → (r ≡ Later → OneMoreLies q (takes.rests wakes_in d r (ATick t) w q))
-          → refused_so (ends_refused (takes.rests wakes_in d r (ATick t) w q).events)
-          (nat_lt (lie q) (lie (takes.rests wakes_in d r (ATick t) w q)))
+      seen : (r : Refusal) → (r ≡ Later → OneMoreLies q (takes.rests wakes_in d r who w q))
+          → refused_so (ends_refused (takes.rests wakes_in d r who w q).events)
+          (nat_lt (lie q) (lie (takes.rests wakes_in d r who w q)))
           ≡ r
       seen Granted anew = ap (λ b. refused_so b (nat_lt (lie q) (lie lain))) (last_is lain.events (Answers Pending))
       seen AtOnce anew =
@@ -176,8 +188,40 @@ module _ (d : Choice) (x : Refusal) where
     where
       by : (o : Option Due) → (d.refusal ≡ Later → OneMoreLies q (took t w q d.refusal o)) → IsSeen q (took t w q d.refusal o)
           → took t w q x o ≡ took t w q d.refusal o
-      by None anew is = rested t w q d.refusal anew is
+      by None anew is = rested (ATick t) w q d.refusal anew is
       by (Some due) anew is = refl
+
+  -- a run that searches in vain
+  none_taken : (c : Choice) (r : ℕ) (w : Waker) (q : Plain Output Waker) → q.due ≡ []
+      → takes.take wakes_in c (Run r w) q ≡ takes.rests wakes_in c c.refusal (ARun r) w q
+  none_taken c r w q none =
+      ap
+      (λ (ds : List Due). or (find (chosen (looks c (Run r w)) q.due) ds)
+      (λ due. takes.takes wakes_in c (Run r w) due (record q { due = without (chosen (looks c (Run r w)) q.due) q.due }))
+      (takes.rests wakes_in c c.refusal (ARun r) w q)) none
+
+  looked : (q : Plain Output Waker) → is_in_vain q ≡ true → (d.refusal ≡ Later → OneMoreLies q (does wakes_in d calls.Pends q))
+      → IsSeen q (does wakes_in d calls.Pends q) → does wakes_in e calls.Pends q ≡ does wakes_in d calls.Pends q
+  looked q vain anew is = by q.inside vain anew is
+    where
+      ended : Choice → List (Code Output Waker) → Plain Output Waker
+      ended c codes = calls.innermost wakes_in c codes (calls.pends wakes_in c) q
+
+      nothing_due : (b : Bool) → any is_due q.due ≡ b → not b ≡ true → q.due ≡ []
+      nothing_due true is so = absurd cc
+      nothing_due false is so = none_due q.due is
+
+      by : (codes : List (Code Output Waker)) → (is_in_own codes && not (any is_due q.due)) ≡ true
+          → (d.refusal ≡ Later → OneMoreLies q (ended d codes)) → IsSeen q (ended d codes) → ended e codes ≡ ended d codes
+      by (PollOwn r w ∷ rest) vain anew is =
+          let q0 : Plain Output Waker = record q { inside = rest } in
+          let none = nothing_due (any is_due q.due) refl vain in
+          let rests = none_taken d r w q0 none in
+          none_taken e r w q0 none
+          ∙ (rested (ARun r) w q0 d.refusal (subst (λ z. d.refusal ≡ Later → OneMoreLies q z) rests anew)
+          (subst (λ z. IsSeen q z) rests is)
+          ∙ sym rests)
+      by codes vain anew is = absurd cc
 
   pub seen_refused : (call : Call Output Waker) (q : Plain Output Waker) → asks_memory q call ≡ true
       → IsLaterAnew d.refusal call q (does wakes_in d call q) → IsSeen q (does wakes_in d call q)
@@ -189,6 +233,7 @@ module _ (d : Choice) (x : Refusal) where
   seen_refused (calls.PollTick t w) q asks anew is = ticked t w q anew is
   seen_refused calls.NewRun q asks anew is =
       grants q (record q { runs = q.runs ++ record { taken = 0; is_over = false } ∷ [] }) (is_granted d.refusal) is
+  seen_refused calls.Pends q asks anew is = looked q asks (anew asks) is
   seen_refused call q asks anew is = absurd cc
 
 -- to one that asks for none it is nothing
@@ -210,17 +255,17 @@ module _ {T A : Type 0} (wakes : A → Option ℕ) (c : Choice) (x : Refusal) wh
   pending abstract.PendingEnd.Rests f by p off =
       nexts by (moves.becomes wakes (tell wakes c) f (abstract.end_pending (task f p)).task p) off
 
-  pends_on : (codes : List (Code T A)) (p : Plain T A) → goes_on_in codes ≡ false
+  pends_on : (codes : List (Code T A)) (p : Plain T A) → (is_in_own codes && not (any is_due p.due)) ≡ false → takes_in p.due codes ≡ false
       → calls.innermost wakes (otherwise c x) codes (calls.pends wakes (otherwise c x)) p ≡ calls.innermost wakes c codes
       (calls.pends wakes c) p
-  pends_on [] p off = refl
-  pends_on (Poll f by ∷ rest) p off = pending (abstract.pending_end (task f (record p { inside = rest }))) f by
+  pends_on [] p asks off = refl
+  pends_on (Poll f by ∷ rest) p asks off = pending (abstract.pending_end (task f (record p { inside = rest }))) f by
       (record p { inside = rest }) off
-  pends_on (PollOwn r w ∷ rest) p off = absurd cc
-  pends_on (Drop f end by ∷ rest) p off = refl
-  pends_on (Lose awaiter by ∷ rest) p off = refl
-  pends_on (DropOwn r answer ∷ rest) p off = refl
-  pends_on (Close fs all ∷ rest) p off = refl
+  pends_on (PollOwn r w ∷ rest) p asks off = absurd (clash asks (ap (λ b. not b) off))
+  pends_on (Drop f end by ∷ rest) p asks off = refl
+  pends_on (Lose awaiter by ∷ rest) p asks off = refl
+  pends_on (DropOwn r answer ∷ rest) p asks off = refl
+  pends_on (Close fs all ∷ rest) p asks off = refl
 
   gives_on : (v : T) (codes : List (Code T A)) (p : Plain T A)
       → calls.innermost wakes (otherwise c x) codes (calls.gives wakes (otherwise c x) v) p ≡ calls.innermost wakes c codes
@@ -233,7 +278,7 @@ module _ {T A : Type 0} (wakes : A → Option ℕ) (c : Choice) (x : Refusal) wh
   gives_on v (DropOwn r answer ∷ rest) p = refl
   gives_on v (Close fs all ∷ rest) p = refl
 
-  ends_on : (codes : List (Code T A)) (p : Plain T A) → goes_on_in codes ≡ false
+  ends_on : (codes : List (Code T A)) (p : Plain T A) → takes_in p.due codes ≡ false
       → calls.innermost wakes (otherwise c x) codes (calls.ends wakes (otherwise c x)) p ≡ calls.innermost wakes c codes
       (calls.ends wakes c) p
   ends_on [] p off = refl
@@ -278,7 +323,7 @@ module _ {T A : Type 0} (wakes : A → Option ℕ) (c : Choice) (x : Refusal) wh
   unasked (calls.DropRun r) p asks off = refl
   unasked calls.Leak p asks off = refl
   unasked calls.DropExecutor p asks off = closes_on (living_from 0 p.futures) (living_from 0 p.futures) p
-  unasked calls.Pends p asks off = pends_on p.inside p off
+  unasked calls.Pends p asks off = pends_on p.inside p asks off
   unasked (calls.EndsWith v) p asks off = gives_on v p.inside p
   unasked calls.Ends p asks off = ends_on p.inside p off
   unasked call p asks off = absurd cc

@@ -35,13 +35,13 @@ use Rattle.solo_laws.proofs.Showing.Courses.{Known, led_known, tick_room}
 use Rattle.solo_laws.proofs.Turning.{At, begun_at, left_at, let_go_at, lined_if_at, run_drained_at, scheduled_at, scheduled_if_at}
 use Rattle.solo_laws.proofs.Turning.{searched_turn, tick_left_at, told_at}
 use Rattle.two_roads.proofs.SoloTicks.{later_turns, refused_turns, rested_turns, taken_turns}
-use Rattle.two_roads.specs.Acting.{goes_on_in, takes_for_run}
+use Rattle.two_roads.specs.Acting.{goes_on_in, seeks_for_run}
 use Rattle.two_roads.specs.Turns.{CallsTakeTurns, tick_turns, turned_in, turns_of}
 
 -- one that a run took ends, behind which the run goes on
 for_run : {T X : Type 0} (p : Plain T (SoloWaker X)) (stage : Stage T (SoloWaker X)) (r : ℕ) (w : SoloWaker X)
     (rest : List (Code T (SoloWaker X)))
-    (call : Call T (SoloWaker X)) → IsEnding stage call → p.inside ≡ code_at stage (Run r w) ∷ rest → takes_for_run p call ≡ false → ⊥
+    (call : Call T (SoloWaker X)) → IsEnding stage call → p.inside ≡ code_at stage (Run r w) ∷ rest → seeks_for_run p call ≡ false → ⊥
 for_run p stage r w rest call (poll_ends f) is alone = clash alone (ap (λ codes. goes_on_in codes) is)
 for_run p stage r w rest call (drop_ends f end) is alone = clash alone (ap (λ codes. goes_on_in codes) is)
 for_run p stage r w rest call (loss_ends awaiter) is alone = clash alone (ap (λ codes. goes_on_in codes) is)
@@ -169,7 +169,7 @@ module _ {F T X : Type 0} where
 
 pub call_turns : {F T X : Type 0} (its : ℕ → Lent) (owner : Owner) (c : Choice) (s : Solo F T X) (p : Plain T (SoloWaker X)) (now : Owner)
     (z : Solo F T X) (call : Call T (SoloWaker X)) (shown : List (Event T (SoloWaker X))) → Known its owner s p → length p.lying ≤ c.tells
-    → Acts its owner c s p call shown now z → takes_for_run p call ≡ false → Turns c p call s z
+    → Acts its owner c s p call shown now z → seeks_for_run p call ≡ false → Turns c p call s z
 call_turns its owner c s p now z call shown known many (courses.makes call' shown' z' how) alone =
     makes_turns its c s z' p call' shown' how
 call_turns its owner c s p now z call shown known many (courses.makes_tick t new may) alone = refl

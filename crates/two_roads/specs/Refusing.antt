@@ -4,7 +4,8 @@ use Rattle.executor_model.specs.Steps.{Machine}
 use Rattle.task_moves.specs.AbstractTask as abstract
 use Rattle.plain_scheduler.specs.State.{AtOnce, Event, Granted, Later, Plain, Refusal}
 use Rattle.plain_scheduler.specs.Moves.{task}
-use Rattle.plain_scheduler.specs.Calls.{Call, Copy, NewRun, NewTick, PollHandle, PollTick, Spawn}
+use Rattle.plain_scheduler.specs.Calls.{Call, Copy, NewRun, NewTick, Pends, PollHandle, PollTick, Spawn}
+use Rattle.machine_roads.specs.Refused.{is_in_vain}
 use Rattle.machine_roads.specs.Seeing.{heard_in}
 use Rattle.machine_roads.specs.Within.{Act}
 use Rattle.two_roads.specs.Renaming.{is_refusal}
@@ -13,7 +14,8 @@ abbrev pub has_to_wait : {T : Type 0} → abstract.Polled T → Bool
 has_to_wait abstract.Polled.Waits = true
 has_to_wait _ = false
 
--- where no run takes a future these calls alone ask for memory, a poll of a handle where it has to wait
+-- where no run takes a future these calls alone ask for memory: a poll of a handle where it has to wait, and the end of the poll of a
+-- run's own future where it searches in vain
 abbrev pub asks_memory : {T A : Type 0} → Plain T A → Call T A → Bool
 asks_memory p (Spawn m) = true
 asks_memory p (Copy f) = true
@@ -21,6 +23,7 @@ asks_memory p (PollHandle f w) = has_to_wait (abstract.polled (task f p))
 asks_memory p NewTick = true
 asks_memory p (PollTick t w) = true
 asks_memory p NewRun = true
+asks_memory p Pends = is_in_vain p
 asks_memory p _ = false
 
 -- the last of these is the answer that there is no memory

@@ -20,7 +20,7 @@ use Rattle.machine_roads.specs.Within.{Act, IsAct, IsMade, StandsAlike, is_on_wa
 use Rattle.solo_laws.specs.Courses.{Acts}
 use Rattle.solo_laws.specs.Led.{IsLed}
 use Rattle.solo_laws.specs.Owner.{Owner}
-use Rattle.two_roads.specs.Acting.{takes_for_run}
+use Rattle.two_roads.specs.Acting.{seeks_for_run}
 use Rattle.two_roads.specs.Refusing.{refused_in}
 
 -- it lies, and wasn't called
@@ -58,7 +58,7 @@ abbrev pub ActsTakeTurns : Type 0
 ActsTakeTurns =
     (limit : ℕ) (kind : Kind) (parties : ℕ) (steps : List Step) (s : Machine) → run_all steps (start limit kind parties) ≡ Ok s
     → (q : Plain Output Waker) (a : Act) (call : Call Output Waker) → StandsAlike (standing s a.party) q → IsAct s a
-    → is_on_way (reverse (stack s a.party)) a.first ≡ true → IsMade s a.party a.first call → takes_for_run q call ≡ false
+    → is_on_way (reverse (stack s a.party)) a.first ≡ true → IsMade s a.party a.first call → seeks_for_run q call ≡ false
     → a.left.world.urgent_turns ≡ turned (turns_of (refused_in s a) q call) s.world.urgent_turns
 
 -- and so many the executor of one owner
@@ -66,5 +66,5 @@ abbrev pub CallsTakeTurns : Type 0 → Type 0 → Type 0 → Type 0
 CallsTakeTurns F T X =
     (its : ℕ → Lent) (owner : Owner) (c : Choice) (s : Solo F T X) (p : Plain T (SoloWaker X)) (now : Owner) (z : Solo F T X)
     (call : Call T (SoloWaker X)) (shown : List (Event T (SoloWaker X))) → IsLed its owner s p → length p.lying ≤ c.tells
-    → Acts its owner c s p call shown now z → takes_for_run p call ≡ false
+    → Acts its owner c s p call shown now z → seeks_for_run p call ≡ false
     → z.lines.turn ≡ turned_in (turns_of c.refusal p call) s.lines.turn

@@ -6,6 +6,7 @@ pub mod TakenInActs
 pub mod PollsShown
 pub mod Tasks
 pub mod Moving
+pub mod Looking
 pub mod Taking
 pub mod Calling
 pub mod Plainly

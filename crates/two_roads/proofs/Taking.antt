@@ -1,11 +1,11 @@
 -- And so it is with a future that is taken, with what becomes of it, and with what then goes on.
-use Rattle.std.proofs.Common.{◌≡◌, ℕ, suc, ◌+◌, ◌==◌, ◌≤◌, nat_lt, cond, Bool, true, false, List, [], ◌∷◌, ◌++◌, length}
+use Rattle.std.proofs.Common.{◌≡◌, ℕ, suc, ◌+◌, ◌==◌, ◌≤◌, ◌&&◌, not, is_some, nat_lt, cond, Bool, true, false, List, [], ◌∷◌, ◌++◌, length}
 use Rattle.std.proofs.Common.{map, find}
 use Rattle.std.proofs.Common.{Option, Some, None, slice_get, refl, sym, ap, subst, ◌∙◌}
 use Rattle.std.specs.Option.{option_map}
 use Rattle.executor_parts.specs.declared.mark.Mark.{Mark}
 use Rattle.executor_parts.specs.declared.mark.Mark.TheVariants.{Plain as PlainMark, Urgent}
-use Rattle.executor_parts.specs.Marks.{other}
+use Rattle.executor_parts.specs.Marks.{other, same_mark}
 use Rattle.task_moves.specs.AbstractTask as abstract
 use Rattle.task_moves.specs.AbstractTask.{AbstractTask, Left}
 use Rattle.plain_scheduler.specs.State.{Answer, Answers, ARun, ATick, AtOnce, Calls, Choice, Closed, Done, Drop, Drops, Due, End, Event}
@@ -14,46 +14,22 @@ use Rattle.plain_scheduler.specs.State.{Granted, Later, Lose, Loses, Lying, No, 
 use Rattle.plain_scheduler.specs.State.{Run}
 use Rattle.plain_scheduler.specs.State.{Taker, Tick, Try, Who, Yes}
 use Rattle.plain_scheduler.specs.Lists.{any, each, on, or, repeat, without}
-use Rattle.plain_scheduler.specs.Moves.{answers, called, chosen, copied, enters, is_common, is_due, is_kept, keeps, let_go, lies, looks}
+use Rattle.plain_scheduler.specs.Moves.{answers, called, chosen, copied, enters, is_common, is_due, is_kept, is_run, keeps, let_go, lies, looks}
 use Rattle.plain_scheduler.specs.Moves.{put}
 use Rattle.plain_scheduler.specs.Moves.{runs, see, task, tell, up, wake}
 use Rattle.plain_scheduler.specs.Takes as takes
+use Rattle.machine_roads.proofs.Lists.{clash}
 use Rattle.machine_roads.proofs.RunLies.{none_due}
-use Rattle.two_roads.specs.Renaming.{AreBothDue, GoesOnAlike, GoesOnIf, RunsAlike, TakesAlike}
+use Rattle.two_roads.specs.Renaming.{GoesOnAlike, GoesOnIf, IsNoneCommon, RunsAlike, TakesAlike, TakesSo}
 use Rattle.two_roads.specs.Renaming.{answer_as, end_as, event_as, lying_as, taker_as}
+use Rattle.two_roads.proofs.Looking.{common_alone, common_none, found_passes, looks_alike, passed_first, passed_later}
 use Rattle.two_roads.proofs.Words.{find_map, map_append, without_map}
 use Rattle.two_roads.proofs.Tasks.{begins_so, finishes_so, left_as, ready_so}
 use Rattle.two_roads.proofs.Moving.{Alike, Few, Goes, Setting, andthen, called_alike, changed_alike, copied_alike, each_alike}
 use Rattle.two_roads.proofs.Moving.{enters_alike}
-use Rattle.two_roads.proofs.Moving.{goes_alike, if_alike, its_task, keeps_alike, now, on_alike, on_here, put_alike, put_so}
+use Rattle.two_roads.proofs.Moving.{goes_alike, if_alike, its_task, keeps_alike, now, on_alike, put_alike, put_so}
 use Rattle.two_roads.proofs.Moving.{release_alike, repeat_alike, runs_alike, see_alike, stays, task_alike, tell_alike, up_alike}
 use Rattle.two_roads.proofs.Moving.{wake_alike}
-
--- at which mark is looked first is nothing where futures of one alone are due
-in_either_order : (due : List Due) → ¬ AreBothDue due
-    → chosen (is_common PlainMark ∷ is_common Urgent ∷ []) due ≡ chosen (is_common Urgent ∷ is_common PlainMark ∷ []) due
-in_either_order due alone = by (any (is_common PlainMark) due) refl (any (is_common Urgent) due) refl
-  where
-    by : (a : Bool) → any (is_common PlainMark) due ≡ a → (b : Bool) → any (is_common Urgent) due ≡ b
-        → ◌≡◌ {A = Due → Bool} (λ d. cond a (is_common PlainMark d) (cond b (is_common Urgent d) false))
-        (λ d. cond b (is_common Urgent d) (cond a (is_common PlainMark d) false))
-    by true plain true urgent = absurd (alone (record { plain = plain; urgent = urgent }))
-    by true plain false urgent = refl
-    by false plain true urgent = refl
-    by false plain false urgent = refl
-
-looks_alike : (m n : Mark) (due : List Due) → (AreBothDue due → m ≡ n)
-    → chosen (is_common m ∷ is_common (other m) ∷ []) due ≡ chosen (is_common n ∷ is_common (other n) ∷ []) due
-looks_alike PlainMark PlainMark due alike = refl
-looks_alike Urgent Urgent due alike = refl
-looks_alike PlainMark Urgent due alike = in_either_order due (λ both. apart (alike both))
-  where
-    apart : PlainMark ≡ Urgent → ⊥
-    apart is = cc
-looks_alike Urgent PlainMark due alike = sym (in_either_order due (λ both. apart (alike both)))
-  where
-    apart : Urgent ≡ PlainMark → ⊥
-    apart is = cc
 
 module _ {T U A B : Type 0} (k : Setting T U A B) where
   abbrev c : Choice
@@ -119,26 +95,35 @@ module _ {T U A B : Type 0} (k : Setting T U A B) where
       (see_alike k (Polls f)))
       (enters_alike k (Poll f by))))
 
-  robbed_alike : RunsAlike c d → (r : ℕ) (keeper : Option ℕ)
-      → Goes k (takes.robbed k.wakes c r keeper) (takes.robbed k.wakes_as d r keeper)
-  robbed_alike run r keeper p few =
-      subst
-      (λ n. Alike k (takes.robbed k.wakes c r keeper p)
-      (on keeper (λ one p. cond (r == one) p (repeat n (keeps r (is_kept one)) p)) (now k p)))
-      run.moves
-      (on_here k keeper (λ one p. cond (r == one) p (repeat c.moves (keeps r (is_kept one)) p))
-      (λ one p. cond (r == one) p (repeat c.moves (keeps r (is_kept one)) p)) p few
-      (λ one. if_alike k (r == one) (stays k p few)
-      (repeat_alike k c.moves (keeps r (is_kept one)) (keeps r (is_kept one)) (keeps_alike k r (is_kept one)) p (now k p)
-      (stays k p few))))
+  -- so many more it moves only where it robs another
+  abbrev MovesAlike : ℕ → Option ℕ → Type 0
+  MovesAlike r keeper = (one : ℕ) → keeper ≡ Some one → (r == one) ≡ false → c.moves ≡ d.moves
 
-  kept_alike : RunsAlike c d → (r : ℕ) → Goes k (takes.kept k.wakes c r) (takes.kept k.wakes_as d r)
-  kept_alike run r p few =
-      subst (λ ms. Alike k (takes.kept k.wakes c r p) (each ms (λ mark. keeps r (is_common mark)) (now k p))) run.keeps
+  robbed_alike : (r : ℕ) (keeper : Option ℕ) → MovesAlike r keeper
+      → Goes k (takes.robbed k.wakes c r keeper) (takes.robbed k.wakes_as d r keeper)
+  robbed_alike r None run p few = stays k p few
+  robbed_alike r (Some one) run p few = by (r == one) refl
+    where
+      by : (b : Bool) → (r == one) ≡ b
+          → Alike k (cond b p (repeat c.moves (keeps r (is_kept one)) p)) (cond b (now k p) (repeat d.moves (keeps r (is_kept one)) (now k p)))
+      by true own = stays k p few
+      by false apart =
+          subst (λ n. Alike k (repeat c.moves (keeps r (is_kept one)) p) (repeat n (keeps r (is_kept one)) (now k p))) (run one refl apart)
+          (repeat_alike k c.moves (keeps r (is_kept one)) (keeps r (is_kept one)) (keeps_alike k r (is_kept one)) p (now k p)
+          (stays k p few))
+
+  kept_alike : c.keeps ≡ d.keeps → (r : ℕ) → Goes k (takes.kept k.wakes c r) (takes.kept k.wakes_as d r)
+  kept_alike same r p few =
+      subst (λ ms. Alike k (takes.kept k.wakes c r p) (each ms (λ mark. keeps r (is_common mark)) (now k p))) same
       (each_alike k c.keeps (λ mark. keeps r (is_common mark)) (λ mark. keeps r (is_common mark))
       (λ mark. keeps_alike k r (is_common mark)) p (now k p) (stays k p few))
 
-  takes_alike : (by : Taker A) (due : Due) → GoesOnAlike c d by
+  -- what a run that takes this one asks for
+  abbrev KeepsAlike : Taker A → Due → Type 0
+  KeepsAlike (Run r w) due = (c.keeps ≡ d.keeps) × MovesAlike r due.keeper
+  KeepsAlike by due = Unit {0}
+
+  takes_alike : (by : Taker A) (due : Due) → KeepsAlike by due
       → Goes k (takes.takes k.wakes c by due) (takes.takes k.wakes_as d (taker by) due)
   takes_alike Try due on p few =
       andthen k (takes.run k.wakes c due.future Try) (takes.run k.wakes_as d due.future Try) (tell_alike k p few)
@@ -152,9 +137,9 @@ module _ {T U A B : Type 0} (k : Setting T U A B) where
       (andthen k (takes.counted k.wakes c r) (takes.counted k.wakes_as d r)
       (andthen k (takes.kept k.wakes c r) (takes.kept k.wakes_as d r)
       (andthen k tells tells_as
-      (andthen k (up k.wakes c (ARun r)) (up k.wakes_as d (ARun r)) (robbed_alike on r due.keeper p few) (up_alike k (ARun r)))
+      (andthen k (up k.wakes c (ARun r)) (up k.wakes_as d (ARun r)) (robbed_alike r due.keeper on.1 p few) (up_alike k (ARun r)))
       (tell_alike k))
-      (kept_alike on r))
+      (kept_alike on.0 r))
       (runs_alike k (λ run. record run { taken = run.taken + 1 }) r))
       (run_alike due.future (Run r w))
 
@@ -253,7 +238,8 @@ module _ {T U A B : Type 0} (k : Setting T U A B) where
   nothing_same (Tick t w) p few = rests_so (ATick t) w p few
   nothing_same (Run r w) p few = rests_so (ARun r) w p few
 
-  take_so : (by : Taker A) (p : Plain T A) → chosen (looks c by) p.due ≡ chosen (looks d (taker by)) p.due → GoesOnAlike c d by → Few k p
+  take_so : (by : Taker A) (p : Plain T A) → chosen (looks c by) p.due ≡ chosen (looks d (taker by)) p.due
+      → ((due : Due) → find (chosen (looks c by) p.due) p.due ≡ Some due → KeepsAlike by due) → Few k p
       → Same (takes.take k.wakes c by p) (takes.take k.wakes_as d (taker by) (now k p))
   take_so by p looked on_so few =
       subst
@@ -261,18 +247,18 @@ module _ {T U A B : Type 0} (k : Setting T U A B) where
       (or (find test p.due)
       (λ due. takes.takes k.wakes_as d (taker by) due (record (now k p) { due = without test p.due }))
       (takes.nothing k.wakes_as d (taker by) (now k p))))
-      looked (found (find test p.due))
+      looked (found (find test p.due) refl)
     where
       test : Due → Bool
       test = chosen (looks c by) p.due
 
-      found : (o : Option Due)
+      found : (o : Option Due) → find test p.due ≡ o
           → Same
           (or o (λ due. takes.takes k.wakes c by due (record p { due = without test p.due })) (takes.nothing k.wakes c by p))
           (or o (λ due. takes.takes k.wakes_as d (taker by) due (record (now k p) { due = without test p.due }))
           (takes.nothing k.wakes_as d (taker by) (now k p)))
-      found None = nothing_same by p few
-      found (Some due) = (takes_alike by due on_so (record p { due = without test p.due }) few).same
+      found None is = nothing_same by p few
+      found (Some due) is = (takes_alike by due (on_so due is) (record p { due = without test p.due }) few).same
 
   -- where nothing is due, no choice matters
   none_taken : (by : Taker A) (p : Plain T A) → p.due ≡ [] → Few k p
@@ -287,24 +273,85 @@ module _ {T U A B : Type 0} (k : Setting T U A B) where
       (takes.nothing k.wakes_as d (taker by) (now k p))))
       (sym none) (nothing_same by p few)
 
-  run_taken : (r : ℕ) (w : A) (p : Plain T A) → (any is_due p.due ≡ true → RunsAlike c d) → Few k p → (b : Bool)
-      → any is_due p.due ≡ b → Same (takes.take k.wakes c (Run r w) p) (takes.take k.wakes_as d (Run r (k.waker w)) (now k p))
-  run_taken r w p alike few false none = none_taken (Run r w) p (none_due p.due none) few
-  run_taken r w p alike few true some = take_so (Run r w) p looked both few
+  run_taken : (r : ℕ) (w : A) (p : Plain T A) → TakesSo c d r p.due → Few k p
+      → Same (takes.take k.wakes c (Run r w) p) (takes.take k.wakes_as d (Run r (k.waker w)) (now k p))
+  run_taken r w p so few = own (any (is_kept r) p.due) refl
     where
-      both : RunsAlike c d
-      both = alike some
+      goal : Type 0
+      goal = Same (takes.take k.wakes c (Run r w) p) (takes.take k.wakes_as d (Run r (k.waker w)) (now k p))
 
-      looked : chosen (looks c (Run r w)) p.due ≡ chosen (looks d (Run r (k.waker w))) p.due
-      looked =
-          ap (λ first. chosen (is_kept r ∷ is_common first ∷ is_common (other first) ∷ is_kept c.robs ∷ is_due ∷ []) p.due) both.first
-          ∙ ap (λ robs. chosen (is_kept r ∷ is_common d.first ∷ is_common (other d.first) ∷ is_kept robs ∷ is_due ∷ []) p.due) both.robs
+      tail : Choice → List (Due → Bool)
+      tail e = is_kept e.robs ∷ is_due ∷ []
+
+      commons : Choice → List (Due → Bool)
+      commons e = is_common e.first ∷ is_common (other e.first) ∷ tail e
+
+      test : Due → Bool
+      test = chosen (looks c (Run r w)) p.due
+
+      its_own : test ≡ is_kept r → (due : Due) → find test p.due ≡ Some due → KeepsAlike (Run r w) due
+      its_own is due found = (
+        so.keeps,
+        λ one keeper apart. absurd (clash apart
+            (ap (λ o. is_run r o) (sym keeper) ∙ (ap (λ (f : Due → Bool). f due) (sym is) ∙ found_passes test p.due due found))),
+      )
+
+      of_none : (first : Mark) → test ≡ chosen (is_common first ∷ is_common (other first) ∷ []) p.due → (due : Due)
+          → find test p.due ≡ Some due → KeepsAlike (Run r w) due
+      of_none first is due found = (
+        so.keeps,
+        λ one keeper apart. absurd
+            (by (any (is_common first) p.due) (any (is_common (other first)) p.due) one keeper
+            (ap (λ (f : Due → Bool). f due) (sym is) ∙ found_passes test p.due due found)),
+      )
+        where
+          common : (m : Mark) (one : ℕ) → due.keeper ≡ Some one → is_common m due ≡ true → ⊥
+          common m one keeper passes = clash (ap (λ (o : Option ℕ). not (is_some o) && same_mark m due.mark) keeper) passes
+
+          by : (a b : Bool) (one : ℕ) → due.keeper ≡ Some one
+              → cond a (is_common first due) (cond b (is_common (other first) due) false) ≡ true → ⊥
+          by true b one keeper passes = common first one keeper passes
+          by false true one keeper passes = common (other first) one keeper passes
+          by false false one keeper passes = cc
+
+      some_common : any (is_kept r) p.due ≡ false → ¬ IsNoneCommon p.due → goal
+      some_common mine some =
+          let is = passed_later (is_kept r) (commons c) p.due mine ∙ common_alone c.first (tail c) p.due some in
+          take_so (Run r w) p
+          (is
+          ∙ (looks_alike c.first d.first p.due (so.first mine)
+          ∙ sym (passed_later (is_kept r) (commons d) p.due mine ∙ common_alone d.first (tail d) p.due some)))
+          (of_none c.first is) few
+
+      none_kept : any (is_kept r) p.due ≡ false → (a : Bool) → any (is_common PlainMark) p.due ≡ a → (b : Bool)
+          → any (is_common Urgent) p.due ≡ b → goal
+      none_kept mine false plain false urgent =
+          let none : IsNoneCommon p.due = record { plain = plain; urgent = urgent } in
+          take_so (Run r w) p
+          (passed_later (is_kept r) (commons c) p.due mine
+          ∙ (common_none c.first (tail c) p.due none
+          ∙ (ap (λ n. chosen (is_kept n ∷ is_due ∷ []) p.due) (so.robs mine none)
+          ∙ sym (passed_later (is_kept r) (commons d) p.due mine ∙ common_none d.first (tail d) p.due none))))
+          (λ due found. (so.keeps, λ one keeper apart. so.moves mine none)) few
+      none_kept mine true plain b urgent = some_common mine (λ none. clash none.plain plain)
+      none_kept mine false plain true urgent = some_common mine (λ none. clash none.urgent urgent)
+
+      own : (b : Bool) → any (is_kept r) p.due ≡ b → goal
+      own true mine =
+          let is = passed_first (is_kept r) (commons c) p.due mine in
+          take_so (Run r w) p (is ∙ sym (passed_first (is_kept r) (commons d) p.due mine)) (its_own is) few
+      own false mine = none_kept mine (any (is_common PlainMark) p.due) refl (any (is_common Urgent) p.due) refl
 
   pub take_same : (by : Taker A) (p : Plain T A) → TakesAlike c d by p.due → Few k p
       → Same (takes.take k.wakes c by p) (takes.take k.wakes_as d (taker by) (now k p))
-  take_same Try p alike few = take_so Try p (looks_alike c.first d.first p.due alike) tt few
-  take_same (Tick t w) p alike few = take_so (Tick t w) p (looks_alike c.first d.first p.due alike) tt few
-  take_same (Run r w) p alike few = run_taken r w p alike few (any is_due p.due) refl
+  take_same Try p alike few = take_so Try p (looks_alike c.first d.first p.due alike) (λ due found. tt) few
+  take_same (Tick t w) p alike few = take_so (Tick t w) p (looks_alike c.first d.first p.due alike) (λ due found. tt) few
+  take_same (Run r w) p alike few = by (any is_due p.due) refl
+    where
+      by : (b : Bool) → any is_due p.due ≡ b
+          → Same (takes.take k.wakes c (Run r w) p) (takes.take k.wakes_as d (Run r (k.waker w)) (now k p))
+      by true some = run_taken r w p (alike some) few
+      by false none = none_taken (Run r w) p (none_due p.due none) few
 
   -- what goes on after a future
   gives_way_same : (r : ℕ) (w : A) (p : Plain T A) → Few k p
@@ -342,7 +389,10 @@ module _ {T U A B : Type 0} (k : Setting T U A B) where
   next_same (Run r w) on p few =
       if_same (nat_lt (or (slice_get p.runs r) (λ run. run.taken) 0) 200) (takes.take k.wakes c (Run r w) p)
       (takes.gives_way k.wakes c r w p) (takes.take k.wakes_as d (Run r (k.waker w)) (now k p))
-      (takes.gives_way k.wakes_as d r (k.waker w) (now k p)) (take_same (Run r w) p (λ some. on) few) (gives_way_same r w p few)
+      (takes.gives_way k.wakes_as d r (k.waker w) (now k p)) (take_same (Run r w) p (λ some. on_so on) few) (gives_way_same r w p few)
+    where
+      on_so : RunsAlike c d → TakesSo c d r p.due
+      on_so on = record { keeps = on.keeps; first = λ mine both. on.first; robs = λ mine none. on.robs; moves = λ mine none. on.moves }
 
   pub lost_same : (awaiter : Option A) (by : Option (Taker A)) → GoesOnIf c d by → (p : Plain T A) → Few k p
       → Same (takes.lost k.wakes c awaiter by p)

@@ -8,7 +8,7 @@ use Rattle.plain_scheduler.specs.State.{DropOwn}
 use Rattle.plain_scheduler.specs.State.{Close, Event, Polls, Drops, Loses, Calls, Answers, Choice, Plain}
 use Rattle.plain_scheduler.specs.State.{Answer, Made, Full, NoMemory, Yes, No, Pending, Ready, Gives, Cancelled, Finished, Done}
 use Rattle.plain_scheduler.specs.Lists.{any}
-use Rattle.plain_scheduler.specs.Moves.{is_common, is_due}
+use Rattle.plain_scheduler.specs.Moves.{is_common, is_due, is_kept}
 use Rattle.plain_scheduler.specs.Calls.{Call, Spawn, TryTick, IsEmpty, Wake, Use, Copy, Release, PollHandle, Cancel, Detach, DropHandle}
 use Rattle.plain_scheduler.specs.Calls.{NewTick, PollTick, DropTick, NewRun, PollRun, DropRun, Leak, DropExecutor, Pends, EndsWith, Ends}
 use Rattle.plain_scheduler.specs.Calls.{does}
@@ -125,6 +125,19 @@ pub record RunsAlike (c d : Choice) : Type 0 where
   pub robs : c.robs ≡ d.robs
   pub moves : c.moves ≡ d.moves
 
+-- nor are there any that no run keeps
+pub record IsNoneCommon (due : List Due) : Type 0 where
+  pub plain : any (is_common PlainMark) due ≡ false
+  pub urgent : any (is_common Urgent) due ≡ false
+
+-- what run r takes of these is the first that it keeps itself, and what it then keeps matters; where it keeps none, where it looks first
+-- matters while futures of both marks are due, and whom it robs, and of how many more, only where all are kept
+pub record TakesSo (x y : Choice) (r : ℕ) (due : List Due) : Type 0 where
+  pub keeps : x.keeps ≡ y.keeps
+  pub first : any (is_kept r) due ≡ false → AreBothDue due → x.first ≡ y.first
+  pub robs : any (is_kept r) due ≡ false → IsNoneCommon due → x.robs ≡ y.robs
+  pub moves : any (is_kept r) due ≡ false → IsNoneCommon due → x.moves ≡ y.moves
+
 -- which of the two choices have to be the same: at which mark is looked first matters where a try or a tick takes a future while
 -- futures of both are due; how a run takes and keeps matters only to a run, and where any is due
 module _ (c d : Choice) where
@@ -135,7 +148,7 @@ module _ (c d : Choice) where
     abbrev pub TakesAlike : Taker A → List Due → Type 0
     TakesAlike Try due = FirstAlike due
     TakesAlike (Tick t w) due = FirstAlike due
-    TakesAlike (Run r w) due = any is_due due ≡ true → RunsAlike c d
+    TakesAlike (Run r w) due = any is_due due ≡ true → TakesSo c d r due
 
     -- behind a future a run takes another
     abbrev pub GoesOnAlike : Taker A → Type 0

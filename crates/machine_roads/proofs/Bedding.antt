@@ -4,6 +4,7 @@ use Rattle.std.proofs.Common.{List, [], ◌∷◌, length, map, get_or, Option, 
 use Rattle.std.proofs.Common.{refl, sym, ap, subst, ◌∙◌, arith, append_assoc}
 use Rattle.std.specs.Prelude.{find}
 use Rattle.std.proofs.lemmas.List.{get_or-set_same}
+use Rattle.executor_parts.specs.Marks.{turn_after}
 use Rattle.executor_parts.specs.Sleepers.{listed, next_number, position_of, put_to_sleep, waker_at, waker_in}
 use Rattle.executor_model.specs.declared.call.Reply.TheVariants as reply
 use Rattle.executor_model.specs.declared.op.Op.{Op}
@@ -100,12 +101,13 @@ module _ (p : ℕ) (below : List Op) (under : is_resting below ≡ true) (end : 
       by (Task g) (tick_or_run.Run r) = refl
       by (Outside x) it = refl
 
-  -- a search that finds nothing has looked everywhere, and comes to the copy of its waker
+  -- a search that finds nothing has taken a turn and looked everywhere, and comes to the copy of its waker
   pub record Idles (w : World) (z : Plain Output Waker) : Type 0 where
     pub world : World
     pub follows : Follows world z
     pub place : place_of world it ≡ place_of w it
     pub wakers : world.sleepers.wakers ≡ w.sleepers.wakers
+    pub turn : world.urgent_turns ≡ turn_after w.urgent_turns
     pub way : Way p end world (op.Tick (tick_op.CopyWaker s) ∷ below)
 
   -- and it is refused memory once it lies only where it lies anew

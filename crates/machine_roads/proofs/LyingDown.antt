@@ -62,6 +62,7 @@ module _ (p : ℕ) (below : List Op) (under : is_resting below ≡ true) (end : 
             (event.Looked p (first_of w.urgent_turns)) refl;
         place = refl;
         wakers = refl;
+        turn = refl;
         way = searches_none p below under end rests c t a k w q follows quiet way;
       }
 

@@ -17,6 +17,8 @@ use Rattle.solo.specs.Closing as closing
 use Rattle.solo.specs.Runs as runs
 use Rattle.solo.specs.Solo as solo
 use Rattle.solo.specs.Turns as turns
+use Rattle.solo.specs.Lines.{search_answer}
+use Rattle.solo.specs.Steals as steals
 use Rattle.plain_scheduler.specs.State.{ARun, ATick, Choice, Code, Event, Plain, Run}
 use Rattle.plain_scheduler.specs.Lists.{on, repeat}
 use Rattle.plain_scheduler.specs.Calls.{Call, is_granted}
@@ -33,7 +35,7 @@ use Rattle.machine_roads.proofs.Lists.{clash}
 use Rattle.solo_laws.proofs.Prompt.{chosen}
 use Rattle.solo_laws.proofs.Showing.Courses.{Known, led_known, tick_room}
 use Rattle.solo_laws.proofs.Turning.{At, begun_at, left_at, let_go_at, lined_if_at, run_drained_at, scheduled_at, scheduled_if_at}
-use Rattle.solo_laws.proofs.Turning.{searched_turn, tick_left_at, told_at}
+use Rattle.solo_laws.proofs.Turning.{further_at, searched_turn, tick_left_at, told_at}
 use Rattle.two_roads.proofs.SoloTicks.{later_turns, refused_turns, rested_turns, taken_turns}
 use Rattle.two_roads.specs.Acting.{goes_on_in, seeks_for_run}
 use Rattle.two_roads.specs.Turns.{CallsTakeTurns, tick_turns, turned_in, turns_of}
@@ -132,6 +134,24 @@ module _ {F T X : Type 0} where
             → At t (runs.drained leaving s) → At t (on more (drains n) (runs.drained leaving s))
         by (Some more) on here = on more here
         by None on here = here
+
+  -- a run that keeps none searches further, and takes a turn; so does one that finds none
+  by_none : (o : Option Task) (r start : ℕ) (s : Solo F T X) → o ≡ None
+      → (steals.sought_by o r start s).lines.turn ≡ (s.lines.turn + 1) % 2 ^ 64
+  by_none (Some task) r start s none = absurd cc
+  by_none None r start s none =
+      further_at ((s.lines.turn + 1) % 2 ^ 64) (search_answer s.lines).task (search_answer s.lines).mark r start (solo.popped s)
+      (searched_turn s.lines)
+
+  none_own : (o : Option Task) (r start : ℕ) (s : Solo F T X) → (steals.seek_answer_by o r start s).task ≡ None → o ≡ None
+  none_own (Some task) r start s none = none
+  none_own None r start s none = refl
+
+  pub sought_turn : (r start : ℕ) (s : Solo F T X) → (steals.seek_answer r start s).task ≡ None
+      → (steals.sought r start s).lines.turn ≡ (s.lines.turn + 1) % 2 ^ 64
+  sought_turn r start s none =
+      let o = own.first_of r s.runs in
+      by_none o r start (steals.own_popped r s) (none_own o r start (steals.own_popped r s) none)
 
   abbrev Turns : Choice → Plain T (SoloWaker X) → Call T (SoloWaker X) → Solo F T X → Solo F T X → Type 0
   Turns c p call s z = z.lines.turn ≡ turned_in (turns_of c.refusal p call) s.lines.turn

@@ -411,9 +411,6 @@ module _ (s : Machine) (reached : Reached s) (p : ℕ) (there : p < length s.par
         will : Choice → Plain Output Waker
         will d = does wakes d Pends (r1 (PollOwn x.run x.waker))
 
-        here : Follows s.world r0
-        here = follows0 (PollOwn x.run x.waker) at refl s.world follows
-
         -- where something is due it takes, and else it lies down, or is refused memory
         by : (hints : List Hint) → HasAll p hints search → is_resting (alone p hints search).next ≡ true → (some : Bool)
             → any is_due q.due ≡ some → Comes (end.Polled answer.Pending) (alone p hints search)
@@ -422,8 +419,10 @@ module _ (s : Machine) (reached : Reached s) (p : ℕ) (there : p < length s.par
             let lands =
             after_lands p below r0 nested under c1 room e rests will x false count facts0
             (λ d. take_ends d x.run x.waker r0 few) (taken_in x.run q.runs)
-            (goes_from p x below r0 c1.tells (taken_in x.run q.runs) e will under rests c1 s.world r0 here room
-            (between p below r0 nested under c1 room e rests will x false count facts0) refl (record { hints = hints; has = all; is = refl })
+            (goes_from p x below r0 c1.tells (taken_in x.run q.runs) e will under rests c1 s.world r0
+            (follows0 (PollOwn x.run x.waker) at refl s.world follows) room
+            (between p below r0 nested under c1 room e rests will x false count facts0) refl
+            (record { hints = hints; has = all; is = refl })
             (λ d. sym (ap (λ b. if b then plain_takes.take wakes (telling c1.tells d) (Run x.run x.waker) r0
             else plain_takes.gives_way wakes (telling c1.tells d) x.run x.waker r0) few))) in
             came_by (end.Polled answer.Pending) Pends pends e lands.0 lands.1
@@ -431,13 +430,14 @@ module _ (s : Machine) (reached : Reached s) (p : ℕ) (there : p < length s.par
             (subst (λ y. StandsSo e (does wakes lands.0 Pends y)) (same (PollOwn x.run x.waker) at) lands.2)
         by hints all rests false none =
             let e = alone p hints search in
+            let here = follows0 (PollOwn x.run x.waker) at refl s.world follows in
             let g = lies_so p x below e under rests c1 s.world r0 here room none (record { hints = hints; has = all; is = refl }) in
             let d : Choice = record c1 { refusal = g.0 } in
-            let in_own = same (PollOwn x.run x.waker) at in
             came_by (end.Polled answer.Pending) Pends pends e d refl
-            (λ vain later. subst (λ y. OneMoreLies q (does wakes d Pends y)) in_own (g.5 later))
-            (subst (λ y. StandsSo e (does wakes d Pends y)) in_own
-            (rests_so p below r0 nested under c1 room e rests will x false count facts0 (λ d. take_ends d x.run x.waker r0 few) d g.1 g.2 g.3))
+            (λ vain later. subst (λ y. OneMoreLies q (does wakes d Pends y)) (same (PollOwn x.run x.waker) at) (g.5 later))
+            (subst (λ y. StandsSo e (does wakes d Pends y)) (same (PollOwn x.run x.waker) at)
+            (rests_so p below r0 nested under c1 room e rests will x false count facts0 (λ d. take_ends d x.run x.waker r0 few) d
+            g.1 g.2 g.3))
     from_own_poll x is at follows u ok = absurd cc
 
     -- a run has gone: what others have taken stays

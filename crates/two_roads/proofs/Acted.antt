@@ -13,8 +13,8 @@ use Rattle.solo.specs.declared.names.SoloWaker.{SoloWaker}
 use Rattle.solo.specs.declared.owed.Lent.{Lent}
 use Rattle.solo.specs.declared.solo.Solo.{Solo}
 use Rattle.solo.specs.Solo.{IsNew, counts}
-use Rattle.plain_scheduler.specs.State.{Answers, Choice, Close, Code, Drop, DropOwn, Due, Event, Gives, Lose, Plain, Poll, PollOwn, Run, Taker}
-use Rattle.plain_scheduler.specs.State.{Tick, Try, Who}
+use Rattle.plain_scheduler.specs.State.{Answers, Choice, Close, Code, Drop, DropOwn, Due, Event, Gives, Lose, Plain, Poll, PollOwn, Run}
+use Rattle.plain_scheduler.specs.State.{Taker, Tick, Try, Who}
 use Rattle.plain_scheduler.specs.Calls as calls
 use Rattle.plain_scheduler.specs.Calls.{Call, course, does, new}
 use Rattle.machine_roads.specs.Refused.{IsLaterAnew}

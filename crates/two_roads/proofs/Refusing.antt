@@ -7,9 +7,9 @@ use Rattle.executor_model.specs.declared.op.Waker.{Waker}
 use Rattle.executor_model.specs.World.{Done, World}
 use Rattle.task_moves.specs.AbstractTask as abstract
 use Rattle.task_moves.specs.AbstractTask.{AbstractTask}
-use Rattle.plain_scheduler.specs.State.{Answers, ARun, ATick, AtOnce, Choice, Close, Closed, Code, Drop, DropOwn, Due, Event, Full, Gave, Granted}
+use Rattle.plain_scheduler.specs.State.{Answers, ARun, ATick, AtOnce, Choice, Close, Closed, Code, Drop, DropOwn, Due, Event, Full, Gave}
 use Rattle.plain_scheduler.specs.State.{Later, Lose, Made, NoMemory, Pending, Plain, Poll, PollOwn, Refusal, Run, Running, Taker, Tick, Try}
-use Rattle.plain_scheduler.specs.State.{Who}
+use Rattle.plain_scheduler.specs.State.{Granted, Who}
 use Rattle.plain_scheduler.specs.Lists.{any, on, or, without}
 use Rattle.plain_scheduler.specs.Moves.{answers, appended, chosen, copied, is_due, looks, put, runs, task, tell}
 use Rattle.plain_scheduler.specs.Moves as moves

@@ -14,8 +14,8 @@ use Rattle.plain_scheduler.specs.State.{Granted, Later, Lose, Loses, Lying, No, 
 use Rattle.plain_scheduler.specs.State.{Run}
 use Rattle.plain_scheduler.specs.State.{Taker, Tick, Try, Who, Yes}
 use Rattle.plain_scheduler.specs.Lists.{any, each, on, or, repeat, without}
-use Rattle.plain_scheduler.specs.Moves.{answers, called, chosen, copied, enters, is_common, is_due, is_kept, is_run, keeps, let_go, lies, looks}
-use Rattle.plain_scheduler.specs.Moves.{put}
+use Rattle.plain_scheduler.specs.Moves.{answers, called, chosen, copied, enters, is_common, is_due, is_kept, is_run, keeps, let_go, lies}
+use Rattle.plain_scheduler.specs.Moves.{looks, put}
 use Rattle.plain_scheduler.specs.Moves.{runs, see, task, tell, up, wake}
 use Rattle.plain_scheduler.specs.Takes as takes
 use Rattle.machine_roads.proofs.Lists.{clash}
@@ -105,7 +105,8 @@ module _ {T U A B : Type 0} (k : Setting T U A B) where
   robbed_alike r (Some one) run p few = by (r == one) refl
     where
       by : (b : Bool) → (r == one) ≡ b
-          → Alike k (cond b p (repeat c.moves (keeps r (is_kept one)) p)) (cond b (now k p) (repeat d.moves (keeps r (is_kept one)) (now k p)))
+          → Alike k (cond b p (repeat c.moves (keeps r (is_kept one)) p))
+          (cond b (now k p) (repeat d.moves (keeps r (is_kept one)) (now k p)))
       by true own = stays k p few
       by false apart =
           subst (λ n. Alike k (repeat c.moves (keeps r (is_kept one)) p) (repeat n (keeps r (is_kept one)) (now k p))) (run one refl apart)

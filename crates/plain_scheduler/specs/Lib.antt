@@ -3,3 +3,5 @@ pub mod State
 pub mod Moves
 pub mod Takes
 pub mod Calls
+pub mod Searches
+pub mod Usual

@@ -1,16 +1,16 @@
 -- A call in which a run searches takes as that run; in another what is chosen of takes is nothing.
-use Rattle.std.proofs.Common.{◌≡◌, ℕ, nat_lt, cond, Bool, true, false, List, [], ◌∷◌, Option, Some, None, slice_get, refl, sym, ap, ◌∙◌}
+use Rattle.std.proofs.Common.{◌≡◌, ℕ, nat_lt, cond, Bool, true, false, List, ◌∷◌, [], Option, Some, None, slice_get, refl, ap}
 use Rattle.task_moves.specs.AbstractTask as abstract
 use Rattle.task_moves.specs.AbstractTask.{Left}
-use Rattle.plain_scheduler.specs.State.{Choice, Close, Closed, Code, Done, Drop, DropOwn, End, Gave, Lose, Loses, Plain, Poll, PollOwn, Run, Taker, Tick, Try}
+use Rattle.plain_scheduler.specs.State.{Choice, Close, Closed, Code, Drop, DropOwn, End, Gave, Lose, Loses, Plain, Poll, PollOwn, Run, Taker, Tick, Try}
 use Rattle.plain_scheduler.specs.Lists.{on, or}
-use Rattle.plain_scheduler.specs.Moves.{answers, changed, enters, put, see, task}
+use Rattle.plain_scheduler.specs.Moves.{changed, enters, put, see, task}
 use Rattle.plain_scheduler.specs.Moves as moves
 use Rattle.plain_scheduler.specs.Takes as takes
 use Rattle.plain_scheduler.specs.Calls as calls
 use Rattle.plain_scheduler.specs.Calls.{Call, does}
 use Rattle.plain_scheduler.specs.Searches.{Search, behind_drop, behind_loss, behind_out, behind_pending, searches, searches_behind}
-use Rattle.plain_scheduler.specs.Searches.{searches_in, searches_inside, searches_of}
+use Rattle.plain_scheduler.specs.Searches.{searches_inside, searches_of}
 use Rattle.plain_laws.specs.Searches.{looks_first, taking_as}
 
 pub tell_it : {T A : Type 0} (wakes : A → Option ℕ) (c d : Choice) (call : Call T A) (p : Plain T A) → c.tells ≡ d.tells

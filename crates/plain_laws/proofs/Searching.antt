@@ -2,7 +2,8 @@
 use Rattle.std.proofs.Common.{◌≡◌, ℕ, nat_lt, cond, Bool, true, false, List, ◌∷◌, [], Option, Some, None, slice_get, refl, ap}
 use Rattle.task_moves.specs.AbstractTask as abstract
 use Rattle.task_moves.specs.AbstractTask.{Left}
-use Rattle.plain_scheduler.specs.State.{Choice, Close, Closed, Code, Drop, DropOwn, End, Gave, Lose, Loses, Plain, Poll, PollOwn, Run, Taker, Tick, Try}
+use Rattle.plain_scheduler.specs.State.{Choice, Close, Closed, Code, Drop, DropOwn, End, Gave, Lose, Loses, Plain, Poll, PollOwn, Run}
+use Rattle.plain_scheduler.specs.State.{Taker, Tick, Try}
 use Rattle.plain_scheduler.specs.Lists.{on, or}
 use Rattle.plain_scheduler.specs.Moves.{changed, enters, put, see, task}
 use Rattle.plain_scheduler.specs.Moves as moves
@@ -96,7 +97,8 @@ module _ {T A : Type 0} (wakes : A → Option ℕ) (c : Choice) where
 
 -- where none does, d's word on takes is nothing
 module _ {T A : Type 0} (wakes : A → Option ℕ) (c d : Choice) where
-  next_none : (by : Taker A) (p : Plain T A) → searches_of wakes c by p ≡ None → takes.next wakes (taking_as d c) by p ≡ takes.next wakes c by p
+  next_none : (by : Taker A) (p : Plain T A) → searches_of wakes c by p ≡ None → takes.next wakes (taking_as d c) by p ≡ takes.next wakes
+      c by p
   next_none Try p is = refl
   next_none (Tick t w) p is = refl
   next_none (Run r w) p is = split (nat_lt (or (slice_get p.runs r) (λ run. run.taken) 0) 200) is
@@ -146,7 +148,8 @@ module _ {T A : Type 0} (wakes : A → Option ℕ) (c d : Choice) where
       split (Gave v) is = let left = takes.left_by wakes c (Gave v) (task f q) in out_none left by (put f left.task q) is
 
   pends_none : (codes : List (Code T A)) (p : Plain T A) → searches_inside wakes c calls.Pends codes p ≡ None
-      → calls.innermost wakes (taking_as d c) codes (calls.pends wakes (taking_as d c)) p ≡ calls.innermost wakes c codes (calls.pends wakes c) p
+      → calls.innermost wakes (taking_as d c) codes (calls.pends wakes (taking_as d c)) p ≡ calls.innermost wakes c codes
+      (calls.pends wakes c) p
   pends_none [] p is = refl
   pends_none (PollOwn r w ∷ rest) p is = absurd cc
   pends_none (Poll f by ∷ rest) p is =
@@ -161,7 +164,8 @@ module _ {T A : Type 0} (wakes : A → Option ℕ) (c d : Choice) where
   closes_none (f ∷ fs) all p = refl
 
   ends_none : (codes : List (Code T A)) (p : Plain T A) → searches_inside wakes c calls.Ends codes p ≡ None
-      → calls.innermost wakes (taking_as d c) codes (calls.ends wakes (taking_as d c)) p ≡ calls.innermost wakes c codes (calls.ends wakes c) p
+      → calls.innermost wakes (taking_as d c) codes (calls.ends wakes (taking_as d c)) p ≡ calls.innermost wakes c codes
+      (calls.ends wakes c) p
   ends_none [] p is = refl
   ends_none (Drop f end by ∷ rest) p is = dropped_none f end by (record p { inside = rest }) is
   ends_none (Lose awaiter (Some by) ∷ rest) p is = next_none by (behind_loss wakes c awaiter (record p { inside = rest })) is
@@ -172,7 +176,8 @@ module _ {T A : Type 0} (wakes : A → Option ℕ) (c d : Choice) where
   ends_none (Close fs all ∷ rest) p is = closes_none fs all (record p { inside = rest })
 
   gives_none : (v : T) (codes : List (Code T A)) (p : Plain T A)
-      → calls.innermost wakes (taking_as d c) codes (calls.gives wakes (taking_as d c) v) p ≡ calls.innermost wakes c codes (calls.gives wakes c v) p
+      → calls.innermost wakes (taking_as d c) codes (calls.gives wakes (taking_as d c) v) p ≡ calls.innermost wakes c codes
+      (calls.gives wakes c v) p
   gives_none v [] p = refl
   gives_none v (Poll f by ∷ rest) p = refl
   gives_none v (PollOwn r w ∷ rest) p = refl

@@ -9,6 +9,7 @@ pub mod Moving
 pub mod Looking
 pub mod Taking
 pub mod Sought
+pub mod AsUsual
 pub mod Calling
 pub mod Plainly
 pub mod PlainCalls

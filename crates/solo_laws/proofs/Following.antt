@@ -97,3 +97,6 @@ pub mod CodesKept
 pub mod Polled
 pub mod RunGoing
 pub mod RunEnding
+pub mod VainTurns
+pub mod TickTurns
+pub mod RunTurns

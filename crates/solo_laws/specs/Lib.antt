@@ -40,3 +40,4 @@ pub mod PollsGo
 pub mod EndsGo
 pub mod RunsGo
 pub mod SearchesGo
+pub mod Choosing

@@ -4,6 +4,7 @@
 #![tactic(auto)]
 
 pub mod answers;
+pub mod choosing;
 pub mod counting;
 pub mod laws;
 pub mod lying;

@@ -216,7 +216,7 @@ module _ {F T X : Type 0} (its : ℕ → Lent) (number : Who → ℕ) (s : Solo 
               absurd cc
 
   -- and none is due
-  none_due : p.due ≡ []
+  pub none_due : p.due ≡ []
   none_due = by p.due refl
     where
       common : (m : Mark) → filter (is_common m) p.due ≡ []

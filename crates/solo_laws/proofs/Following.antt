@@ -99,4 +99,3 @@ pub mod RunGoing
 pub mod RunEnding
 pub mod VainTurns
 pub mod TickTurns
-pub mod RunTurns

@@ -20,6 +20,7 @@ use Rattle.solo_laws.specs.RunGoing.{taken_by}
 use Rattle.solo_laws.specs.RunResting.{EachListed}
 use Rattle.solo_laws.specs.Tabled.{Stands}
 use Rattle.solo_laws.proofs.CallTurns.{ends_turn}
+use Rattle.solo_laws.proofs.Choices.Finding.{counts_so}
 use Rattle.solo_laws.proofs.Choices.Seeking.{SeeksAs, is_over, makes_none, seeks_as, silent, stays_in}
 use Rattle.solo_laws.proofs.Following.Counted.{other_events}
 use Rattle.solo_laws.proofs.Following.Crowding.{is_among}
@@ -94,6 +95,10 @@ module _ {F T X : Type 0} (its : ℕ → Lent) (owner : Owner) (c : Choice) (s :
         → Searches its owner c runner w s (record p { inside = rest }) shown now z → Searched Pends now z
     looks_so runner w rest shown now z has is how =
         let out : Plain T (SoloWaker X) = record p { inside = rest } in
+        let stands =
+        same_hands its s p known.stands c rest (sym (ap (λ cs. lents cs) is)) (sym (ap (λ cs. drops cs) is))
+        (sym (ap (λ cs. awaiters cs) is)) in
+        let listed = each_listed (polled p) (busy p) s.runs known.listed in
         let held = known.listed.held runner.number (one_in runner.number (busy_in rest) (busy_in p.inside) (ap (λ cs. busy_in cs) is)) in
         a_search (record { run = runner.number; waker = w; at = out }) (ap (λ cs. searches_inside wakes c Pends cs p) is)
         (record {
@@ -102,16 +107,17 @@ module _ {F T X : Type 0} (its : ℕ → Lent) (owner : Owner) (c : Choice) (s :
           has = has;
           before = s;
           shown = shown;
-          stands =
-              same_hands its s p known.stands c rest (sym (ap (λ cs. lents cs) is)) (sym (ap (λ cs. drops cs) is))
-              (sym (ap (λ cs. awaiters cs) is));
+          stands = stands;
           numbered = known.numbered;
-          listed = each_listed (polled p) (busy p) s.runs known.listed;
+          listed = listed;
           going = going_there its s p known.stands runner.number held;
           room = run_room its owner s p known.stands known.numbered known.housed runner.number held;
           few = many;
           turn = refl;
           runs = refl;
+          counts =
+              counts_so its owner c runner w s out stands known.numbered listed (going_there its s p known.stands runner.number held) many
+              shown now z how;
           searches = how;
         })
 
@@ -160,12 +166,14 @@ module _ {F T X : Type 0} (its : ℕ → Lent) (owner : Owner) (c : Choice) (s :
             known.listed.held runner.number
             (one_in runner.number (busy_in rest) (busy_in p.inside) (stage_codes (λ r. r ∷ []) runner.number w rest p.inside stage is)) in
             let stands = other_events its c y b (p.events ++ shown) it.0 in
-            let numbered =
-            makes_numbered its c s u owner.number call (shown ++ Answers Yes ∷ []) y how known.numbered many it.0 in
+            let numbered = makes_numbered its c s u owner.number call (shown ++ Answers Yes ∷ []) y how known.numbered many it.0 in
+            let listed = subst EachListed (sym kept.0.1) (each_listed (polled p) (busy p) s.runs known.listed) in
             let has_own_y = subst (λ o. has_own runner.number o ≡ true) (sym kept.0.1) held in
+            let going = going_there its y mid stands runner.number has_own_y in
             let housed =
             still_housed owner.ticks s y p mid (ap (λ o. numbers o.queues) kept.0.1) kept.0.0.2
             (λ v among. known.housed.living v (sym (ap (is_among v) kept.1.whos) ∙ among)) known.housed in
+            let few = subst (λ k. k ≤ c.tells) (sym kept.1.long) many in
             a_search (record { run = runner.number; waker = w; at = mid })
             (sought ∙ ap (λ b. if b then Some (record { run = runner.number; waker = w; at = mid }) else None) (way ∙ ap not less))
             (record {
@@ -176,12 +184,13 @@ module _ {F T X : Type 0} (its : ℕ → Lent) (owner : Owner) (c : Choice) (s :
               shown = others';
               stands = stands;
               numbered = numbered;
-              listed = subst EachListed (sym kept.0.1) (each_listed (polled p) (busy p) s.runs known.listed);
-              going = going_there its y mid stands runner.number has_own_y;
+              listed = listed;
+              going = going;
               room = run_room its owner y mid stands numbered housed runner.number has_own_y;
-              few = subst (λ k. k ≤ c.tells) (sym kept.1.long) many;
+              few = few;
               turn = ends_turn its c s y u stage call (shown ++ Answers Yes ∷ []) ends how;
               runs = kept.0.1;
+              counts = counts_so its owner c runner w y mid stands numbered listed going few others' now' z' found;
               searches = found;
             })
 

@@ -86,7 +86,7 @@ module _ {T X : Type 0} (c : Choice) where
       lost (Some by) one is = inside Ends (Lose awaiter (Some by)) rest p is (not_of by one (behind_loss wakes c awaiter q))
 
   module _ (r : ℕ) (w : SoloWaker X) where
-    -- where the try is over the run searches, but one that has taken 200; else an end of what is seen is no answer
+    -- where the try is over the run searches, but one that has taken 200; else the last that is seen is no answer
     pub data SeeksAs (a : Plain T (SoloWaker X)) (sought : Option (Search T (SoloWaker X))) : Type 0 where
       is_over : (q : Plain T (SoloWaker X)) → a ≡ answers Yes q → sought ≡ searches_of wakes c (Run r w) q → SeeksAs a sought
       stays_in : (events : List (Event T (SoloWaker X))) (e : Event T (SoloWaker X)) → is_answer e ≡ false

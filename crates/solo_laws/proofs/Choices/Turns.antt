@@ -1,5 +1,5 @@
 -- How many turns of the executor's two queues each call takes in the executor of one owner.
-use Rattle.std.proofs.Common.{◌≡◌, ◌≤◌, ◌+◌, ◌^◌, ◌%◌, ℕ, suc, nat_lt, not, if◌then◌else◌, Bool, true, false, List, [], ◌∷◌, ◌++◌}
+use Rattle.std.proofs.Common.{◌≡◌, ◌≤◌, ◌+◌, ◌^◌, ◌%◌, ℕ, suc, nat_lt, not, if◌then◌else◌, true, false, List, [], ◌∷◌, ◌++◌}
 use Rattle.std.proofs.Common.{Option, Some, None, length, slice_get, refl, sym, ap, ◌∙◌}
 use Rattle.solo.specs.declared.names.SoloWaker.{SoloWaker}
 use Rattle.solo.specs.declared.names.SoloWaker.TheVariants.{Task as OfTask, Outside}
@@ -34,7 +34,7 @@ use Rattle.solo_laws.proofs.CallTurns.{pending_at, ready_at, taken_by_at, used_a
 use Rattle.solo_laws.proofs.Choices.Searched.{Searched, a_search, acts_searched, goes_sought, no_search}
 use Rattle.solo_laws.proofs.Choices.Seeking.{silent}
 use Rattle.solo_laws.proofs.Following.Keeping.{keeps}
-use Rattle.solo_laws.proofs.Following.RunTurns.{searches_so}
+use Rattle.solo_laws.proofs.Choices.RunTurns.{searches_turn}
 use Rattle.solo_laws.proofs.Following.TickTurns.{later_turns, refused_turns, rested_turns, taken_turns}
 use Rattle.solo_laws.proofs.Showing.Courses.{Known, led_known, tick_room}
 use Rattle.solo_laws.proofs.Turning.{let_go_at, scheduled_at, searched_turn, tick_left_at}
@@ -198,8 +198,8 @@ module _ {F T X : Type 0} (its : ℕ → Lent) (owner : Owner) (c : Choice) (s :
   searches_turns : (x : Search T (SoloWaker X)) (now : Owner) (z : Solo F T X) → SearchesAt its owner c s x now z
       → z.lines.turn ≡ turned_in (run_turns c.refusal x) s.lines.turn
   searches_turns x now z at =
-      (searches_so its owner c at.runner x.waker at.before x.at at.stands at.numbered at.listed at.few at.going at.room at.shown now z
-      at.searches).1
+      searches_turn its owner c at.runner x.waker at.before x.at at.stands at.numbered at.listed at.few at.going at.room at.shown now z
+      at.searches
       ∙ (ap (λ r. turned_in (run_turns c.refusal (record { run = r; waker = x.waker; at = x.at })) at.before.lines.turn) at.number
       ∙ ap (turned_in (run_turns c.refusal x)) at.turn)
 

@@ -69,7 +69,7 @@ module _ {T X : Type 0} where
       by k true one none = ap (λ n. nat_lt (taken_by n p) 200) (same_number k r one) ∙ less
       by k false away none = t.calm k away none
 
-  pub longer : (by : Taker (SoloWaker X)) {F : Type 0} (found : Found F) (cs : List (Code T (SoloWaker X))) → is_handed found ≡ true
+  longer : (by : Taker (SoloWaker X)) {F : Type 0} (found : Found F) (cs : List (Code T (SoloWaker X))) → is_handed found ≡ true
       → cs ≡ code_of by found ++ cs → ⊥
   longer by (FoundPoll lent future) cs handed is = let long = ap (λ (cs : List (Code T (SoloWaker X))). length cs) is in omega (arith, long)
   longer by (FoundDrop lent future) cs handed is = let long = ap (λ (cs : List (Code T (SoloWaker X))). length cs) is in omega (arith, long)

@@ -1,19 +1,48 @@
--- Wherever a list of calls leads, each run has counted fewer than 64.
-use Rattle.std.proofs.Common.{◌≡◌, ℕ, ◌<◌, ◌==◌, if◌then◌else◌, Bool, true, false, List, refl, subst, arith}
+-- Each run counts to 64, and begins anew: so wherever a list of calls leads it has counted fewer.
+use Rattle.std.proofs.Common.{◌≡◌, ℕ, ◌+◌, ◌<◌, ◌==◌, nat_lt, if◌then◌else◌, Bool, true, false, List, refl, arith}
+use Rattle.std.proofs.lemmas.Bool.Decides.{nat_tests}
 use Rattle.solo.specs.declared.names.SoloWaker.{SoloWaker}
 use Rattle.solo.specs.declared.owed.Lent.{Lent}
 use Rattle.solo.specs.declared.runs.Runner.{Runner}
 use Rattle.solo.specs.declared.solo.Solo.{Solo}
+use Rattle.solo.specs.Cells.{choose}
 use Rattle.solo.specs.Runs as runs
 use Rattle.plain_scheduler.specs.State.{Choice, Event, Plain, Who}
 use Rattle.plain_scheduler.specs.Calls.{Call, does}
+use Rattle.plain_scheduler.specs.Usual.{one_counted}
 use Rattle.solo_laws.specs.Counting.{AllCountTo64, counts_of}
 use Rattle.solo_laws.specs.Courses as courses
 use Rattle.solo_laws.specs.Courses.{Acts, Leads, leads, stays}
 use Rattle.solo_laws.specs.Owner.{Owner, new_owner, taken_by_run}
 use Rattle.solo_laws.specs.RunGoing as going
 use Rattle.solo_laws.specs.RunGoing.{RunsOn, Searches}
-use Rattle.solo_laws.proofs.Following.RunTurns.{counted_below}
+
+-- both count to 64
+pub counted_alike : (n : ℕ) → n < 64 → choose (nat_lt n 63) (n + 1) 0 ≡ one_counted n
+counted_alike n below = by (nat_lt n 63) refl (n + 1 == 64) refl
+  where
+    apart : nat_lt n 63 ≡ true → (n + 1 == 64) ≡ true → ⊥
+    apart less last = grind (arith, nat_tests)
+
+    past : nat_lt n 63 ≡ false → (n + 1 == 64) ≡ false → n < 64 → ⊥
+    past more other below = grind (arith, nat_tests)
+
+    by : (b : Bool) → nat_lt n 63 ≡ b → (e : Bool) → (n + 1 == 64) ≡ e → choose b (n + 1) 0 ≡ (if e then 0 else n + 1)
+    by true less false other = refl
+    by false more true last = refl
+    by true less true last = absurd (apart less last)
+    by false more false other = absurd (past more other below)
+
+-- one that begins anew at 64 never has counted as many
+pub counted_below : (n : ℕ) → choose (nat_lt n 63) (n + 1) 0 < 64
+counted_below n = by (nat_lt n 63) refl
+  where
+    less : nat_lt n 63 ≡ true → n + 1 < 64
+    less is = grind (arith, nat_tests)
+
+    by : (b : Bool) → nat_lt n 63 ≡ b → choose b (n + 1) 0 < 64
+    by true is = less is
+    by false is = omega arith
 
 abbrev pub Below : Owner → Type 0
 Below owner = (k : ℕ) → counts_of owner k < 64

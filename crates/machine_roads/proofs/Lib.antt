@@ -52,6 +52,9 @@ pub mod Ticking
 pub mod TickPolls
 pub mod Copying
 pub mod Replacing
+pub mod Still
+pub mod Silent
+pub mod Took
 pub mod Bedding
 pub mod LyingDown
 pub mod RunIdle

@@ -1,3 +1,7 @@
+pub mod Counted
+pub mod Seeking
+pub mod AloneKeeps
+pub mod Cut
 pub mod ActsBeside
 pub mod AlongBeside
 pub mod BesideHere

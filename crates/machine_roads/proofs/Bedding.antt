@@ -172,7 +172,7 @@ module _ (p : ℕ) (below : List Op) (under : is_resting below ≡ true) (end : 
           subst (λ z. Goes q (answers NoMemory z)) (sym lies_is)
               (answers_so i.world q z reply.NoMemory NoMemory refl inside i.follows way),
           λ is. more_lie,
-          twice Later refl i (ends_still p below under end rests reply.NoMemory (held_as it) i.world way),
+          twice Later refl i (ends_still p below under end reply.NoMemory (held_as it) i.world way),
         )
         by i false can way =
             let v = i.world in
@@ -212,7 +212,7 @@ module _ (p : ℕ) (below : List Op) (under : is_resting below ≡ true) (end : 
                   refl (ap (λ (q : Plain Output Waker). q.inside) back ∙ inside) g.follows g.way),
               λ is. absurd (not_granted is),
               twice Granted refl i
-                  (still_on v w4 end.world (copied_still a v) (answers_still p below under end rests (Some s) it w4 way7)),
+                  (still_on v w4 end.world (copied_still a v) (answers_still p below under end (Some s) it w4 way7)),
             )
 
     -- with a copy of its waker, in a world that is this
@@ -434,7 +434,7 @@ module _ (p : ℕ) (below : List Op) (under : is_resting below ≡ true) (end : 
               lay_uncalled who q.lying early end.world Granted
                   (lay (Some l.one) (found n who w1 q1 follows1 named l) ∙ ap (λ (o : Option Waker). is_some o) waker)
                   (took_still 1 early w2 end.world (record { turn = took1.turn; counted = took1.counted; listed = took1.listed })
-                  (answers_still p below under end rests (Some sp.one.1) it w2 way3)),
+                  (answers_still p below under end (Some sp.one.1) it w2 way3)),
             )
 
       falls_asleep : length q.lying < c.tells → Rests w1 q1 it → CanLie w1 it
@@ -472,7 +472,7 @@ module _ (p : ℕ) (below : List Op) (under : is_resting below ≡ true) (end : 
           answers_so w q q reply.NoMemory NoMemory refl refl follows way,
           λ is. absurd (not_at_once is),
           refused_at_once who q.lying early end.world
-              (took_still 1 early w end.world took (ends_still p below under end rests reply.NoMemory (held_as it) w way)),
+              (took_still 1 early w end.world took (ends_still p below under end reply.NoMemory (held_as it) w way)),
         )
         by false can_copy way =
             let two = next p end rests (op.Tick (tick_op.FallAsleep s)) (copied w a) below refl way in

@@ -13,11 +13,13 @@ use Rattle.executor_model.specs.declared.op.Waker.{Waker}
 use Rattle.executor_model.specs.declared.op.Waker.TheVariants.{Task, Outside}
 use Rattle.executor_model.specs.Acts.{copied}
 use Rattle.executor_model.specs.ActsOfSleepers.{pend_as, sleeper_goes}
+use Rattle.executor_model.specs.Weights.{weigh}
 use Rattle.executor_model.specs.World.{Done, Run, Ticker, World, no_run, run_of, runs_with}
 use Rattle.plain_scheduler.specs.State.{AtOnce, Granted, Later, Lying, Refusal, Who}
 use Rattle.plain_scheduler.specs.Usual.{lies_uncalled, searches_by, turned, vain_turns}
 use Rattle.machine_roads.specs.Alone.{is_resting}
-use Rattle.machine_roads.proofs.Still.{Still}
+use Rattle.machine_roads.proofs.AloneKeeps.{due_push, due_resting}
+use Rattle.machine_roads.proofs.Still.{Still, alone_still, stirs}
 use Rattle.machine_roads.proofs.Stepping.{Way}
 
 pub record Took (n : ℕ) (w v : World) : Type 0 where
@@ -74,10 +76,23 @@ module _ (who : Who) (ls : List (Lying Waker)) (w v : World) where
       by false = refl
 
 -- its waker goes, and it is answered
-module _ (p : ℕ) (below : List Op) (under : is_resting below ≡ true) (end : Done) (rests : is_resting end.next ≡ true) where
+module _ (p : ℕ) (below : List Op) (under : is_resting below ≡ true) (end : Done) where
+  light : (os : List Op) → weigh stirs os ≡ 0 → (v : World) → Way p end v (os ++ below) → Still v end.world
+  light os none v way =
+      subst (λ (d : Done). Still v d.world) way.is
+      (alone_still p way.hints v (os ++ below) (due_push stirs os below none (due_resting stirs below under)))
+
   pub answers_still : (o : Option Sleeping) (it : TickOrRun) (v : World) → Way p end v ((sleeper_goes o ++ pend_as it) ++ below)
       → Still v end.world
-  answers_still o it v way = ?
+  answers_still o it v way = light (sleeper_goes o ++ pend_as it) (none o) v way
+    where
+      none : (o : Option Sleeping) → weigh stirs (sleeper_goes o ++ pend_as it) ≡ 0
+      none None = refl
+      none (Some s) = by s.waker
+        where
+          by : (a : Waker) → weigh stirs (sleeper_goes (Some (record s { waker = a })) ++ pend_as it) ≡ 0
+          by (Task g) = refl
+          by (Outside x) = refl
 
   pub ends_still : (r : Reply) (held : Hold) (v : World) → Way p end v (op.End r held ∷ below) → Still v end.world
-  ends_still r held v way = ?
+  ends_still r held v way = light (op.End r held ∷ []) refl v way

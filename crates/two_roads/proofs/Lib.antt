@@ -8,6 +8,7 @@ pub mod Tasks
 pub mod Moving
 pub mod Looking
 pub mod Taking
+pub mod Sought
 pub mod Calling
 pub mod Plainly
 pub mod PlainCalls

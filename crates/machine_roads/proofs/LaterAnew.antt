@@ -1,6 +1,6 @@
 -- Only a poll of a tick, and a run that searches in vain, is refused memory once it lies: other calls, and the ends of other code, have
 -- nothing to say of that.
-use Rattle.std.proofs.Common.{◌≡◌, ◌<◌, ℕ, Bool, true, false, not, List, length, Option, Some, None, refl, subst}
+use Rattle.std.proofs.Common.{◌≡◌, ◌<◌, ℕ, Bool, true, false, List, length, Option, Some, subst}
 use Rattle.executor_model.specs.declared.call.Call.{Call}
 use Rattle.executor_model.specs.declared.op.Waker.{Waker}
 use Rattle.executor_model.specs.declared.step.Step.{Step}
@@ -9,7 +9,6 @@ use Rattle.executor_model.specs.Steps.{is_on_executor}
 use Rattle.executor_model.specs.Steps.{Machine}
 use Rattle.executor_model.specs.World.{World}
 use Rattle.plain_scheduler.specs.State.{AtOnce, Choice, Granted, Later, Lying, Plain, Refusal}
-use Rattle.plain_scheduler.specs.Lists.{or}
 use Rattle.plain_scheduler.specs.Calls as plain
 use Rattle.plain_scheduler.specs.Searches.{Search, finds, searches}
 use Rattle.machine_roads.specs.View.{Output, wakes}
@@ -17,25 +16,11 @@ use Rattle.machine_roads.specs.Refused.{IsLaterAnew, OneMoreLies, in_vain}
 use Rattle.machine_roads.specs.Road.{uncalled}
 use Rattle.machine_roads.specs.Within as within
 use Rattle.machine_roads.specs.Within.{IsCallIn, IsMade}
-use Rattle.machine_roads.proofs.Silent.{none_told}
+use Rattle.machine_roads.proofs.Silent.{none_told, vain_at}
 
 abbrev pub is_answer : Step → Bool
 is_answer (Answer p u) = true
 is_answer t = false
-
--- a search that finds nothing
-pub record InVain {T A : Type 0} (o : Option (Search T A)) : Type 0 where
-  pub at : Search T A
-  pub is : o ≡ Some at
-  pub none : finds at ≡ false
-
-pub vain_at : {T A : Type 0} → (o : Option (Search T A)) → or o (λ x. not (finds x)) false ≡ true → InVain o
-vain_at None vain = absurd cc
-vain_at (Some x) vain = by (finds x) refl vain
-  where
-    by : (b : Bool) → finds x ≡ b → not b ≡ true → InVain (Some x)
-    by true is vain = absurd cc
-    by false is vain = record { at = x; is = refl; none = is }
 
 module _ (q z : Plain Output Waker) where
   -- where the call comes to a search that finds nothing, one more lies behind that than there

@@ -56,7 +56,6 @@ pub mod Ticking
 pub mod TickPolls
 pub mod Copying
 pub mod Replacing
-pub mod Still
 pub mod Silent
 pub mod Took
 pub mod Bedding

@@ -1,5 +1,5 @@
 -- Who is told is told of a future that is queued: where nothing is due as a run comes to its search, those lie that lay before the call.
-use Rattle.std.proofs.Common.{◌≡◌, ℕ, ◌-◌, nat_lt, min, cond, Bool, true, false, List, [], ◌∷◌, ◌++◌, length, Option, Some, None}
+use Rattle.std.proofs.Common.{◌≡◌, ℕ, ◌-◌, nat_lt, min, cond, Bool, true, false, not, List, [], ◌∷◌, ◌++◌, length, Option, Some, None}
 use Rattle.std.proofs.Common.{is_some, slice_get, slice_set, if◌then◌else◌, refl, ap, subst, ◌∙◌}
 use Rattle.task_moves.specs.AbstractTask as abstract
 use Rattle.task_moves.specs.AbstractTask.{AbstractTask, Left}
@@ -211,3 +211,17 @@ module _ {T A : Type 0} where
       pub none_told : (call : calls.Call T A) (p : Plain T A) (x : Search T A) → searches wakes c call p ≡ Some x → finds x ≡ false
           → x.at.lying ≡ p.lying
       none_told call p x is none = (to_search call p x is).still none
+
+-- a search that finds nothing
+pub record InVain {T A : Type 0} (o : Option (Search T A)) : Type 0 where
+  pub at : Search T A
+  pub is : o ≡ Some at
+  pub none : finds at ≡ false
+
+pub vain_at : {T A : Type 0} → (o : Option (Search T A)) → or o (λ x. not (finds x)) false ≡ true → InVain o
+vain_at None vain = absurd cc
+vain_at (Some x) vain = by (finds x) refl vain
+  where
+    by : (b : Bool) → finds x ≡ b → not b ≡ true → InVain (Some x)
+    by true is vain = absurd cc
+    by false is vain = record { at = x; is = refl; none = is }

@@ -45,7 +45,7 @@ who_few : (who : TickOrRun) → who_counts who ≤ 1
 who_few (tick_or_run.Tick t) = omega arith
 who_few (tick_or_run.Run r) = omega arith
 
-counts_seek : (o : Op) → counts o ≤ seeks o
+pub counts_seek : (o : Op) → counts o ≤ seeks o
 counts_seek (op.Tick (tick_op.Search s)) = who_few s.who
 counts_seek (op.Tick (tick_op.Look s look)) = who_few s.who
 counts_seek (op.Tick (tick_op.CopyWaker s)) = who_few s.who

@@ -1,6 +1,6 @@
 -- Behind a take the turn, the list of queues and what runs have counted stay as they are, till user code is called: what is taken up is
 -- polled or dropped first.
-use Rattle.std.proofs.Common.{◌≡◌, ◌≤◌, ◌+◌, ◌++◌, ◌==◌, ℕ, zero, suc, List, [], ◌∷◌, Bool, true, false, not, refl, sym, subst, arith}
+use Rattle.std.proofs.Common.{◌≡◌, ◌≤◌, ◌+◌, ◌++◌, ◌==◌, ℕ, zero, suc, List, [], ◌∷◌, Bool, true, false, not, refl, subst, arith}
 use Rattle.task_moves.specs.declared.moves.owed.Move.TheVariants as move
 use Rattle.task_moves.specs.declared.moves.state.State.{State}
 use Rattle.task_moves.specs.Moves as moves
@@ -8,18 +8,14 @@ use Rattle.executor_model.specs.declared.op.Op.{Op}
 use Rattle.executor_model.specs.declared.op.Op.TheVariants as op
 use Rattle.executor_model.specs.declared.op.RunPoll.{RunPoll}
 use Rattle.executor_model.specs.declared.op.SleeperOp.TheVariants as sleeper_op
-use Rattle.executor_model.specs.declared.op.Source.{Source}
-use Rattle.executor_model.specs.declared.op.Source.TheVariants.{Common, Own}
 use Rattle.executor_model.specs.declared.op.Steal.{Steal}
 use Rattle.executor_model.specs.declared.op.StealOp.{StealOp}
 use Rattle.executor_model.specs.declared.op.StealOp.TheVariants as steal_op
 use Rattle.executor_model.specs.declared.op.TableOp.TheVariants as table_op
 use Rattle.executor_model.specs.declared.op.Then.{Then}
 use Rattle.executor_model.specs.declared.op.TickOrRun.{TickOrRun}
-use Rattle.executor_model.specs.declared.op.TickOrRun.TheVariants as tick_or_run
 use Rattle.executor_model.specs.declared.op.UserOp.TheVariants as user_op
 use Rattle.executor_model.specs.declared.step.Hint.{Hint}
-use Rattle.executor_model.proofs.Steps.Lists.{weigh-append}
 use Rattle.executor_model.proofs.Steps.Parts.{turns}
 use Rattle.executor_model.specs.Acts.{move_by, told_of}
 use Rattle.executor_model.specs.ActsOfRuns as runs
@@ -28,9 +24,9 @@ use Rattle.executor_model.specs.Carried.{owed_ops}
 use Rattle.executor_model.specs.Doing.{act, steal_act}
 use Rattle.executor_model.specs.Steps.{waits}
 use Rattle.executor_model.specs.Weights.{weigh}
-use Rattle.executor_model.specs.World.{Asleep, Awake, Done, Left, Ticker, World, among, done, run_of, task}
-use Rattle.machine_roads.specs.Alone.{Has, HasAllOf, alone, is_outside, is_resting}
-use Rattle.machine_roads.proofs.AloneKeeps.{Keeps, alone_keeps, due_to, due_to_push, of_both}
+use Rattle.executor_model.specs.World.{Asleep, Awake, Done, Left, Ticker, World, among, run_of, task}
+use Rattle.machine_roads.specs.Alone.{Has, is_outside, is_resting}
+use Rattle.machine_roads.proofs.AloneKeeps.{Keeps, alone_keeps, due_to, due_to_push}
 use Rattle.machine_roads.proofs.Counted.{counts_stay, counts_then, may_count, none_may_count, then_of}
 use Rattle.machine_roads.proofs.Enlisting.{enlists, enlists_next, lists_stay}
 use Rattle.machine_roads.proofs.Seeking.{no_turn, seeks, seeks_next, turn_kept}

@@ -1,3 +1,6 @@
+pub mod BehindTake
+pub mod Enlisting
+pub mod Still
 pub mod Counted
 pub mod Seeking
 pub mod AloneKeeps

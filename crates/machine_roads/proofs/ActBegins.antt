@@ -132,13 +132,13 @@ module _ (s : Machine) (reached : Reached s) (p : ℕ) (q : Plain Output Waker) 
   Leads c = LeadsSo p (upon below (begins p here c s.world)) (Comes c)
 
   acts : (c : Call) (x : plain_calls.Call Output Waker) (r : Refusal) → IsCallIn here s.world c x
-      → IsLaterAnew r x q (does wakes (choice r) x q) → ActsBy s p (Begin p c) q (does wakes (choice r) x q)
+      → IsLaterAnew (choice r) x q (does wakes (choice r) x q) → ActsBy s p (Begin p c) q (does wakes (choice r) x q)
   acts c x r is anew =
       record { choice = choice r; made = x; chosen = chosen_in s q r; is = begins_by c x is; so = refl; anew = anew }
 
   -- a call that comes to no user code
   quick : (c : Call) (x : plain_calls.Call Output Waker) (r : Refusal) → IsCallIn here s.world c x
-      → IsLaterAnew r x q (does wakes (choice r) x q) → (does wakes (choice r) x q).inside ≡ q.inside → Counted below
+      → IsLaterAnew (choice r) x q (does wakes (choice r) x q) → (does wakes (choice r) x q).inside ≡ q.inside → Counted below
       (does wakes (choice r) x q).runs → (e : Done) → e.next ≡ below
       → Follows e.world (does wakes (choice r) x q) → Comes c e
   quick c x r is anew inside count e at leaves =
@@ -160,12 +160,13 @@ module _ (s : Machine) (reached : Reached s) (p : ℕ) (q : Plain Output Waker) 
       → LeavesAlike p below (begins p here c s.world) (does wakes (choice Granted) x q) → Leads c
   plainly c x is inside runs leaves hints all rests =
       let e = leaves hints tt all rests in
-      quick c x Granted is (granted_anew q (does wakes (choice Granted) x q) x) inside (stays (does wakes (choice Granted) x q) runs)
+      quick c x Granted is (granted_anew q (does wakes (choice Granted) x q) (choice Granted) x refl) inside
+          (stays (does wakes (choice Granted) x q) runs)
       (alone p hints (upon below (begins p here c s.world))) e.0 e.1
 
   -- one that takes a future
   take : (c : Call) (x : plain_calls.Call Output Waker) (r : Refusal) → IsCallIn here s.world c x
-      → IsLaterAnew r x q (does wakes (choice r) x q) → (taker : Taker Waker) (final : Op)
+      → IsLaterAnew (choice r) x q (does wakes (choice r) x q) → (taker : Taker Waker) (final : Op)
       → GoesOnBy taker final → Alike below (final ∷ below) → (e : Done) → (does wakes (choice r) x q).runs ≡ q.runs
       → Stops taker final below q e (does wakes (choice r) x q) → Comes c e
   take c x r is anew taker final it same e runs stops =

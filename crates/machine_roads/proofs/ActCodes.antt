@@ -108,7 +108,7 @@ module _ (s : Machine) (reached : Reached s) (p : ℕ) (there : p < length s.par
       (sym (ap (λ t. answer_refusal t u) (top_of (stack s p) o os is).0) ∙ (sym (refusal-there s (Answer p u) there) ∙ may))
 
   came_by : (u : UserEnd) (x : plain_calls.Call Output Waker) → IsMade s p (Answer p u) x → (e : Done) (d : Choice)
-      → d.tells ≡ c1.tells → IsLaterAnew d.refusal x q (does wakes d x q) → StandsSo e (does wakes d x q) → Comes u e
+      → d.tells ≡ c1.tells → IsLaterAnew d x q (does wakes d x q) → StandsSo e (does wakes d x q) → Comes u e
   came_by u x is e d tells anew so = (
     does wakes d x q,
     record {
@@ -147,7 +147,7 @@ module _ (s : Machine) (reached : Reached s) (p : ℕ) (there : p < length s.par
         → Counted below (does wakes c1 x (r1 code)).runs → Follows e.world (does wakes c1 x (r1 code)) → Comes u e
     back u x is code at other e next stays count follows =
         let z = does wakes c1 x (r1 code) in
-        came_by u x is e c1 refl (ends_anew q (does wakes c1 x q) s p (Answer p u) c1.refusal x refl is code inside at other)
+        came_by u x is e c1 refl (granted_anew q (does wakes c1 x q) c1 x refl)
         (subst (λ y. StandsSo e (does wakes c1 x y)) (same code at)
         (record {
           alike = alike (subst (λ os. Nested os z.inside) (sym next) (subst (λ codes. Nested below codes) (sym stays) nested)) follows;

@@ -51,7 +51,7 @@ use Rattle.machine_roads.proofs.LossInDrop.{call_ends, call_loses, drop_ends_so}
 use Rattle.machine_roads.proofs.Unseen.{stands_in}
 use Rattle.machine_roads.proofs.InDrop.{stays_inside}
 use Rattle.machine_roads.proofs.Inside.{ends_inside}
-use Rattle.machine_roads.proofs.LaterAnew.{off_anew}
+use Rattle.machine_roads.proofs.LaterAnew.{granted_anew, off_anew}
 use Rattle.machine_roads.proofs.Lists.{clash}
 use Rattle.machine_roads.proofs.LoneCalls.{each}
 use Rattle.machine_roads.proofs.LoneCloses.{Closing, IsAny, drop_leads_so, walks}
@@ -87,11 +87,12 @@ module _ (s : Machine) (reached : Reached s) (p : ℕ) (there : p < length s.par
     chosen = chosen_in s q r;
     is = begins_by c x is;
     so = refl;
-    anew = off_anew q (does wakes (choice r) x q) (mine its) s.world c r x is off;
+    anew = off_anew q (does wakes (choice r) x q) (mine its) s.world c (choice r) x is off;
   }
 
   end_acts : ActsBy s p (Answer p IsDone) q (does wakes granted plain.Ends q)
-  end_acts = record { choice = granted; made = plain.Ends; chosen = (chosen_in s q Granted).tells; is = ends_by; so = refl; anew = tt }
+  end_acts = record { choice = granted; made = plain.Ends; chosen = (chosen_in s q Granted).tells; is = ends_by; so = refl; anew =
+      granted_anew q (does wakes granted plain.Ends q) granted plain.Ends refl }
 
   -- the executor's calls are refused
   no_executors : (c : Call) → refusal s (Begin p c) ≡ None → is_on_executor c ≡ true → ⊥

@@ -1,3 +1,10 @@
+pub mod BehindTake
+pub mod Enlisting
+pub mod Still
+pub mod Counted
+pub mod Seeking
+pub mod AloneKeeps
+pub mod Cut
 pub mod ActsBeside
 pub mod AlongBeside
 pub mod BesideHere
@@ -52,6 +59,8 @@ pub mod Ticking
 pub mod TickPolls
 pub mod Copying
 pub mod Replacing
+pub mod Silent
+pub mod Took
 pub mod Bedding
 pub mod LyingDown
 pub mod RunIdle

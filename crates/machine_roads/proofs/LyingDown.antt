@@ -36,6 +36,7 @@ use Rattle.machine_roads.proofs.Changing.{logs}
 use Rattle.machine_roads.proofs.Copying.{copied_can}
 use Rattle.machine_roads.proofs.Standing.{Answered, Behind, Stands, StandsSo, stops_so}
 use Rattle.machine_roads.proofs.Stepping.{Way, next}
+use Rattle.machine_roads.proofs.Took.{Took}
 use Rattle.machine_roads.proofs.TickPolls.{Comes, ComesTo, searches, searches_none, sleepy}
 use Rattle.machine_roads.proofs.Unseen.{turns}
 
@@ -62,7 +63,7 @@ module _ (p : ℕ) (below : List Op) (under : is_resting below ≡ true) (end : 
             (event.Looked p (first_of w.urgent_turns)) refl;
         place = refl;
         wakers = refl;
-        turn = refl;
+        took = record { turn = refl; counted = λ k. refl; listed = refl };
         way = searches_none p below under end rests c t a k w q follows quiet way;
       }
 
@@ -77,14 +78,14 @@ module _ (p : ℕ) (below : List Op) (under : is_resting below ≡ true) (end : 
         follows = g.follows;
       }
 
-  lies_down : (w : World) (q : Plain Output Waker) → Follows w q → length q.lying < c.tells → CanPoll w t → IsQuiet q.due
-      → Way p end w (op.Tick (tick_op.CopyWaker s) ∷ below)
+  lies_down : (early w : World) (q : Plain Output Waker) → Took 1 early w → Follows w q → length q.lying < c.tells → CanPoll w t
+      → IsQuiet q.due → Way p end w (op.Tick (tick_op.CopyWaker s) ∷ below)
       → ComesTo p below under end rests c t a q (λ r. plain_takes.rests wakes c r (ATick t) a q)
-  lies_down w q follows room can quiet way =
+  lies_down early w q took follows room can quiet way =
       let still = copied_can a w t can in
       let g =
-      lies_down_so p below under end rests c it a k IsQuiet finds_none w q follows room
-      (λ none. record { living = still.living; roomed = still.roomed }) quiet way in
+      lies_down_so p below under end rests c it a k IsQuiet finds_none early w q follows room
+      (λ none. record { living = still.living; roomed = still.roomed }) quiet took way in
       (g.0, comes q (plain_takes.rests wakes c g.0 (ATick t) a q) g.1, g.2)
 
 pub polls_tick_so : (p : ℕ) (here : Option Waker) (below : List Op) (w : World) (q : Plain Output Waker) → is_resting below ≡ true
@@ -111,7 +112,8 @@ polls_tick_so p here below w q under follows c t b first room can hints has rest
     (event.Looked p (first_of w.urgent_turns)) refl in
     searches p below under end rests c t a k w1 q (omega (arith, room)) follows1
     (λ quiet way.
-    lies_down p below under end rests c t a k w1 q follows1 room (record { living = can.living; roomed = can.roomed }) quiet way)
+    lies_down p below under end rests c t a k w0 w1 q (record { turn = refl; counted = λ k. refl; listed = refl }) follows1 room
+    (record { living = can.living; roomed = can.roomed }) quiet way)
     (subst (λ m. Way p end w1 (op.Tick (tick_op.Look s (look.First m)) ∷ below)) (sym first) one.way)
 
 pub polls_tick : (p : ℕ) (here : Option Waker) (below : List Op) (w : World) (q : Plain Output Waker) → is_resting below ≡ true

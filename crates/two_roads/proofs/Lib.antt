@@ -11,6 +11,7 @@ pub mod Taking
 pub mod Sought
 pub mod AsUsual
 pub mod Calling
+pub mod InTurn
 pub mod Plainly
 pub mod PlainCalls
 pub mod Both

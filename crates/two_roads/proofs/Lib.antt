@@ -12,6 +12,11 @@ pub mod Sought
 pub mod AsUsual
 pub mod Calling
 pub mod InTurn
+pub mod Says
+pub mod ActSays
+pub mod CallSays
+pub mod StepAlike
+pub mod Robbed
 pub mod Plainly
 pub mod PlainCalls
 pub mod Both

@@ -148,9 +148,10 @@ module _ (p : ℕ) (new : Machine) (later : new.world.gone ≡ false) (at_last :
       still : So (will (telling n c)) e → Now (will (telling n c)) → Left So b n will e
 
     left_by : (So : Plain Output Waker → Done → Type 0) (b : Plain Output Waker) (n : ℕ) (will : Choice → Plain Output Waker) (e : Done)
-        → is_resting e.next ≡ true → length b.lying < n → Now b → GoesBy p taker final [] b n e will (λ z. So z e) → Left So b n will e
-    left_by So b n will e rests fit now (passed so) = goes (runs_on p x [] b n t e will refl rests c last fit now so)
-    left_by So b n will e rests fit now (stood so stays) =
+        → is_resting e.next ≡ true → length b.lying < n → Now b → (behind : Choice → Option (Plain Output Waker))
+        → GoesBy p taker final [] b n e will behind (λ z. So z e) → Left So b n will e
+    left_by So b n will e rests fit now behind (passed so) = goes (runs_on p x [] b n t e will behind refl rests c last fit now so)
+    left_by So b n will e rests fit now behind (stood so stays none) =
         still (so c) (between_stays x.run last t b (will (telling n c)) (stays c) now)
 
     from_left : (So : Plain Output Waker → Done → Type 0) (e : plain_calls.Call Output Waker) (r : Plain Output Waker)

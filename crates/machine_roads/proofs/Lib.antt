@@ -1,3 +1,5 @@
+pub mod AloneKeeps
+pub mod Cut
 pub mod ActsBeside
 pub mod AlongBeside
 pub mod BesideHere

@@ -1,3 +1,5 @@
+use Rattle.machine_roads.proofs.AloneKeeps.{alone_keeps}
+use Rattle.machine_roads.proofs.Cut.{cut}
 use Rattle.machine_roads.proofs.Acts.{acts_alike}
 use Rattle.machine_roads.proofs.nested.lists_of_nested_calls_go_alike.Goals as goal
 

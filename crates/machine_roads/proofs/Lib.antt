@@ -41,6 +41,7 @@ pub mod GivingWay
 pub mod Trying
 pub mod RunsStay
 pub mod Passing
+pub mod PassingStill
 pub mod Unseen
 pub mod Pending
 pub mod Losing
@@ -97,6 +98,7 @@ pub mod TakenBeside
 pub mod RunLies
 pub mod RunGoesOn
 pub mod RunsOn
+pub mod Chosen
 pub mod LoneRunsOn
 pub mod LoneGoesOn
 pub mod LoneRunPolls

@@ -403,10 +403,10 @@ module _ (p : ℕ) (taker : Taker Waker) (final : Op) (below : List Op) (f n : �
       loses awaiter next (inside ∙ ap (λ codes. Lose awaiter (Some taker) ∷ codes) same) ending
 
   moved_on : (new old : Choice → Plain Output Waker) → ((d : Choice) → new (telling n d) ≡ old (telling n d))
-      → (behind : Choice → Option (Plain Output Waker))
-      → GoesBy p taker final below after n end old behind (Drops taker final below f after end)
+      → (behind was : Choice → Option (Plain Output Waker)) → ((d : Choice) → behind (telling n d) ≡ was (telling n d))
+      → GoesBy p taker final below after n end old was (Drops taker final below f after end)
       → GoesBy p taker final below q n end new behind (Drops taker final below f q end)
-  moved_on new old alike behind (passed so) =
+  moved_on new old alike behind was alike_behind (passed so) =
       passed
       (record {
         before = so.before;
@@ -415,11 +415,12 @@ module _ (p : ℕ) (taker : Taker Waker) (final : Op) (below : List Op) (f n : �
         inside = so.inside ∙ same;
         stay = stay_on q after so.before stay so.stay;
         is = λ d. alike d ∙ so.is d;
-        at = so.at;
+        at = λ d. alike_behind d ∙ so.at d;
       })
-  moved_on new old alike behind (stood so stays none) =
+  moved_on new old alike behind was alike_behind (stood so stays none) =
       stood (λ d. subst (Drops taker final below f q end) (sym (alike d)) (moved_one (old (telling n d)) (so d)))
-      (λ d. subst (RunsStay q) (sym (alike d)) (stay_on q after (old (telling n d)) stay (stays d))) none
+      (λ d. subst (RunsStay q) (sym (alike d)) (stay_on q after (old (telling n d)) stay (stays d)))
+      (λ d. alike_behind d ∙ none d)
 
 -- the drop of the future ends
 abbrev pub drops_with : (taker : Taker Waker) (f : ℕ) (why : End Output) → Plain Output Waker → Choice → Plain Output Waker
@@ -444,6 +445,7 @@ dropped_by p below w q under follows taker final f m why at there ends c many hi
     moved_on p taker final below f c.tells end q after left.inside (given_up_stays c f q) (drops_with taker f why q)
     (λ d. plain_takes.ended wakes d f (plain_takes.left_by wakes c why (task f after)) (Some taker) after) (λ d. refl)
     (behind_dropped f why q)
+    (λ d. let l = plain_takes.left_by wakes c why (task f after) in behind_out wakes d l (put f l.task after)) (λ d. refl)
     (runs_out p below under end rests c taker final f left.now after (subst (λ ls. length ls ≤ c.tells) (sym left.lying) many)
     left.stands left.known m why left.run left.way)
 

@@ -62,6 +62,10 @@ all_of t most last = grind (arith, nat_tests)
 pub more_of : (t : ℕ) → nat_lt t 200 ≡ true → suc t ≤ 200
 more_of t few = grind (arith, nat_tests)
 
+-- where nothing is said of a choice
+abbrev pub anyhow : Choice → Type 0
+anyhow d = Unit {0}
+
 -- where a run searched in this world, in which the plain scheduler stood so: how it chose, and what it left of that world
 abbrev pub search_at : ℕ → Waker → Plain Output Waker → Search Output Waker
 search_at r a b = record { run = r; waker = a; at = b }
@@ -94,7 +98,7 @@ module _ (p : ℕ) (x : RunPoll) (below : List Op) (q : Plain Output Waker) (n t
   module _ (under : is_resting below ≡ true) (rests : is_resting end.next ≡ true) (c : Choice) where
     -- one more is taken
     takes_more : (w : World) (b : Plain Output Waker) → Between x.run false t b → b.inside ≡ q.inside → (first : Choice) → first.tells ≡ n
-        → first.first ≡ first_of w.urgent_turns → any is_due b.due ≡ true → Found p below under end rests first x w b
+        → first.first ≡ first_of w.urgent_turns → any is_due b.due ≡ true → Found p below under end rests first x b
         → ((d : Choice) → new (telling n d) ≡ plain_takes.next wakes (telling n d) taker b) → Tells w b → After
     takes_more w b so inside first told turn some g is tells =
         let d = pick p below under end rests first x g.0 g.1 g.2 in
@@ -128,12 +132,12 @@ module _ (p : ℕ) (x : RunPoll) (below : List Op) (q : Plain Output Waker) (n t
         (subst (λ m. Searched x.run x.waker w b (telling m d) end.world (new (telling n d))) told
         (record {
           few = ap (λ k. nat_lt k 200) so.taken ∙ so.early;
-          usual = λ due. subst (λ m. TakesAsUsual wakes d m (counts w x.run) (search_at x.run x.waker b)) turn it.usual;
-          start = it.start;
-          robs = λ due. it.robs;
-          counted = λ k. it.behind.counted k ∙ one_more k (k == x.run) (any is_due b.due) some;
-          turns = it.behind.turn ∙ by_turn d.refusal (any (is_kept x.run) b.due) (any is_due b.due) some;
-          listed = it.behind.listed;
+          usual = λ due. ?;
+          start = 0;
+          robs = λ due. ?;
+          counted = λ k. ?;
+          turns = ?;
+          listed = ?;
           later = λ none. absurd (clash none some);
         })))
       where
@@ -182,12 +186,9 @@ module _ (p : ℕ) (x : RunPoll) (below : List Op) (q : Plain Output Waker) (n t
               usual = λ some. absurd (clash none some);
               start = 0;
               robs = λ some. absurd (clash none some);
-              counted = λ k. g.6.counted k
-                  ∙ ap (λ b0. if b0 then one_counted (counts w k) else counts w k) (sym (nowhere (k == x.run) (any is_due b.due) none));
-              turns = g.6.turn
-                  ∙ ap (λ ds. turned (if any (is_kept x.run) ds then 0 else (if any is_due ds then 1 else vain_turns g.0 (ARun x.run) b.lying))
-                  w.urgent_turns) (sym quiet);
-              listed = g.6.listed;
+              counted = λ k. ?;
+              turns = ?;
+              listed = ?;
               later = λ vain late. subst (OneMoreLies b) (sym same) (g.5 late);
             }))
         by true some =
@@ -200,7 +201,7 @@ module _ (p : ℕ) (x : RunPoll) (below : List Op) (q : Plain Output Waker) (n t
     -- behind what it took; with its 200th it searches no more
     pub goes_on : (behind : Choice → Option (Plain Output Waker)) (last : Bool) → length q.lying < n → Between x.run last t q
         → (pass : Passes p taker (goes_on_by x last) below q n end new behind) → Tells pass.so.world pass.before
-        → (searches_of taker pass.before ≡ None → Says (telling n c)) → After
+        → (searches_of wakes c taker pass.before ≡ None → Says (telling n c)) → After
     goes_on behind true fit so pass tells unsaid =
         let e =
         passes_end p below under end rests taker (goes_on_by x true) q (of_last x (so.taken ∙ all_of t so.most so.early)) (telling n c) new

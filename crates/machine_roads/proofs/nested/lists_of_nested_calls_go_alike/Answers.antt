@@ -1,5 +1,7 @@
 use Rattle.machine_roads.proofs.AloneKeeps.{alone_keeps}
 use Rattle.machine_roads.proofs.Cut.{cut}
+use Rattle.machine_roads.proofs.PassingStill.{goes_still}
+use Rattle.machine_roads.proofs.Chosen.{found_so}
 use Rattle.machine_roads.proofs.Acts.{acts_alike}
 use Rattle.machine_roads.proofs.nested.lists_of_nested_calls_go_alike.Goals as goal
 

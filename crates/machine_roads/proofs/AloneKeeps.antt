@@ -2,6 +2,7 @@
 use Rattle.std.proofs.Common.{◌≡◌, ◌≤◌, ◌+◌, ◌++◌, ℕ, List, [], ◌∷◌, Bool, true, false, cond, refl, arith, subst}
 use Rattle.executor_model.specs.declared.op.Op.{Op}
 use Rattle.executor_model.specs.declared.op.Op.TheVariants as op
+use Rattle.executor_model.specs.declared.op.UserOp.{UserOp}
 use Rattle.executor_model.specs.declared.op.UserOp.TheVariants as user_op
 use Rattle.executor_model.specs.declared.step.Hint.{Hint}
 use Rattle.executor_model.specs.Doing.{act}
@@ -78,6 +79,10 @@ module _ (stops : Op → Bool) (v : Op → ℕ) where
             (keeps.same p h o os w is has.0 none)
             (on (act p h o w).world ((act p h o w).next ++ os) more (keeps.rest p h o os w is has.0 none))
 
+-- up to where user code is called
+abbrev pub due : (Op → ℕ) → List Op → ℕ
+due v os = due_to calls_user v os
+
 -- where nothing is asked
 abbrev pub nothing_asked : World → Op → Type 0
 nothing_asked w o = Unit {0}
@@ -89,3 +94,56 @@ none_asked p (h ∷ hs) d = (first d.next, none_asked p hs _)
     first : (os : List Op) → HasFirst nothing_asked d.world os
     first [] = tt
     first (o ∷ os) = tt
+
+-- a smaller count
+pub due_less : (stops : Op → Bool) (v u : Op → ℕ) → ((o : Op) → v o ≤ u o) → (os : List Op) → due_to stops u os ≡ 0
+    → due_to stops v os ≡ 0
+due_less stops v u less [] none = refl
+due_less stops v u less (o ∷ os) none = by (λ none. due_less stops v u less os none) (stops o) none
+  where
+    by : (due_to stops u os ≡ 0 → due_to stops v os ≡ 0) → (b : Bool) → cond b 0 (u o + due_to stops u os) ≡ 0
+        → cond b 0 (v o + due_to stops v os) ≡ 0
+    by more true none = refl
+    by more false none = omega (arith, none, less o, more (omega (arith, none)))
+
+-- who rests comes to user code at once
+pub due_resting : (v : Op → ℕ) (os : List Op) → is_resting os ≡ true → due v os ≡ 0
+due_resting v [] rests = refl
+due_resting v (op.User (user_op.CallOutside x) ∷ os) rests = absurd cc
+due_resting v (op.User o ∷ os) rests = refl
+due_resting v (o ∷ os) rests = absurd cc
+
+pub due_push : (v : Op → ℕ) (xs ys : List Op) → weigh v xs ≡ 0 → due v ys ≡ 0 → due v (xs ++ ys) ≡ 0
+due_push v xs ys none below = due_to_push calls_user v xs ys none below
+
+-- up to where user code is called, where each thing that counts nothing leads to nothing that does, and keeps it
+module _ (v : Op → ℕ) (R : World → World → Type 0)
+    (next : (p : ℕ) (h : Hint) (o : Op) (w : World) → waits o ≡ false → v o ≡ 0 → weigh v (act p h o w).next ≡ 0)
+    (same : (p : ℕ) (h : Hint) (o : Op) (w : World) → v o ≡ 0 → R w (act p h o w).world)
+    (users : (p : ℕ) (h : Hint) (o : UserOp) (w : World) → R w (act p h (op.User o) w).world) where
+  rest_due : (p : ℕ) (h : Hint) (o : Op) (os : List Op) (w : World) → waits o ≡ false → due v (o ∷ os) ≡ 0
+      → due v ((act p h o w).next ++ os) ≡ 0
+  rest_due p h (op.User (user_op.CallOutside x)) os w goes none = absurd cc
+  rest_due p h (op.User o) os w goes none = refl
+  rest_due p h o os w goes none =
+      due_to_push calls_user v (act p h o w).next os (next p h o w goes (omega (arith, none))) (omega (arith, none))
+
+  same_due : (p : ℕ) (h : Hint) (o : Op) (os : List Op) (w : World) → due v (o ∷ os) ≡ 0 → R w (act p h o w).world
+  same_due p h (op.User o) os w none = users p h o w
+  same_due p h o os w none = same p h o w (omega (arith, none))
+
+  no_stop : (o : Op) → is_outside o ≡ true → calls_user o ≡ false
+  no_stop (op.User (user_op.CallOutside x)) is = refl
+  no_stop o is = absurd cc
+
+  pub alone_kept : ((w : World) → R w w) → ((u w x : World) → R u w → R w x → R u x) → (p : ℕ) (hints : List Hint) (w : World)
+      (os : List Op) → due v os ≡ 0 → R w (alone p hints (done w os)).world
+  alone_kept here on p hints w os none =
+      alone_keeps calls_user v nothing_asked R
+      (record {
+        here = here;
+        on = on;
+        rest = λ p h o os w goes asked none. rest_due p h o os w goes none;
+        same = λ p h o os w goes asked none. same_due p h o os w none;
+        outside = no_stop;
+      }) p hints w os (none_asked p hints (done w os)) none

@@ -1,3 +1,5 @@
+pub mod Counted
+pub mod Seeking
 pub mod AloneKeeps
 pub mod Cut
 pub mod ActsBeside

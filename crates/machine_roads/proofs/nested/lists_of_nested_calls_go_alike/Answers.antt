@@ -1,3 +1,5 @@
+use Rattle.machine_roads.proofs.Counted.{counts_stay}
+use Rattle.machine_roads.proofs.Seeking.{alone_turn}
 use Rattle.machine_roads.proofs.AloneKeeps.{alone_keeps}
 use Rattle.machine_roads.proofs.Cut.{cut}
 use Rattle.machine_roads.proofs.PassingStill.{goes_still}

@@ -297,7 +297,7 @@ reacts_count p o u w = λ k. refl
 
 -- what leads to a search of a run, or is a part of one
 
-abbrev who_counts : TickOrRun → ℕ
+abbrev pub who_counts : TickOrRun → ℕ
 who_counts (TickOrRun.Tick t) = 0
 who_counts (TickOrRun.Run r) = 1
 

@@ -1,3 +1,5 @@
+pub mod Enlisting
+pub mod Still
 pub mod Counted
 pub mod Seeking
 pub mod AloneKeeps

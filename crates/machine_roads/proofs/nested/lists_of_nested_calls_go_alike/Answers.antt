@@ -1,3 +1,4 @@
+use Rattle.machine_roads.proofs.Still.{alone_still}
 use Rattle.machine_roads.proofs.Counted.{counts_stay}
 use Rattle.machine_roads.proofs.Seeking.{alone_turn}
 use Rattle.machine_roads.proofs.AloneKeeps.{alone_keeps}

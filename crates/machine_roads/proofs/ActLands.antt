@@ -23,7 +23,7 @@ use Rattle.machine_roads.specs.Alone.{is_resting}
 use Rattle.machine_roads.specs.Dropped.{Drops, answered, loses, rest_of}
 use Rattle.machine_roads.specs.Forgotten.{StopsForgetting}
 use Rattle.machine_roads.specs.Searching.{goes_on_by}
-use Rattle.machine_roads.specs.Stopped.{of_tick, of_try}
+use Rattle.machine_roads.specs.Stopped.{Finally, of_tick, of_try}
 use Rattle.machine_roads.specs.Within.{GoesOnBy, Nested, alike, by_run, by_tick, by_try, dropping, forgetting, takes}
 use Rattle.machine_roads.proofs.Counting.{Alike, Comes, Counted, StandsSo, Taken, at_end, comes, in_code, lasts, leaves, like, none_last}
 use Rattle.machine_roads.proofs.Counting.{none_left, over_in, some_op, taken_in, unchanged}
@@ -136,10 +136,10 @@ module _ (p : ℕ) (below : List Op) (q : Plain Output Waker) (nested : Nested b
     pub says : Says choice
 
   -- what is said of the choice where a run goes on there, and where none does
-  pub record Tells (taker : Taker Waker) (w : World) (b : Plain Output Waker) : Type 0 where
+  pub record Tells (taker : Taker Waker) (final : Op) (w : World) (b : Plain Output Waker) : Type 0 where
     pub searched : (r : ℕ) (a : Waker) → taker ≡ Run r a → (d : Choice)
         → Searched r a w b (telling c1.tells d) e.world (will (telling c1.tells d)) → Says (telling c1.tells d)
-    pub unsearched : searches_of wakes c1 taker b ≡ None → Says c1
+    pub unsearched : Finally q taker final → searches_of wakes c1 taker b ≡ None → Says c1
 
   abbrev AllEnd : Taker Waker → Type 0
   AllEnd taker = (d : Choice) → Ends d taker q (will d)
@@ -221,13 +221,14 @@ module _ (p : ℕ) (below : List Op) (q : Plain Output Waker) (nested : Nested b
   -- only what takes is left to do
   pub passes_lands : (taker : Taker Waker) (final : Op) (it : GoesOnBy taker final) → Counted (final ∷ below) q.runs
       → FactsOf below q taker final it → AllEnd taker → (behind : Choice → Option (Plain Output Waker))
-      → (pass : Passes p taker final below q c1.tells e will behind) → Tells taker pass.so.world pass.before → Lands
+      → (pass : Passes p taker final below q c1.tells e will behind) → Tells taker final pass.so.world pass.before → Lands
   passes_lands taker final by_try count facts so behind pass tells =
       let g = passes_end p below under e rests taker final q of_try c1 will behind pass in
-      lands_back c1 refl (back taker final by_try count facts so c1 g.2) g.0 g.2 g.1 (tells.unsearched refl)
+      lands_back c1 refl (back taker final by_try count facts so c1 g.2) g.0 g.2 g.1 (tells.unsearched of_try refl)
   passes_lands taker final (by_tick t a) count facts so behind pass tells =
       let g = passes_end p below under e rests taker final q (of_tick t a) c1 will behind pass in
-      lands_back c1 refl (back taker final (by_tick t a) count facts so c1 g.2) g.0 g.2 g.1 (tells.unsearched refl)
+      lands_back c1 refl (back taker final (by_tick t a) count facts so c1 g.2) g.0 g.2 g.1
+      (tells.unsearched (of_tick t a) refl)
   passes_lands taker final (by_run x last) count facts so behind pass tells =
       after_lands x last count facts so (taken_in x.run q.runs)
       (runs_on p x below q c1.tells (taken_in x.run q.runs) e will Says under rests c1 behind last room (between x last count facts) pass
@@ -237,11 +238,12 @@ module _ (p : ℕ) (below : List Op) (q : Plain Output Waker) (nested : Nested b
       (facts : FactsOf below q taker final it) (so : AllEnd taker) where
     -- or more code has come before that
     pub goes_lands : (P : World → Type 0) (behind : Choice → Option (Plain Output Waker)) (So : Plain Output Waker → Type 0)
-        → ((b : Plain Output Waker) (v : World) → P v → ((d : Choice) → behind (telling c1.tells d) ≡ Some b) → Tells taker v b)
+        → ((pass : Passes p taker final below q c1.tells e will behind) → P pass.so.world
+        → Tells taker final pass.so.world pass.before)
         → (So (will (telling c1.tells c1)) → RunsStay q (will (telling c1.tells c1)) → behind c1 ≡ None → P e.world → Lands)
         → GoesStill P p taker final below q c1.tells e will behind So → Lands
     goes_lands P behind So tells lands (passes_still pass still) =
-        passes_lands taker final it count facts so behind pass (tells pass.before pass.so.world still pass.at)
+        passes_lands taker final it count facts so behind pass (tells pass still)
     goes_lands P behind So tells lands (stands_still stops stays none still) = lands (stops c1) (stays c1) (none c1) still
 
     -- a future's drop, or none

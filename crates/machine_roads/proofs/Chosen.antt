@@ -11,7 +11,7 @@ use Rattle.plain_scheduler.specs.Calls.{Call}
 use Rattle.plain_scheduler.specs.Searches.{Search, finds, searches, searches_of}
 use Rattle.plain_scheduler.specs.Usual.{RobsAsUsual, TakesAsUsual, one_counted, run_turns, turned}
 use Rattle.machine_roads.specs.View.{Output, wakes}
-use Rattle.machine_roads.specs.Choosing.{Chooses, counts}
+use Rattle.machine_roads.specs.Choosing.{Chooses, has_counted}
 use Rattle.machine_roads.proofs.Lists.{clash}
 use Rattle.machine_roads.proofs.RunsOn.{Searched, search_at}
 use Rattle.machine_roads.proofs.Still.{Still}
@@ -30,8 +30,8 @@ module _ (w v : World) (call : Call Output Waker) (q : Plain Output Waker) (d : 
       → searches wakes d call q ≡ Some (search_at r a b) → Searched r a u b d v z → Chooses w v d call q
   found_so u r a b z still is so = record {
     usual = λ x its due.
-        subst (λ x. TakesAsUsual wakes d (first_of w.urgent_turns) (counts w x.run) x) (same x its)
-        (subst (λ n. TakesAsUsual wakes d (first_of n) (counts w r) (search_at r a b)) still.turn
+        subst (λ x. TakesAsUsual wakes d (first_of w.urgent_turns) (has_counted w x.run) x) (same x its)
+        (subst (λ n. TakesAsUsual wakes d (first_of n) (has_counted w r) (search_at r a b)) still.turn
         (subst (λ n. TakesAsUsual wakes d (first_of u.urgent_turns) n (search_at r a b)) (still.counted r)
         (so.usual (ap finds (same x its) ∙ due))));
     start = so.start;
@@ -42,8 +42,8 @@ module _ (w v : World) (call : Call Output Waker) (q : Plain Output Waker) (d : 
         so.counted k
         ∙ (ap (λ n. if (k == r) && any is_due b.due then one_counted n else n) (still.counted k)
         ∙ sym (ap
-        (λ (o : Option (Search Output Waker)). or o (λ x. if (k == x.run) && finds x then one_counted (counts w k) else counts w k)
-        (counts w k)) is));
+        (λ (o : Option (Search Output Waker)). or o (λ x. if (k == x.run) && finds x then one_counted (has_counted w k) else has_counted w k)
+        (has_counted w k)) is));
     turns = λ x its.
         so.turns
         ∙ (ap (λ n. turned (run_turns d.refusal (search_at r a b)) n) still.turn
@@ -53,7 +53,7 @@ module _ (w v : World) (call : Call Output Waker) (q : Plain Output Waker) (d : 
       same : (x : Search Output Waker) → searches wakes d call q ≡ Some x → search_at r a b ≡ x
       same x its = ap (the x) (sym is ∙ its)
 
-  pub none_so : searches wakes d call q ≡ None → ((k : ℕ) → counts v k ≡ counts w k) → Chooses w v d call q
+  pub none_so : searches wakes d call q ≡ None → ((k : ℕ) → has_counted v k ≡ has_counted w k) → Chooses w v d call q
   none_so none stays = record {
     usual = λ x its due. absurd (no_search x its);
     start = 0;
@@ -61,8 +61,8 @@ module _ (w v : World) (call : Call Output Waker) (q : Plain Output Waker) (d : 
     counted = λ k.
         stays k
         ∙ sym (ap
-        (λ (o : Option (Search Output Waker)). or o (λ x. if (k == x.run) && finds x then one_counted (counts w k) else counts w k)
-        (counts w k)) none);
+        (λ (o : Option (Search Output Waker)). or o (λ x. if (k == x.run) && finds x then one_counted (has_counted w k) else has_counted w k)
+        (has_counted w k)) none);
     turns = λ x its. absurd (no_search x its);
   }
     where

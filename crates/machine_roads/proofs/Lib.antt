@@ -46,6 +46,7 @@ pub mod Trying
 pub mod RunsStay
 pub mod Passing
 pub mod PassingStill
+pub mod GoingStill
 pub mod Unseen
 pub mod Pending
 pub mod Losing
@@ -127,6 +128,7 @@ pub mod Course
 pub mod InHand
 pub mod Walked
 pub mod Inmost
+pub mod Unsearched
 pub mod ActBegins
 pub mod RunsAlone
 pub mod ActLosses

@@ -151,7 +151,7 @@ module _ (p : ℕ) (new : Machine) (later : new.world.gone ≡ false) (at_last :
         → is_resting e.next ≡ true → length b.lying < n → Now b → (behind : Choice → Option (Plain Output Waker))
         → GoesBy p taker final [] b n e will behind (λ z. So z e) → Left So b n will e
     left_by So b n will e rests fit now behind (passed so) =
-        goes (runs_on p x [] b n t e will anyhow refl rests c behind last fit now so (λ d said. tt) (λ none. tt))
+        goes (runs_on p x [] b n t e will anyhow refl rests c behind last fit now so (λ d said. tt) (λ it none. tt))
     left_by So b n will e rests fit now behind (stood so stays none) =
         still (so c) (between_stays x.run last t b (will (telling n c)) (stays c) now)
 
@@ -215,7 +215,7 @@ module _ (p : ℕ) (new : Machine) (later : new.world.gone ≡ false) (at_last :
             λ hints all rests.
             runs_on p x [] r0 n t (alone p hints (done m.world os)) (loses_with taker awaiter r0) anyhow refl rests c
             (behind_lost awaiter r0) last (most r0) (between_inside x.run last t r codes now)
-            (lost_by taker final p f [] m.world r0 awaiter c1 ending0 (least r0) hints all rests) (λ d said. tt) (λ none. tt) in
+            (lost_by taker final p f [] m.world r0 awaiter c1 ending0 (least r0) hints all rests) (λ d said. tt) (λ it none. tt) in
             let here : LeadsSo p (done (react p y.first y.end m.world).world ((react p y.first y.end m.world).next ++ y.rest)) S =
             subst (λ o. LeadsSo p (done (react p o y.end m.world).world ((react p o y.end m.world).next ++ y.rest)) S) (sym both.0)
             (subst (λ os. LeadsSo p (done m.world os) S) (sym both.1) leads) in
@@ -285,7 +285,7 @@ module _ (p : ℕ) (new : Machine) (later : new.world.gone ≡ false) (at_last :
         λ hints all rests.
         runs_on p x [] r0 n t (alone p hints (done m.world os)) (forgets_with taker f r0) anyhow refl rests c
         (behind_dropped f Closed r0) last (most r0) (between_inside x.run last t r codes (between_stays x.run last t b r y.so.stay now))
-        (forgotten_by taker final p f [] m.world r0 (telling n c) forgotten0 (least r0) hints all rests) (λ d said. tt) (λ none. tt) in
+        (forgotten_by taker final p f [] m.world r0 (telling n c) forgotten0 (least r0) hints all rests) (λ d said. tt) (λ it none. tt) in
         let here : LeadsSo p (done (react p y.first y.end m.world).world ((react p y.first y.end m.world).next ++ y.rest)) S =
         subst (λ o. LeadsSo p (done (react p o y.end m.world).world ((react p o y.end m.world).next ++ y.rest)) S) (sym both.0)
         (subst (λ os. LeadsSo p (done m.world os) S) (sym both.1) leads) in

@@ -1,20 +1,25 @@
 -- What comes behind the poll or the drop of a future that was taken, with what holds there of the world: as what takes goes on, that is still
 -- so which all keep that comes before that.
-use Rattle.std.proofs.Common.{◌≡◌, ℕ, ◌+◌, ◌++◌, true, List, [], ◌∷◌, length, Option, Some, None, is_some, sym, ap, subst, ◌∙◌, arith}
+use Rattle.std.proofs.Common.{◌≡◌, ℕ, ◌+◌, ◌++◌, true, List, [], ◌∷◌, length, Option, Some, None, is_some, refl, sym, ap, subst, ◌∙◌, arith}
 use Rattle.executor_model.specs.declared.op.Op.{Op}
 use Rattle.executor_model.specs.declared.op.Op.TheVariants as op
+use Rattle.executor_model.specs.declared.op.HandleOp.TheVariants as handle_op
+use Rattle.executor_model.specs.declared.op.TableOp.TheVariants as table_op
 use Rattle.executor_model.specs.declared.op.UserOp.TheVariants as user_op
 use Rattle.executor_model.specs.declared.op.Waker.{Waker}
 use Rattle.executor_model.specs.declared.step.Hint.{Hint}
-use Rattle.executor_model.specs.World.{Done, World, done}
-use Rattle.plain_scheduler.specs.State.{Choice, Plain, Taker}
+use Rattle.executor_model.specs.World.{Done, World, done, task}
+use Rattle.plain_scheduler.specs.State.{Choice, Code, Plain, Taker}
 use Rattle.machine_roads.specs.View.{Output}
 use Rattle.machine_roads.specs.Road.{Follows}
 use Rattle.machine_roads.specs.Alone.{Has, HasAll, alone, is_resting}
+use Rattle.machine_roads.specs.Dropped.{Drops, answered, loses, rest_of}
+use Rattle.machine_roads.specs.Forgotten.{StopsForgetting}
 use Rattle.machine_roads.proofs.Cut.{Comes, CutHas, cut, inside, through}
 use Rattle.machine_roads.proofs.Lists.{clash}
 use Rattle.machine_roads.proofs.Passing.{GoesBy, Passes, passed, stood, telling}
 use Rattle.machine_roads.proofs.RunsStay.{RunsStay}
+use Rattle.machine_roads.proofs.Standing.{Answered, InDrop, Stays, StaysSo}
 use Rattle.machine_roads.proofs.Trying.{stops_at}
 
 -- user code, which is put for what takes
@@ -70,17 +75,17 @@ module _ (P : World → Type 0) (p : ℕ) (w : World) (os : List Op)
             let to : alone p first (done w (os ++ (stop ∷ below))) ≡ done v (stop ∷ below) = comes.to (stop ∷ below) in
             let resting : is_resting (alone p first (done w (os ++ (stop ∷ below)))).next ≡ true =
             ap (λ (d : Done). is_resting d.next) to in
-            stops first v to resting (goes stop first (comes.has (stop ∷ below)) resting)
+            stops to resting (goes stop first (comes.has (stop ∷ below)) resting)
           where
-            stops : (first : List Hint) (v : World) → alone p first (done w (os ++ (stop ∷ below))) ≡ done v (stop ∷ below)
+            stops : alone p first (done w (os ++ (stop ∷ below))) ≡ done v (stop ∷ below)
                 → is_resting (alone p first (done w (os ++ (stop ∷ below)))).next ≡ true
                 → GoesBy p taker stop below q n (alone p first (done w (os ++ (stop ∷ below)))) new behind
                 (So stop (alone p first (done w (os ++ (stop ∷ below)))))
                 → Still
-            stops first v to resting (stood so stay none) =
+            stops to resting (stood so stay none) =
                 absurd
                 (apart (alone p first (done w (os ++ (stop ∷ below)))) (new (telling n c)) (ap (λ (d : Done). d.next) to) (so c))
-            stops first v to resting (passed pass) =
+            stops to resting (passed pass) =
                 let here : pass.so.world ≡ v =
                 ap (λ (d : Done). d.world)
                 (stops_at p below under (alone p first (done w (os ++ (stop ∷ below)))) resting (stop ∷ below) pass.so.world refl
@@ -125,3 +130,25 @@ module _ (P : World → Type 0) (p : ℕ) (w : World) (os : List Op)
                 (subst (λ (d : Done). P d.world) (sym (comes.to (final ∷ below))) (there hints v (o ∷ above) comes))
             both (passed pass) (stood so_stop stay_stop none_stop) =
                 absurd (clash (ap is_some (none_stop c)) (ap is_some (pass.at c)))
+
+-- user code in which it stands isn't what is put there
+pub stays_apart : (taker : Taker Waker) (below : List Op) (q : Plain Output Waker) (e : Done) (z : Plain Output Waker)
+    → e.next ≡ stop ∷ below → StaysSo taker stop below q e z → ⊥
+stays_apart taker below q e z is so = by e.next z.inside so.stays is
+  where
+    by : (os : List Op) (codes : List (Code Output Waker)) → Stays taker stop below q.inside e.world os codes → os ≡ stop ∷ below → ⊥
+    by os codes Answered is = not_below below (sym is)
+    by os codes (InDrop f m why going) is = absurd cc
+
+pub drops_apart : (taker : Taker Waker) (below : List Op) (f : ℕ) (q : Plain Output Waker) (e : Done) (z : Plain Output Waker)
+    → e.next ≡ stop ∷ below → Drops taker stop below f q e z → ⊥
+drops_apart taker below f q e z is (answered next same follows) = not_below below (sym is ∙ next)
+drops_apart taker below f q e z is (loses awaiter next same ending) =
+    let no : stop ∷ below ≡ op.User (user_op.DropOutput f) ∷ (rest_of (task e.world f).awaiter f stop ++ below) = sym is ∙ next in absurd cc
+
+pub forgets_apart : (taker : Taker Waker) (below : List Op) (f : ℕ) (q : Plain Output Waker) (e : Done) (z : Plain Output Waker)
+    → e.next ≡ stop ∷ below → StopsForgetting taker stop below f q e z → ⊥
+forgets_apart taker below f q e z is so =
+    let no : stop ∷ below
+        ≡ op.User (user_op.Drop f) ∷ op.Table (table_op.LeaveTable f) ∷ op.Handle (handle_op.LetGo f) ∷ stop ∷ below = sym is ∙ so.left in
+    absurd cc

@@ -17,10 +17,10 @@ use Rattle.plain_scheduler.specs.Usual.{RobsAsUsual, TakesAsUsual, one_counted, 
 use Rattle.machine_roads.specs.View.{Output, wakes}
 use Rattle.machine_roads.specs.Road.{Follows, futures_in}
 use Rattle.machine_roads.specs.Alone.{is_resting}
-use Rattle.machine_roads.specs.Choosing.{counts}
+use Rattle.machine_roads.specs.Choosing.{has_counted}
 use Rattle.machine_roads.specs.Refused.{OneMoreLies}
 use Rattle.machine_roads.specs.Searching.{goes_on_by}
-use Rattle.machine_roads.specs.Stopped.{of_last, taken_by}
+use Rattle.machine_roads.specs.Stopped.{Finally, of_last, taken_by}
 use Rattle.machine_roads.proofs.Lists.{clash, same_of}
 use Rattle.machine_roads.proofs.Passing.{Passes, passes_end, telling}
 use Rattle.machine_roads.proofs.RunLies.{lies_so, none_due}
@@ -72,10 +72,10 @@ search_at r a b = record { run = r; waker = a; at = b }
 
 pub record Searched (r : ℕ) (a : Waker) (w : World) (b : Plain Output Waker) (d : Choice) (v : World) (z : Plain Output Waker) : Type 0 where
   pub few : nat_lt (taken_by r b) 200 ≡ true
-  pub usual : any is_due b.due ≡ true → TakesAsUsual wakes d (first_of w.urgent_turns) (counts w r) (search_at r a b)
+  pub usual : any is_due b.due ≡ true → TakesAsUsual wakes d (first_of w.urgent_turns) (has_counted w r) (search_at r a b)
   pub start : ℕ
   pub robs : any is_due b.due ≡ true → RobsAsUsual wakes d w.listed start (search_at r a b)
-  pub counted : (k : ℕ) → counts v k ≡ (if (k == r) && any is_due b.due then one_counted (counts w k) else counts w k)
+  pub counted : (k : ℕ) → has_counted v k ≡ (if (k == r) && any is_due b.due then one_counted (has_counted w k) else has_counted w k)
   pub turns : v.urgent_turns ≡ turned (run_turns d.refusal (search_at r a b)) w.urgent_turns
   pub listed : v.listed ≡ w.listed
   pub later : any is_due b.due ≡ false → d.refusal ≡ Later → OneMoreLies b z
@@ -98,7 +98,7 @@ module _ (p : ℕ) (x : RunPoll) (below : List Op) (q : Plain Output Waker) (n t
   module _ (under : is_resting below ≡ true) (rests : is_resting end.next ≡ true) (c : Choice) where
     -- one more is taken
     takes_more : (w : World) (b : Plain Output Waker) → Between x.run false t b → b.inside ≡ q.inside → (first : Choice) → first.tells ≡ n
-        → first.first ≡ first_of w.urgent_turns → any is_due b.due ≡ true → Found p below under end rests first x b
+        → first.first ≡ first_of w.urgent_turns → any is_due b.due ≡ true → Found p below under end rests first x w b
         → ((d : Choice) → new (telling n d) ≡ plain_takes.next wakes (telling n d) taker b) → Tells w b → After
     takes_more w b so inside first told turn some g is tells =
         let d = pick p below under end rests first x g.0 g.1 g.2 in
@@ -132,18 +132,18 @@ module _ (p : ℕ) (x : RunPoll) (below : List Op) (q : Plain Output Waker) (n t
         (subst (λ m. Searched x.run x.waker w b (telling m d) end.world (new (telling n d))) told
         (record {
           few = ap (λ k. nat_lt k 200) so.taken ∙ so.early;
-          usual = λ due. ?;
-          start = 0;
-          robs = λ due. ?;
-          counted = λ k. ?;
-          turns = ?;
-          listed = ?;
+          usual = λ due. subst (λ m. TakesAsUsual wakes d m (has_counted w x.run) (search_at x.run x.waker b)) turn it.usual;
+          start = it.start;
+          robs = λ due. it.robs;
+          counted = λ k. it.behind.counted k ∙ one_more k (k == x.run) (any is_due b.due) some;
+          turns = it.behind.turn ∙ by_turn d.refusal (any (is_kept x.run) b.due) (any is_due b.due) some;
+          listed = it.behind.listed;
           later = λ none. absurd (clash none some);
         })))
       where
         one_more : (k : ℕ) (own due : Bool) → due ≡ true
-            → (if own then one_counted (counts w k) else counts w k) ≡ (if own && due then one_counted (counts w k) else counts w k)
-        one_more k true due some = ap (λ b0. if b0 then one_counted (counts w k) else counts w k) (sym some)
+            → (if own then one_counted (has_counted w k) else has_counted w k) ≡ (if own && due then one_counted (has_counted w k) else has_counted w k)
+        one_more k true due some = ap (λ b0. if b0 then one_counted (has_counted w k) else has_counted w k) (sym some)
         one_more k false due some = refl
 
         by_turn : (refusal : Refusal) (own due : Bool) → due ≡ true
@@ -186,9 +186,12 @@ module _ (p : ℕ) (x : RunPoll) (below : List Op) (q : Plain Output Waker) (n t
               usual = λ some. absurd (clash none some);
               start = 0;
               robs = λ some. absurd (clash none some);
-              counted = λ k. ?;
-              turns = ?;
-              listed = ?;
+              counted = λ k. g.6.counted k
+                  ∙ ap (λ b0. if b0 then one_counted (has_counted w k) else has_counted w k) (sym (nowhere (k == x.run) (any is_due b.due) none));
+              turns = g.6.turn
+                  ∙ ap (λ ds. turned (if any (is_kept x.run) ds then 0 else (if any is_due ds then 1 else vain_turns g.0 (ARun x.run) b.lying))
+                  w.urgent_turns) (sym quiet);
+              listed = g.6.listed;
               later = λ vain late. subst (OneMoreLies b) (sym same) (g.5 late);
             }))
         by true some =
@@ -201,13 +204,12 @@ module _ (p : ℕ) (x : RunPoll) (below : List Op) (q : Plain Output Waker) (n t
     -- behind what it took; with its 200th it searches no more
     pub goes_on : (behind : Choice → Option (Plain Output Waker)) (last : Bool) → length q.lying < n → Between x.run last t q
         → (pass : Passes p taker (goes_on_by x last) below q n end new behind) → Tells pass.so.world pass.before
-        → (searches_of wakes c taker pass.before ≡ None → Says (telling n c)) → After
+        → (Finally q taker (goes_on_by x last) → searches_of wakes c taker pass.before ≡ None → Says (telling n c)) → After
     goes_on behind true fit so pass tells unsaid =
-        let e =
-        passes_end p below under end rests taker (goes_on_by x true) q (of_last x (so.taken ∙ all_of t so.most so.early)) (telling n c) new
-        behind pass in
+        let it : Finally q taker (goes_on_by x true) = of_last x (so.taken ∙ all_of t so.most so.early) in
+        let e = passes_end p below under end rests taker (goes_on_by x true) q it (telling n c) new behind pass in
         ends c e.0 e.1 e.2
-        (unsaid
+        (unsaid it
         (ap (λ b. if b then Some (search_at x.run x.waker pass.before) else None)
         (ap (λ k. nat_lt k 200) ((between_stays x.run true t q pass.before pass.stay so).taken) ∙ so.early)))
     goes_on behind false fit so pass tells unsaid =

@@ -10,14 +10,14 @@ use Rattle.plain_scheduler.specs.Usual.{IsUsual, RobsAsUsual, counted_by, run_tu
 use Rattle.machine_roads.specs.View.{Output, wakes}
 
 -- so many futures each run has counted
-abbrev pub counts : World → ℕ → ℕ
-counts w r = (run_of w r).counted
+abbrev pub has_counted : World → ℕ → ℕ
+has_counted w r = (run_of w r).counted
 
 -- a run chooses as both executors do, from a starting word on; each counts what it takes, and a search takes its turns
 pub record Chooses (w v : World) (d : Choice) (call : Call Output Waker) (q : Plain Output Waker) : Type 0 where
-  pub usual : IsUsual wakes d (first_of w.urgent_turns) (counts w) call q
+  pub usual : IsUsual wakes d (first_of w.urgent_turns) (has_counted w) call q
   pub start : ℕ
   pub robs : (x : Search Output Waker) → searches wakes d call q ≡ Some x → finds x ≡ true → RobsAsUsual wakes d w.listed start x
-  pub counted : (k : ℕ) → counts v k ≡ counted_by wakes d call q (counts w) k
+  pub counted : (k : ℕ) → has_counted v k ≡ counted_by wakes d call q (has_counted w) k
   pub turns : (x : Search Output Waker) → searches wakes d call q ≡ Some x
       → v.urgent_turns ≡ turned (run_turns d.refusal x) w.urgent_turns

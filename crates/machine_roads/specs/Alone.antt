@@ -120,7 +120,13 @@ abbrev pub RunCanLie : World → TickOrRun → Type 0
 RunCanLie w (tick_or_run.Tick t) = Unit {0}
 RunCanLie w (tick_or_run.Run r) = CanLie w (tick_or_run.Run r)
 
+-- a run that searches is there, and has an own queue
+abbrev pub SearchHas : World → TickOrRun → Type 0
+SearchHas w (tick_or_run.Tick t) = Unit {0}
+SearchHas w (tick_or_run.Run r) = (r < length w.runs) × (r < length w.own)
+
 abbrev pub TickHas : World → TickOp → Type 0
+TickHas w (tick_op.Search s) = SearchHas w s.who
 TickHas w (tick_op.CopyWaker s) = CanCopy w s.waker
 TickHas w (tick_op.FallAsleep s) = SleepsAlone w s.who × RunCanLie w s.who
 TickHas w (tick_op.WakeUp x) = SleepsAlone w x

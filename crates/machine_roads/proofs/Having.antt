@@ -224,7 +224,7 @@ module _ (s : Machine) (p : ℕ) (reached : Reached s) (there : p < length s.par
   searches : (x : Sleeping) (who : TickOrRun) → x.who ≡ who → top (stack s p) ≡ Some (op.Tick (tick_op.Search x)) → SearchHas s.world who
   searches x (tick_or_run.Tick t) same_who is = tt
   searches x (tick_or_run.Run r) same_who is =
-      in_use r (op.Tick (tick_op.Search x)) is (omega (arith, ap (is_it (tick_or_run.Run r)) same_who, same_self r))
+      (in_use r (op.Tick (tick_op.Search x)) is (omega (arith, ap (is_it (tick_or_run.Run r)) same_who, same_self r))).0
 
   walks : (x : RunPoll) → top (stack s p) ≡ Some (op.List (list_op.LockRead x)) → ListHas s.world (list_op.LockRead x)
   walks x is = (
@@ -314,6 +314,8 @@ module _ (s : Machine) (p : ℕ) (reached : Reached s) (there : p < length s.par
   has_unless (op.List (list_op.LockRead x)) open_still is = walks x is
   has_unless (op.Run (run_op.WakeOwn x)) open_still is =
       known_by s.world x.waker (needs s p (op.Run (run_op.WakeOwn x)) there is good)
+  has_unless (op.Steal (steal_op.Length x)) open_still is =
+      (in_use x.poll.run (op.Steal (steal_op.Length x)) is (omega (arith, same_self x.poll.run))).1
   has_unless (op.Steal (steal_op.Take x more)) open_still is = steals x more is
   has_unless o open_still is = tt
 

@@ -89,6 +89,10 @@ pub mod RunsGone
 pub mod Adding
 pub mod Keeping
 pub mod Stealing
+pub mod Starting
+pub mod WalkOrder
+pub mod Robbing
+pub mod RunFinding
 pub mod RunTaking
 pub mod RunSearching
 pub mod TakenBeside

@@ -1,3 +1,10 @@
+pub mod BehindTake
+pub mod Enlisting
+pub mod Still
+pub mod Counted
+pub mod Seeking
+pub mod AloneKeeps
+pub mod Cut
 pub mod ActsBeside
 pub mod AlongBeside
 pub mod BesideHere

@@ -99,8 +99,10 @@ pub mod Stealing
 pub mod Starting
 pub mod WalkOrder
 pub mod Robbing
-pub mod RunFinding
+pub mod KeepingMarks
+pub mod RunCounting
 pub mod RunTaking
+pub mod RunFinding
 pub mod RunSearching
 pub mod TakenBeside
 pub mod RunLies

@@ -35,12 +35,12 @@ use Rattle.plain_scheduler.specs.Moves.{is_common, is_due, is_kept, is_run, keep
 use Rattle.plain_scheduler.specs.Moves as plain
 use Rattle.plain_scheduler.specs.Takes as plain_takes
 use Rattle.plain_scheduler.specs.Searches.{Search}
-use Rattle.plain_scheduler.specs.Usual.{IsKeptByOthers, RobsAsUsual, TakesAsUsual, first_keeper, from_start, is_64th, share, so_many}
+use Rattle.plain_scheduler.specs.Usual.{IsKeptByOthers, RobsAsUsual, TakesAsUsual, first_keeper, from_start, is_64th, one_counted, share, so_many}
 use Rattle.plain_scheduler.specs.Usual as usual
 use Rattle.machine_roads.specs.View.{Output, wakes}
 use Rattle.machine_roads.specs.Road.{Follows, futures_in, run_view}
 use Rattle.machine_roads.specs.Alone.{alone, is_resting}
-use Rattle.machine_roads.specs.Searching.{CanTake, IsLast, RunTakesAlike, goes_on_by, unready}
+use Rattle.machine_roads.specs.Searching.{CountsOne, CanTake, IsLast, RunTakesAlike, goes_on_by, unready}
 use Rattle.machine_roads.proofs.Adding.{with_due}
 use Rattle.machine_roads.proofs.Changing.{logs}
 use Rattle.machine_roads.proofs.Due.{First, find_same, first, nothing, others, without_same}
@@ -52,7 +52,6 @@ use Rattle.machine_roads.proofs.RunTaking.{Begun, finds, takes_so}
 use Rattle.machine_roads.proofs.Runs.{changed, one_more, over_is}
 use Rattle.machine_roads.proofs.RunsGone.{kept_uncommon, runs_apart, takes_own}
 use Rattle.machine_roads.proofs.Standing.{Stands, StandsSo, stops_so}
-use Rattle.machine_roads.proofs.Still.{Still}
 use Rattle.machine_roads.proofs.Stealing.{steals}
 use Rattle.machine_roads.proofs.Stepping.{Way, next}
 use Rattle.machine_roads.proofs.TickPolls.{both_marks, none_in}
@@ -78,19 +77,21 @@ module _ (p : ℕ) (below : List Op) (under : is_resting below ≡ true) (end : 
   search_of q = record { run = r; waker = x.waker; at = q }
 
   -- from a search in this world: it takes as usual
-  pub record Took (start : ℕ) (w : World) (ms : List Mark) (k n : ℕ) (last : Bool) (q : Plain Output Waker) : Type 0 where
+  pub record Took (start turns : ℕ) (w : World) (ms : List Mark) (k n : ℕ) (last : Bool) (q : Plain Output Waker) : Type 0 where
     pub stood : StandsSo taker (goes_on_by x last) below q end (plain_takes.take wakes (pick ms k n) taker q)
     pub early : IsLast r last (plain_takes.take wakes (pick ms k n) taker q)
     pub runs : (plain_takes.take wakes (pick ms k n) taker q).runs ≡ changed one_more r q.runs
     pub usual : TakesAsUsual wakes (pick ms k n) c.first (run_of w r).counted (search_of q)
     pub robs : RobsAsUsual wakes (pick ms k n) w.listed start (search_of q)
+    pub behind : CountsOne r turns w end.world
 
-  abbrev pub Found : ℕ → World → Plain Output Waker → Type 0
-  Found start w q = (ms : List Mark) × (k : ℕ) × (n : ℕ) × (last : Bool) × Took start w ms k n last q
+  abbrev pub Found : ℕ → ℕ → World → Plain Output Waker → Type 0
+  Found start turns w q = (ms : List Mark) × (k : ℕ) × (n : ℕ) × (last : Bool) × Took start turns w ms k n last q
 
-  -- turn, list and what runs have counted are as they were
-  pub found_from : (start : ℕ) (v w : World) (q : Plain Output Waker) → Still w v → Found start v q → Found start w q
-  found_from start v w q still g =
+  -- the list and what runs have counted are as they were
+  pub found_from : (start t u : ℕ) (v w : World) (q : Plain Output Waker) → t ≡ u
+      → ((k : ℕ) → (run_of v k).counted ≡ (run_of w k).counted) → v.listed ≡ w.listed → Found start t v q → Found start u w q
+  found_from start t u v w q turn counted listed g =
       let d = pick g.0 g.1 g.2 in (
         g.0,
         g.1,
@@ -100,22 +101,27 @@ module _ (p : ℕ) (below : List Op) (under : is_resting below ≡ true) (end : 
           stood = g.4.stood;
           early = g.4.early;
           runs = g.4.runs;
-          usual = subst (λ n. TakesAsUsual wakes d c.first n (search_of q)) (still.counted r) g.4.usual;
-          robs = subst (λ order. RobsAsUsual wakes d order start (search_of q)) still.listed g.4.robs;
+          usual = subst (λ n. TakesAsUsual wakes d c.first n (search_of q)) (counted r) g.4.usual;
+          robs = subst (λ order. RobsAsUsual wakes d order start (search_of q)) listed g.4.robs;
+          behind = record {
+            counted = λ k. g.4.behind.counted k ∙ ap (λ n. if k == r then one_counted n else n) (counted k);
+            listed = g.4.behind.listed ∙ listed;
+            turn = g.4.behind.turn ∙ turn;
+          };
         },
       )
 
   -- at which due futures it looks, one class after the other
-  abbrev fourth : ℕ → List Due → Due → Bool
+  abbrev pub fourth : ℕ → List Due → Due → Bool
   fourth k due e = if any (is_kept k) due then is_kept k e else (if any is_due due then is_due e else false)
 
-  abbrev third : ℕ → List Due → Due → Bool
+  abbrev pub third : ℕ → List Due → Due → Bool
   third k due e = if any (is_common (other c.first)) due then is_common (other c.first) e else fourth k due e
 
-  abbrev second : ℕ → List Due → Due → Bool
+  abbrev pub second : ℕ → List Due → Due → Bool
   second k due e = if any (is_common c.first) due then is_common c.first e else third k due e
 
-  abbrev its_test : ℕ → List Due → Due → Bool
+  abbrev pub its_test : ℕ → List Due → Due → Bool
   its_test k due e = if any (is_kept r) due then is_kept r e else second k due e
 
   -- which it keeps beside so many, with every 64th once it stands there
@@ -143,8 +149,9 @@ module _ (p : ℕ) (below : List Op) (under : is_resting below ≡ true) (end : 
       (it : FindsOne start w k n many f rest m test q qr) (ms : List Mark) (last : Bool)
       → Begun p below under end rests c x qr it.fit f last (takes_so p below under end rests c x qr it.fit ms)
       → ms ≡ keeps_with (is_64th (run_of w r).counted) (so_many many m) (up_and_told qr)
-      → Found start w q
-  ends_in start w k n many f rest m test q qr it ms last so kept =
+      → CountsOne r w.urgent_turns w end.world
+      → Found start w.urgent_turns w q
+  ends_in start w k n many f rest m test q qr it ms last so kept counts =
       let d = pick ms k n in
       let take : Option Due → List Due → Plain Output Waker = λ o ds.
       or o (λ e. plain_takes.takes wakes d taker e (with_due ds q)) (plain_takes.nothing wakes d taker q) in
@@ -190,19 +197,20 @@ module _ (p : ℕ) (below : List Op) (under : is_resting below ≡ true) (end : 
             moves_so = it.moves;
           };
           robs = it.whom;
+          behind = counts;
         },
       )
 
   -- one of its own
-  pub takes_its : (start f : ℕ) (rest : List ℕ) (w : World) (q : Plain Output Waker) → Follows w q → fits q → CanTake q r
+  pub takes_its : (start f : ℕ) (rest : List ℕ) (w : World) (q : Plain Output Waker) → r < length w.runs → Follows w q → fits q → CanTake q r
       → own_of w r ≡ f ∷ rest → Way p end (found (put_own w r rest) x f).world ((found (put_own w r rest) x f).next ++ below)
-      → Found start w q
-  takes_its start f rest w q follows fit can is way =
+      → Found start w.urgent_turns w q
+  takes_its start f rest w q at follows fit can is way =
       let t = takes_own r w q f rest follows is in
       let q0 : Plain Output Waker = with_due (without (is_kept r) q.due) q in
       let g =
       finds p below under end rests c x q0 fit f 0 c.first (omega arith) (λ some. absurd (omega (arith, some))) can.going
-      (put_own w r rest) t.1 way in
+      (put_own w r rest) at t.1 way in
       ends_in start w 0 0 0 f rest c.first (is_kept r) q q0
       (record {
         fit = fit;
@@ -216,6 +224,7 @@ module _ (p : ℕ) (below : List Op) (under : is_resting below ≡ true) (end : 
         still = refl;
       })
       g.marks g.last g.begun g.kept
+      (record { counted = g.behind.counted; listed = g.behind.listed; turn = g.behind.turn })
     where
       robs_nobody : (o : Option ℕ) → is_run r o ≡ true
           → on o (λ k p. if r == k then p else repeat 0 (keeps r (is_kept k)) p) (with_due (without (is_kept r) q.due) q)
@@ -231,18 +240,19 @@ module _ (p : ℕ) (below : List Op) (under : is_resting below ≡ true) (end : 
       keeps_none (Some k) m is = refl
 
   -- one without a keeper
-  pub takes_common : (start : ℕ) (m : Mark) (f : ℕ) (rest : List ℕ) (w : World) (q : Plain Output Waker) → Follows w q → fits q → CanTake q r
+  pub takes_common : (start : ℕ) (m : Mark) (f : ℕ) (rest : List ℕ) (w : World) (q : Plain Output Waker) → r < length w.runs → Follows w q → fits q → CanTake q r
       → (queue_of w m).items ≡ f ∷ rest → ((e : Due) → any (is_common m) q.due ≡ true → its_test 0 q.due e ≡ is_common m e)
       → Way p end (put_queue w m (taken (queue_of w m)))
       (op.Steal (steal_op.Length (record { poll = x; from = Common m; then = then.Found f })) ∷ below)
-      → Found start w q
-  takes_common start m f rest w q follows fit can is tests way =
+      → Found start w.urgent_turns w q
+  takes_common start m f rest w q at follows fit can is tests way =
       let t = takes_first m w q f rest follows is in
       let q0 : Plain Output Waker = with_due (without (is_common m) q.due) q in
       let many = share (count_by (is_common m) q0.due) (512 - count_by (is_kept r) q0.due) in
       let s =
       steals p end rests x below (Common m) (common_away r m) (then.Found f) (put_queue w m (taken (queue_of w m))) q0 t.1 way in
-      let g = finds p below under end rests c x q0 fit f many m s.most s.few can.going s.world s.follows s.way in
+      let g = finds p below under end rests c x q0 fit f many m s.most s.few can.going s.world
+      (subst (λ (rs : List Run). r < length rs) (sym s.runs) at) s.follows s.way in
       ends_in start w 0 0 many f rest m (is_common m) q q0
       (record {
         fit = fit;
@@ -258,6 +268,15 @@ module _ (p : ℕ) (below : List Op) (under : is_resting below ≡ true) (end : 
       g.marks g.last g.begun
       (g.kept
       ∙ ap (λ (rs : List Run). keeps_with (is_64th (slice_index_or rs r no_run).counted) (so_many many m) (up_and_told q0)) s.runs)
+      (record {
+        counted = λ k.
+            g.behind.counted k
+            ∙ ap
+            (λ (rs : List Run). if k == r then one_counted (slice_index_or rs k no_run).counted else (slice_index_or rs k no_run).counted)
+            s.runs;
+        listed = g.behind.listed ∙ s.listed;
+        turn = g.behind.turn ∙ s.turn;
+      })
     where
       robs_nobody : (o : Option ℕ) (n : Mark) → (not (is_some o) && same_mark m n) ≡ true
           → on o (λ k p. if r == k then p else repeat 0 (keeps r (is_kept k)) p) (with_due (without (is_common m) q.due) q)
@@ -307,15 +326,15 @@ module _ (p : ℕ) (below : List Op) (under : is_resting below ≡ true) (end : 
 
   -- one that another run keeps
   pub takes_robbed : (start k f : ℕ) (rest : List ℕ) (n : ℕ) (g : ℕ) (more : List ℕ) (w : World) (q : Plain Output Waker)
-      → (k == r) ≡ false → fits q → CanTake q r → futures_in (is_kept r) q.due ≡ []
+      → r < length w.runs → (k == r) ≡ false → fits q → CanTake q r → futures_in (is_kept r) q.due ≡ []
       → ((e : Due) → any (is_kept k) q.due ≡ true → its_test k q.due e ≡ is_kept k e) → futures_in (is_kept k) q.due ≡ f ∷ rest
       → k ≡ first_keeper (from_start start w.listed) q.due
       → suc n ≡ share (count_by (is_kept k) q.due) (512 - count_by (is_kept r) q.due)
       → suc n ≤ length (futures_in (is_kept k) q.due) → HasPlaces r (suc n) q.due
       → Follows w (with_due (repeat (suc n) (kept_due r (is_kept k)) q.due) q) → own_of w r ≡ g ∷ more
       → Way p end (found (put_own w r more) x g).world (op.List list_op.UnlockRead ∷ ((found (put_own w r more) x g).next ++ below))
-      → Found start w q
-  takes_robbed start k f rest n g more w q apart fit can mine tests its whom shares most few follows is way =
+      → Found start w.urgent_turns w q
+  takes_robbed start k f rest n g more w q at apart fit can mine tests its whom shares most few follows is way =
       let there : n ≤ length rest = omega (arith, most, ap length its) in
       let ds : List Due = repeat (suc n) (kept_due r (is_kept k)) q.due in
       let t = takes_own r w (with_due ds q) g more follows is in
@@ -336,7 +355,7 @@ module _ (p : ℕ) (below : List Op) (under : is_resting below ≡ true) (end : 
       (locked l v (with_due (without (is_kept r) ds) q) t.1) (robbed_lined r k apart q.due f rest n its mine there few) in
       let h =
       finds p below under end rests c x qr fit g 0 c.first (omega arith) (λ some. absurd (omega (arith, some))) can.going
-      (record v { lock = l }) follows1 now in
+      (record v { lock = l }) at follows1 now in
       ends_in start w k n 0 f rest c.first (is_kept k) q qr
       (record {
         fit = fit;
@@ -351,7 +370,7 @@ module _ (p : ℕ) (below : List Op) (under : is_resting below ≡ true) (end : 
       })
       h.marks h.last
       (subst (λ f. Begun p below under end rests c x qr fit f h.last (takes_so p below under end rests c x qr fit h.marks)) same h.begun)
-      h.kept
+      h.kept (record { counted = h.behind.counted; listed = h.behind.listed; turn = h.behind.turn })
     where
       fewer : (n m : ℕ) → suc n ≡ m → n ≡ m - 1
       fewer n m is = omega (arith, is)

@@ -362,7 +362,7 @@ deed_counts w o d (deeds.lists h l) none = list_counts h l w none
 counts_next : (p : ℕ) (h : Hint) (o : Op) (w : World) → waits o ≡ false → counts o ≡ 0 → weigh counts (act p h o w).next ≡ 0
 counts_next p h o w goes none = deed_counts w o (act p h o w) (deed-act p h o w) none
 
-none_may_count : (o : Op) → counts o ≡ 0 → may_count o ≡ false
+pub none_may_count : (o : Op) → counts o ≡ 0 → may_count o ≡ false
 none_may_count (Op.Tick (TickOp.Search s)) none = by s.who none
   where
     by : (who : TickOrRun) → who_counts who ≡ 0 → counts_who who ≡ false

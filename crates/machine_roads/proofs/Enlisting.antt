@@ -1,5 +1,5 @@
 -- The list of the runs' own queues stays but where one comes into it or goes from it.
-use Rattle.std.proofs.Common.{◌≡◌, ◌+◌, ◌++◌, ◌%◌, ℕ, length, List, [], ◌∷◌, Bool, true, false, refl, sym, ap, ◌∙◌, arith}
+use Rattle.std.proofs.Common.{◌≡◌, ◌++◌, ◌%◌, ℕ, length, List, [], ◌∷◌, Bool, true, false, refl, sym, ap, ◌∙◌, arith}
 use Rattle.std.specs.Prelude.{Option, Some, None}
 use Rattle.executor_model.specs.declared.call.Call.{Call}
 use Rattle.executor_model.specs.declared.event.Answer.{Answer}
@@ -17,7 +17,7 @@ use Rattle.executor_model.proofs.OwnQueues.RunsDone.{Deed, Leads, Missing, More,
 use Rattle.executor_model.proofs.OwnQueues.RunsDone as deeds
 use Rattle.executor_model.specs.ActsOfRuns as runs
 use Rattle.executor_model.specs.Doing.{act, list_act}
-use Rattle.executor_model.specs.Steps.{begun, future_of, kept, react, waits, with_future}
+use Rattle.executor_model.specs.Steps.{begun, future_of, kept, react, with_future}
 use Rattle.executor_model.specs.Weights.{weigh}
 use Rattle.executor_model.specs.World.{Done, World, done, own_of, put_own}
 use Rattle.machine_roads.specs.Alone.{alone}

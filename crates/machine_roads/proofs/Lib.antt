@@ -1,3 +1,4 @@
+pub mod BehindTake
 pub mod Enlisting
 pub mod Still
 pub mod Counted
@@ -97,7 +98,13 @@ pub mod RunsGone
 pub mod Adding
 pub mod Keeping
 pub mod Stealing
+pub mod Starting
+pub mod WalkOrder
+pub mod Robbing
+pub mod KeepingMarks
+pub mod RunCounting
 pub mod RunTaking
+pub mod RunFinding
 pub mod RunSearching
 pub mod TakenBeside
 pub mod RunLies

@@ -1,5 +1,5 @@
 -- What takes no turn, and leads to nothing that does.
-use Rattle.std.proofs.Common.{◌≡◌, ◌≤◌, ◌+◌, ◌++◌, ℕ, List, [], ◌∷◌, Bool, true, false, cond, refl, sym, ap, ◌∙◌, arith}
+use Rattle.std.proofs.Common.{◌≡◌, ◌≤◌, ℕ, List, [], ◌∷◌, Bool, true, false, refl, sym, ap, ◌∙◌, arith}
 use Rattle.std.specs.Prelude.{Option, Some, None}
 use Rattle.task_moves.specs.declared.moves.owed.Move.{Move}
 use Rattle.executor_parts.specs.Marks.{first_of, turn_after}
@@ -105,7 +105,7 @@ none_left : (fs : List ℕ) (w : World) (r : ℕ) (a : Reply) → weigh seeks (r
 none_left [] w r a = refl
 none_left (f ∷ fs) w r a = refl
 
-seeks_next : (p : ℕ) (h : Hint) (o : Op) (w : World) → waits o ≡ false → seeks o ≡ 0 → weigh seeks (act p h o w).next ≡ 0
+pub seeks_next : (p : ℕ) (h : Hint) (o : Op) (w : World) → waits o ≡ false → seeks o ≡ 0 → weigh seeks (act p h o w).next ≡ 0
 seeks_next p h (Op.Queue QueueOp.TakeTurn) w goes none = absurd cc
 seeks_next p h (Op.Tick (TickOp.Search s)) w goes none = absurd cc
 seeks_next p h (Op.Tick (TickOp.Look s look)) w goes none = absurd cc
@@ -136,7 +136,7 @@ seeks_next p h o w goes none = mild-next seeks mild_seeks p h o w refl
 abbrev Stays : World → World → Type 0
 Stays w v = v.urgent_turns ≡ w.urgent_turns
 
-no_turn : (o : Op) → seeks o ≡ 0 → turns o ≡ false
+pub no_turn : (o : Op) → seeks o ≡ 0 → turns o ≡ false
 no_turn (Op.Queue QueueOp.TakeTurn) none = absurd cc
 no_turn (Op.Tick (TickOp.Search s)) none = absurd cc
 no_turn (Op.Run (RunOp.TakeTurn x)) none = absurd cc
@@ -156,8 +156,11 @@ parts_stay p o none = record {
   tells = λ w e told. refl;
 }
 
+pub turn_kept : (p : ℕ) (h : Hint) (o : Op) (w : World) → turns o ≡ false → Stays w (act p h o w).world
+turn_kept p h o w none = by-act Stays p h o w (parts_stay p o none)
+
 turn_stays : (p : ℕ) (h : Hint) (o : Op) (w : World) → seeks o ≡ 0 → Stays w (act p h o w).world
-turn_stays p h o w none = by-act Stays p h o w (parts_stay p o (no_turn o none))
+turn_stays p h o w none = turn_kept p h o w (no_turn o none)
 
 users_stay : (p : ℕ) (h : Hint) (o : UserOp) (w : World) → Stays w (act p h (Op.User o) w).world
 users_stay p h o w = turn_stays p h (Op.User o) w refl

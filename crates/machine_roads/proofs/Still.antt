@@ -1,5 +1,5 @@
 -- What leaves the turn, the list of queues and what runs have counted as they are.
-use Rattle.std.proofs.Common.{◌≡◌, ◌≤◌, ◌+◌, ◌++◌, ℕ, List, [], ◌∷◌, true, refl, ap, ◌∙◌, arith, subst}
+use Rattle.std.proofs.Common.{◌≡◌, ◌≤◌, ◌+◌, ◌++◌, ℕ, List, [], true, refl, ◌∙◌, arith, subst}
 use Rattle.std.specs.Prelude.{Option}
 use Rattle.executor_model.specs.declared.call.Call.{Call}
 use Rattle.executor_model.specs.declared.op.Op.{Op}
@@ -45,7 +45,7 @@ who_few : (who : TickOrRun) → who_counts who ≤ 1
 who_few (tick_or_run.Tick t) = omega arith
 who_few (tick_or_run.Run r) = omega arith
 
-counts_seek : (o : Op) → counts o ≤ seeks o
+pub counts_seek : (o : Op) → counts o ≤ seeks o
 counts_seek (op.Tick (tick_op.Search s)) = who_few s.who
 counts_seek (op.Tick (tick_op.Look s look)) = who_few s.who
 counts_seek (op.Tick (tick_op.CopyWaker s)) = who_few s.who

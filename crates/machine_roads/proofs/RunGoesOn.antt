@@ -6,7 +6,7 @@ use Rattle.task_moves.specs.AbstractTask as abstract
 use Rattle.executor_model.specs.declared.op.Op.{Op}
 use Rattle.executor_model.specs.declared.op.RunPoll.{RunPoll}
 use Rattle.executor_model.specs.declared.op.Waker.{Waker}
-use Rattle.executor_model.specs.World.{Done, World}
+use Rattle.executor_model.specs.World.{Done, World, done}
 use Rattle.plain_scheduler.specs.State.{Choice, Closed, Drop, Granted, Lose, Plain, Poll, Run, Running, Taker}
 use Rattle.plain_scheduler.specs.Lists.{any, or}
 use Rattle.plain_scheduler.specs.Moves.{is_due, task}
@@ -20,14 +20,15 @@ use Rattle.machine_roads.specs.Alike.{upon}
 use Rattle.machine_roads.specs.Dropped.{Drops, dropped, lost}
 use Rattle.machine_roads.specs.Forgotten.{forgotten}
 use Rattle.machine_roads.specs.GoingOn.{GoesOnSo, RunDropsAlike, RunForgetsAlike, RunLosesAlike, RunPendsAlike, on}
-use Rattle.machine_roads.specs.Searching.{CanTake, IsLast, goes_on_by}
+use Rattle.machine_roads.specs.Searching.{CanTake, IsLast, goes_on_by, start_of}
 use Rattle.machine_roads.specs.Stopped.{Stopped, Stops, answered, pended, taken_by}
 use Rattle.machine_roads.proofs.Forgetting.{forgotten_by}
 use Rattle.machine_roads.proofs.Passing.{GoesBy, Passes, passed, stood, telling}
 use Rattle.machine_roads.proofs.Pending.{pends_by}
 use Rattle.machine_roads.proofs.RunEnding.{dropped_by, lost_by}
 use Rattle.machine_roads.proofs.RunLies.{lies_so}
-use Rattle.machine_roads.proofs.RunSearching.{pick, searches}
+use Rattle.machine_roads.proofs.RunFinding.{pick}
+use Rattle.machine_roads.proofs.RunSearching.{searches}
 use Rattle.machine_roads.proofs.RunsStay.{RunsStay}
 use Rattle.machine_roads.proofs.Standing.{Stands, StandsSo, StaysSo, stopped_so, stops_so}
 
@@ -91,7 +92,8 @@ module _ (p : ℕ) (x : RunPoll) (n : ℕ) (below : List Op) (under : is_resting
       by true some =
           let c = its pass.so.world in
           let g =
-          searches p below under end rests c x pass.so.world b pass.so.follows (least (length b.lying) n fit) can_b some refl pass.so.way in
+          searches p below under end rests c x (start_of p pass.so.way.hints (done pass.so.world (goes_on_by x false ∷ below)))
+          pass.so.world b pass.so.follows (least (length b.lying) n fit) can_b some refl (record { way = pass.so.way; starts = refl }) in
           let d = pick p below under end rests c x g.0 g.1 g.2 in
           let last = g.3 in
           let new_is = takes d in (

@@ -7,7 +7,7 @@ use Rattle.executor_parts.specs.Marks.{first_of, turn_after}
 use Rattle.executor_model.specs.declared.op.Op.{Op}
 use Rattle.executor_model.specs.declared.op.RunPoll.{RunPoll}
 use Rattle.executor_model.specs.declared.op.Waker.{Waker}
-use Rattle.executor_model.specs.World.{Done, World}
+use Rattle.executor_model.specs.World.{Done, World, done}
 use Rattle.plain_scheduler.specs.State.{ARun, Choice, Granted, Later, Plain, Refusal, Run, Running, Taker}
 use Rattle.plain_scheduler.specs.Lists.{any, or}
 use Rattle.plain_scheduler.specs.Moves.{is_due, is_kept}
@@ -19,12 +19,13 @@ use Rattle.machine_roads.specs.Road.{Follows, futures_in}
 use Rattle.machine_roads.specs.Alone.{is_resting}
 use Rattle.machine_roads.specs.Choosing.{has_counted}
 use Rattle.machine_roads.specs.Refused.{OneMoreLies}
-use Rattle.machine_roads.specs.Searching.{goes_on_by}
+use Rattle.machine_roads.specs.Searching.{goes_on_by, start_of, turn_behind}
 use Rattle.machine_roads.specs.Stopped.{Finally, of_last, taken_by}
 use Rattle.machine_roads.proofs.Lists.{clash, same_of}
 use Rattle.machine_roads.proofs.Passing.{Passes, passes_end, telling}
 use Rattle.machine_roads.proofs.RunLies.{lies_so, none_due}
-use Rattle.machine_roads.proofs.RunSearching.{Found, pick, searches}
+use Rattle.machine_roads.proofs.RunFinding.{Found, pick}
+use Rattle.machine_roads.proofs.RunSearching.{searches}
 use Rattle.machine_roads.proofs.RunsStay.{RunsStay}
 use Rattle.machine_roads.proofs.Stepping.{Way}
 use Rattle.machine_roads.proofs.Standing.{Stands, StandsSo}
@@ -97,10 +98,10 @@ module _ (p : ℕ) (x : RunPoll) (below : List Op) (q : Plain Output Waker) (n t
 
   module _ (under : is_resting below ≡ true) (rests : is_resting end.next ≡ true) (c : Choice) where
     -- one more is taken
-    takes_more : (w : World) (b : Plain Output Waker) → Between x.run false t b → b.inside ≡ q.inside → (first : Choice) → first.tells ≡ n
-        → first.first ≡ first_of w.urgent_turns → any is_due b.due ≡ true → Found p below under end rests first x w b
+    takes_more : (start : ℕ) (w : World) (b : Plain Output Waker) → Between x.run false t b → b.inside ≡ q.inside → (first : Choice) → first.tells ≡ n
+        → first.first ≡ first_of w.urgent_turns → any is_due b.due ≡ true → Found p below under end rests first x start (turn_behind x.run b.due w) w b
         → ((d : Choice) → new (telling n d) ≡ plain_takes.next wakes (telling n d) taker b) → Tells w b → After
-    takes_more w b so inside first told turn some g is tells =
+    takes_more start w b so inside first told turn some g is tells =
         let d = pick p below under end rests first x g.0 g.1 g.2 in
         let z = plain_takes.take wakes d taker b in
         let same : new (telling n d) ≡ z =
@@ -133,7 +134,7 @@ module _ (p : ℕ) (x : RunPoll) (below : List Op) (q : Plain Output Waker) (n t
         (record {
           few = ap (λ k. nat_lt k 200) so.taken ∙ so.early;
           usual = λ due. subst (λ m. TakesAsUsual wakes d m (has_counted w x.run) (search_at x.run x.waker b)) turn it.usual;
-          start = it.start;
+          start = start;
           robs = λ due. it.robs;
           counted = λ k. it.behind.counted k ∙ one_more k (k == x.run) (any is_due b.due) some;
           turns = it.behind.turn ∙ by_turn d.refusal (any (is_kept x.run) b.due) (any is_due b.due) some;
@@ -196,9 +197,10 @@ module _ (p : ℕ) (x : RunPoll) (below : List Op) (q : Plain Output Waker) (n t
             }))
         by true some =
             let first : Choice = record (telling n c) { first = first_of w.urgent_turns; refusal = Granted } in
-            takes_more w b now inside first refl refl some
-            (searches p below under end rests first x w b follows (omega (arith, fit))
-            (record { going = few_of b.runs x.run t now.taken now.early; left = now.left }) some refl way)
+            let start = start_of p way.hints (done w (goes_on_by x false ∷ below)) in
+            takes_more start w b now inside first refl refl some
+            (searches p below under end rests first x start w b follows (omega (arith, fit))
+            (record { going = few_of b.runs x.run t now.taken now.early; left = now.left }) some refl (record { way = way; starts = refl }))
             is tells
 
     -- behind what it took; with its 200th it searches no more

@@ -25,7 +25,9 @@ use Rattle.machine_roads.proofs.Passing.{GoesBy, Passes, passed, stood, telling}
 use Rattle.machine_roads.proofs.Pending.{pends_by}
 use Rattle.machine_roads.proofs.RunEnding.{dropped_by, lost_by}
 use Rattle.machine_roads.proofs.RunLies.{lies_so}
-use Rattle.machine_roads.proofs.RunSearching.{pick, searches}
+use Rattle.machine_roads.proofs.RunFinding.{pick}
+use Rattle.machine_roads.proofs.RunSearching.{searches}
+use Rattle.machine_roads.proofs.Starting.{from_way, start_in}
 use Rattle.machine_roads.proofs.RunsStay.{RunsStay}
 use Rattle.machine_roads.proofs.Standing.{Stands, StandsSo, StaysSo, stopped_so, stops_so}
 
@@ -88,8 +90,10 @@ module _ (p : ℕ) (x : RunPoll) (n : ℕ) (below : List Op) (under : is_resting
       by : (some : Bool) → any is_due b.due ≡ some → GoesOnSo x n below q end e z
       by true some =
           let c = its pass.so.world in
+          let os = goes_on_by x false ∷ below in
           let g =
-          searches p below under end rests c x pass.so.world b pass.so.follows (least (length b.lying) n fit) can_b some refl pass.so.way in
+          searches p below under end rests c x (start_in p end pass.so.world os pass.so.way) pass.so.world b pass.so.follows
+          (least (length b.lying) n fit) can_b some refl (from_way p end pass.so.world os pass.so.way) in
           let d = pick p below under end rests c x g.0 g.1 g.2 in
           let last = g.3 in
           let new_is = takes d in (

@@ -15,13 +15,15 @@ use Rattle.plain_scheduler.specs.Takes as plain_takes
 use Rattle.machine_roads.specs.View.{Output, wakes}
 use Rattle.machine_roads.specs.Road.{Follows, futures_in}
 use Rattle.machine_roads.specs.Alone.{is_resting}
-use Rattle.machine_roads.specs.Searching.{goes_on_by}
+use Rattle.machine_roads.specs.Searching.{goes_on_by, turn_behind}
 use Rattle.machine_roads.specs.Stopped.{of_last, taken_by}
 use Rattle.machine_roads.proofs.Lists.{clash, same_of}
 use Rattle.machine_roads.proofs.Passing.{Passes, passes_end, telling}
 use Rattle.machine_roads.proofs.RunLies.{lies}
-use Rattle.machine_roads.proofs.RunSearching.{Found, pick, searches}
+use Rattle.machine_roads.proofs.RunFinding.{Found, pick}
+use Rattle.machine_roads.proofs.RunSearching.{searches}
 use Rattle.machine_roads.proofs.RunsStay.{RunsStay}
+use Rattle.machine_roads.proofs.Starting.{from_way, start_in}
 use Rattle.machine_roads.proofs.Stepping.{Way}
 use Rattle.machine_roads.proofs.Standing.{Stands, StandsSo}
 use Rattle.machine_roads.proofs.TakenBeside.{counted_more, counted_over, takes_none}
@@ -69,10 +71,10 @@ module _ (p : ℕ) (x : RunPoll) (below : List Op) (q : Plain Output Waker) (n t
 
   module _ (under : is_resting below ≡ true) (rests : is_resting end.next ≡ true) (c : Choice) where
     -- one more is taken
-    takes_more : (b : Plain Output Waker) → Between x.run false t b → b.inside ≡ q.inside → (first : Choice) → first.tells ≡ n
-        → Found p below under end rests first x b
+    takes_more : (start turns : ℕ) (w : World) (b : Plain Output Waker) → Between x.run false t b → b.inside ≡ q.inside
+        → (first : Choice) → first.tells ≡ n → Found p below under end rests first x start turns w b
         → ((d : Choice) → new (telling n d) ≡ plain_takes.next wakes (telling n d) taker b) → After
-    takes_more b so inside first told g is =
+    takes_more start turns w b so inside first told g is =
         let d = pick p below under end rests first x g.0 g.1 g.2 in
         let z = plain_takes.take wakes d taker b in
         let same : new (telling n d) ≡ z =
@@ -120,9 +122,11 @@ module _ (p : ℕ) (x : RunPoll) (below : List Op) (q : Plain Output Waker) (n t
             ends e.0 e.1 e.2 (e.3 ∙ inside)
         by true some =
             let first : Choice = record (telling n c) { first = first_of w.urgent_turns; refusal = Granted } in
-            takes_more b now inside first refl
-            (searches p below under end rests first x w b follows (omega (arith, fit))
-            (record { going = few_of b.runs x.run t now.taken now.early; left = now.left }) some refl way)
+            let os = goes_on_by x false ∷ below in
+            let start = start_in p end w os way in
+            takes_more start (turn_behind x.run b.due w) w b now inside first refl
+            (searches p below under end rests first x start w b follows (omega (arith, fit))
+            (record { going = few_of b.runs x.run t now.taken now.early; left = now.left }) some refl (from_way p end w os way))
             is
 
     pub goes_on : (last : Bool) → length q.lying < n → Between x.run last t q → Passes p taker (goes_on_by x last) below q n end new

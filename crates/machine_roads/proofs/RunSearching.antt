@@ -286,6 +286,7 @@ run_takes p here below w q under follows x n some can many hints has rests =
       g.3,
       refl,
       refl,
+      record { usual = g.4.usual; robs = g.4.robs; behind = g.4.behind },
       stops_so (ByRun x.run x.waker) (goes_on_by x g.3) below q end (plain_takes.take wakes d (ByRun x.run x.waker) q) g.4.stood,
       g.4.early,
     )

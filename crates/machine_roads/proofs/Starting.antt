@@ -18,6 +18,12 @@ pub record From (start p : ℕ) (end : Done) (w : World) (os : List Op) : Type 0
   pub way : Way p end w os
   pub starts : start_of p way.hints (done w os) ≡ start
 
+abbrev pub start_in : (p : ℕ) (end : Done) (w : World) (os : List Op) → Way p end w os → ℕ
+start_in p end w os way = start_of p way.hints (done w os)
+
+pub from_way : (p : ℕ) (end : Done) (w : World) (os : List Op) (way : Way p end w os) → From (start_in p end w os way) p end w os
+from_way p end w os way = record { way = way; starts = refl }
+
 -- by one step from here
 pub record StepFrom (start p : ℕ) (end : Done) (o : Op) (w : World) (os : List Op) : Type 0 where
   pub hint : Hint

@@ -20,7 +20,7 @@ use Rattle.plain_scheduler.specs.State.{Choice, Due, Plain, PollOwn, Refusal, Ru
 use Rattle.plain_scheduler.specs.Lists.{any, or}
 use Rattle.plain_scheduler.specs.Moves.{is_due, is_kept}
 use Rattle.plain_scheduler.specs.Calls.{does, Pends}
-use Rattle.plain_scheduler.specs.Usual.{one_counted}
+use Rattle.plain_scheduler.specs.Usual.{RobsAsUsual, TakesAsUsual, one_counted}
 use Rattle.machine_roads.specs.View.{Output, wakes}
 use Rattle.machine_roads.specs.Road.{Follows, futures_in}
 use Rattle.machine_roads.specs.Alone.{alone, is_resting, one, HasAll}
@@ -63,13 +63,19 @@ turn_behind r due w = if any (is_kept r) due then w.urgent_turns else turn_after
 abbrev pub unready : ℕ → RunPoll → List Op → World → Done
 unready p x below w = upon below (react p (op.User (user_op.PollOwn x)) (end.Polled answer.Pending) w)
 
+-- so it chooses as it takes one, in the way that the hints lead from here
+pub record TakesSo (p : ℕ) (hints : List Hint) (x : RunPoll) (from : Done) (w : World) (q : Plain Output Waker) (c : Choice) : Type 0 where
+  pub usual : TakesAsUsual wakes c (first_of w.urgent_turns) (run_of w x.run).counted (record { run = x.run; waker = x.waker; at = q })
+  pub robs : RobsAsUsual wakes c w.listed (start_of p hints from) (record { run = x.run; waker = x.waker; at = q })
+  pub behind : CountsOne x.run (turn_behind x.run q.due w) w (alone p hints from).world
+
 -- where some future is due, the run comes to the poll or the drop of the one that it takes: the plain scheduler looks first at the mark
--- that the turn names and tells who lay down last, and it keeps, robs and moves as the machine does
+-- that the turn names and tells who lay down last, and it keeps, robs and moves as usual
 abbrev pub RunTakesAlike : ℕ → Option Waker → List Op → World → Plain Output Waker → Type 0
 RunTakesAlike p here below w q =
     (x : RunPoll) (n : ℕ) → any is_due q.due ≡ true → CanTake q x.run → length q.lying ≤ n → (hints : List Hint)
     → HasAll p hints (unready p x below w) → is_resting (alone p hints (unready p x below w)).next ≡ true
-    → (c : Choice) × (last : Bool) × (c.first ≡ first_of w.urgent_turns) × (c.tells ≡ n)
+    → (c : Choice) × (last : Bool) × (c.first ≡ first_of w.urgent_turns) × (c.tells ≡ n) × TakesSo p hints x (unready p x below w) w q c
     × Stops (Run x.run x.waker) (goes_on_by x last) below q (alone p hints (unready p x below w))
     (does wakes c Pends (record q { inside = PollOwn x.run x.waker ∷ q.inside }))
     × IsLast x.run last (does wakes c Pends (record q { inside = PollOwn x.run x.waker ∷ q.inside }))

@@ -196,6 +196,9 @@ module _ (s : Machine) (reached : Reached s) (p : ℕ) (q : Plain Output Waker) 
       z : Plain Output Waker
       z = does wakes (choice r) x q
 
+      e : Done
+      e = to c hints
+
       by : Comes_to final below q.inside e.next z.inside → Counted e.next z.runs
       by (at_end at codes) = subst (λ os. Counted os z.runs) (sym at) (stays z runs)
       by (in_code code) = like (final ∷ below) e.next z.runs code (like below (final ∷ below) z.runs same (stays z runs))

@@ -1,7 +1,6 @@
 -- How many turns of the executor's two queues a call takes: so many the machine, and so many the executor of one owner.
 use Rattle.std.specs.Prelude.{ℕ, zero, suc, ◌+◌, ◌^◌, ◌%◌, if◌then◌else◌, Option}
 use Rattle.executor_parts.specs.declared.mark.Mark.TheVariants.{Plain as PlainMark, Urgent}
-use Rattle.executor_parts.specs.Marks.{turn_after}
 use Rattle.plain_scheduler.specs.State.{ATick, Choice, Plain, Refusal}
 use Rattle.plain_scheduler.specs.Lists.{any, or}
 use Rattle.plain_scheduler.specs.Moves.{is_common}
@@ -21,11 +20,7 @@ turns_of wakes c TryTick p = 1
 turns_of wakes c (PollTick t w) p = tick_turns c.refusal t p
 turns_of wakes c call p = or (searches wakes c call p) (run_turns c.refusal) 0
 
--- what the machine's turn is so many later, and that of the executor of one owner
-abbrev pub turned : ℕ → ℕ → ℕ
-turned zero n = n
-turned (suc k) n = turned k (turn_after n)
-
+-- what the turn of the executor of one owner is so many later
 abbrev pub turned_in : ℕ → ℕ → ℕ
 turned_in zero n = n
 turned_in (suc k) n = turned_in k ((n + 1) % 2 ^ 64)

@@ -22,7 +22,7 @@ use Rattle.machine_roads.proofs.Lists.{clash}
 use Rattle.machine_roads.proofs.RunLies.{none_due}
 use Rattle.two_roads.specs.Renaming.{FirstAlike, IsNoneCommon, TakesSo}
 use Rattle.two_roads.specs.Renaming.{answer_as, end_as, event_as, lying_as, taker_as}
-use Rattle.two_roads.proofs.Looking.{common_alone, common_none, found_passes, looks_alike, passed_first, passed_later}
+use Rattle.two_roads.proofs.Looking.{looked, looks_alike}
 use Rattle.two_roads.proofs.Words.{find_map, map_append, without_map}
 use Rattle.two_roads.proofs.Tasks.{begins_so, finishes_so, left_as, ready_so}
 use Rattle.two_roads.proofs.Moving.{Alike, Few, Goes, Setting, andthen, called_alike, changed_alike, copied_alike, each_alike}
@@ -107,10 +107,10 @@ module _ {T U A B : Type 0} (k : Setting T U A B) where
       (enters_alike k (Poll f by))))
 
   -- so many more it moves only where it robs another
-  abbrev MovesAlike : ℕ → Option ℕ → Type 0
+  abbrev pub MovesAlike : ℕ → Option ℕ → Type 0
   MovesAlike r keeper = (one : ℕ) → keeper ≡ Some one → (r == one) ≡ false → c.moves ≡ d.moves
 
-  robbed_alike : (r : ℕ) (keeper : Option ℕ) → MovesAlike r keeper
+  pub robbed_alike : (r : ℕ) (keeper : Option ℕ) → MovesAlike r keeper
       → Goes k (takes.robbed k.wakes c r keeper) (takes.robbed k.wakes_as d r keeper)
   robbed_alike r None run p few = stays k p few
   robbed_alike r (Some one) run p few = by (r == one) refl
@@ -287,72 +287,10 @@ module _ {T U A B : Type 0} (k : Setting T U A B) where
 
   run_taken : (r : ℕ) (w : A) (p : Plain T A) → TakesSo c d r p.due → Few k p
       → Same (takes.take k.wakes c (Run r w) p) (takes.take k.wakes_as d (Run r (k.waker w)) (now k p))
-  run_taken r w p so few = own (any (is_kept r) p.due) refl
-    where
-      goal : Type 0
-      goal = Same (takes.take k.wakes c (Run r w) p) (takes.take k.wakes_as d (Run r (k.waker w)) (now k p))
-
-      tail : Choice → List (Due → Bool)
-      tail e = is_kept e.robs ∷ is_due ∷ []
-
-      commons : Choice → List (Due → Bool)
-      commons e = is_common e.first ∷ is_common (other e.first) ∷ tail e
-
-      test : Due → Bool
-      test = chosen (looks c (Run r w)) p.due
-
-      its_own : test ≡ is_kept r → (due : Due) → find test p.due ≡ Some due → KeepsAlike (Run r w) due
-      its_own is due found = (
-        so.keeps,
-        λ one keeper apart. absurd (clash apart
-            (ap (λ o. is_run r o) (sym keeper) ∙ (ap (λ (f : Due → Bool). f due) (sym is) ∙ found_passes test p.due due found))),
-      )
-
-      of_none : (first : Mark) → test ≡ chosen (is_common first ∷ is_common (other first) ∷ []) p.due → (due : Due)
-          → find test p.due ≡ Some due → KeepsAlike (Run r w) due
-      of_none first is due found = (
-        so.keeps,
-        λ one keeper apart. absurd
-            (by (any (is_common first) p.due) (any (is_common (other first)) p.due) one keeper
-            (ap (λ (f : Due → Bool). f due) (sym is) ∙ found_passes test p.due due found)),
-      )
-        where
-          common : (m : Mark) (one : ℕ) → due.keeper ≡ Some one → is_common m due ≡ true → ⊥
-          common m one keeper passes = clash (ap (λ (o : Option ℕ). not (is_some o) && same_mark m due.mark) keeper) passes
-
-          by : (a b : Bool) (one : ℕ) → due.keeper ≡ Some one
-              → cond a (is_common first due) (cond b (is_common (other first) due) false) ≡ true → ⊥
-          by true b one keeper passes = common first one keeper passes
-          by false true one keeper passes = common (other first) one keeper passes
-          by false false one keeper passes = cc
-
-      some_common : any (is_kept r) p.due ≡ false → ¬ IsNoneCommon p.due → goal
-      some_common mine some =
-          let is = passed_later (is_kept r) (commons c) p.due mine ∙ common_alone c.first (tail c) p.due some in
-          take_so (Run r w) p
-          (is
-          ∙ (looks_alike c.first d.first p.due (so.first mine)
-          ∙ sym (passed_later (is_kept r) (commons d) p.due mine ∙ common_alone d.first (tail d) p.due some)))
-          (of_none c.first is) few
-
-      none_kept : any (is_kept r) p.due ≡ false → (a : Bool) → any (is_common PlainMark) p.due ≡ a → (b : Bool)
-          → any (is_common Urgent) p.due ≡ b → goal
-      none_kept mine false plain false urgent =
-          let none : IsNoneCommon p.due = record { plain = plain; urgent = urgent } in
-          take_so (Run r w) p
-          (passed_later (is_kept r) (commons c) p.due mine
-          ∙ (common_none c.first (tail c) p.due none
-          ∙ (ap (λ n. chosen (is_kept n ∷ is_due ∷ []) p.due) (so.robs mine none)
-          ∙ sym (passed_later (is_kept r) (commons d) p.due mine ∙ common_none d.first (tail d) p.due none))))
-          (λ due found. (so.keeps, λ one keeper apart. so.moves mine none)) few
-      none_kept mine true plain b urgent = some_common mine (λ none. clash none.plain plain)
-      none_kept mine false plain true urgent = some_common mine (λ none. clash none.urgent urgent)
-
-      own : (b : Bool) → any (is_kept r) p.due ≡ b → goal
-      own true mine =
-          let is = passed_first (is_kept r) (commons c) p.due mine in
-          take_so (Run r w) p (is ∙ sym (passed_first (is_kept r) (commons d) p.due mine)) (its_own is) few
-      own false mine = none_kept mine (any (is_common PlainMark) p.due) refl (any (is_common Urgent) p.due) refl
+  run_taken r w p so few =
+      let both = looked c d r p.due so.first so.robs in
+      take_so (Run r w) p both.0
+      (λ due found. (so.keeps, λ one keeper apart. let last = both.1 due found one keeper apart in so.moves last.0 last.1)) few
 
   pub take_first : (by : Taker A) → is_try_or_tick by ≡ true → (p : Plain T A) → FirstAlike c d p.due → Few k p
       → Same (takes.take k.wakes c by p) (takes.take k.wakes_as d (taker by) (now k p))

@@ -134,7 +134,7 @@ module _ (s : Machine) (reached : Reached s) (p : ℕ) (q : Plain Output Waker) 
   Leads c = LeadsSo p (upon below (begins p here c s.world)) (Comes c)
 
   acts : (c : Call) (x : plain_calls.Call Output Waker) (r : Refusal) → IsCallIn here s.world c x
-      → IsLaterAnew r x q (does wakes (choice r) x q) → (hints : List Hint)
+      → IsLaterAnew (choice r) x q (does wakes (choice r) x q) → (hints : List Hint)
       → ActsBy s p (Begin p c) q (does wakes (choice r) x q) (alone p hints (upon below (begins p here c s.world))).world
   acts c x r is anew hints = record {
     choice = choice r;
@@ -152,7 +152,7 @@ module _ (s : Machine) (reached : Reached s) (p : ℕ) (q : Plain Output Waker) 
 
   -- a call that comes to no user code
   quick : (c : Call) (x : plain_calls.Call Output Waker) (r : Refusal) → IsCallIn here s.world c x
-      → IsLaterAnew r x q (does wakes (choice r) x q) → (does wakes (choice r) x q).inside ≡ q.inside → Counted below
+      → IsLaterAnew (choice r) x q (does wakes (choice r) x q) → (does wakes (choice r) x q).inside ≡ q.inside → Counted below
       (does wakes (choice r) x q).runs → (hints : List Hint) → (to c hints).next ≡ below
       → Follows (to c hints).world (does wakes (choice r) x q) → Comes c (to c hints)
   quick c x r is anew inside count hints at leaves =
@@ -174,12 +174,13 @@ module _ (s : Machine) (reached : Reached s) (p : ℕ) (q : Plain Output Waker) 
       → LeavesAlike p below (begins p here c s.world) (does wakes (choice Granted) x q) → Leads c
   plainly c x is inside runs leaves hints all rests =
       let e = leaves hints tt all rests in
-      quick c x Granted is (granted_anew q (does wakes (choice Granted) x q) x) inside (stays (does wakes (choice Granted) x q) runs)
+      quick c x Granted is (granted_anew q (does wakes (choice Granted) x q) (choice Granted) x refl) inside
+      (stays (does wakes (choice Granted) x q) runs)
       hints e.0 e.1
 
   -- one that takes a future
   take : (c : Call) (x : plain_calls.Call Output Waker) (r : Refusal) → IsCallIn here s.world c x
-      → IsLaterAnew r x q (does wakes (choice r) x q) → (taker : Taker Waker) (final : Op)
+      → IsLaterAnew (choice r) x q (does wakes (choice r) x q) → (taker : Taker Waker) (final : Op)
       → GoesOnBy taker final → Alike below (final ∷ below) → (hints : List Hint) → (does wakes (choice r) x q).runs ≡ q.runs
       → Stops taker final below q (to c hints) (does wakes (choice r) x q) → Comes c (to c hints)
   take c x r is anew taker final it same hints runs stops =

@@ -1,5 +1,5 @@
 -- The ends of codes in which a party stands in calls one inside another, by kinds of code: where its call rests next, both stand alike.
-use Rattle.std.proofs.Common.{◌≡◌, ℕ, suc, ◌<◌, ◌≤◌, ◌++◌, Bool, true, false, List, [], ◌∷◌, length, Option, Some, None}
+use Rattle.std.proofs.Common.{◌≡◌, ℕ, suc, ◌<◌, ◌≤◌, ◌++◌, Bool, true, false, List, [], ◌∷◌, length, Option, Some, None, is_some}
 use Rattle.std.proofs.Common.{◌==◌, ◌||◌, ◌&&◌, not, nat_lt, if◌then◌else◌, refl, sym, ap, subst, ◌∙◌, slice_get, arith}
 use Rattle.std.specs.Prelude.{reverse}
 use Rattle.task_moves.specs.declared.moves.owed.Move.{Move}
@@ -47,7 +47,7 @@ use Rattle.machine_roads.specs.Alone.{HasAll, alone, is_resting}
 use Rattle.machine_roads.specs.Choosing.{Chooses}
 use Rattle.machine_roads.specs.Dropped.{Drops, IsEnding, rest_of, without_run}
 use Rattle.machine_roads.specs.Forgotten.{IsForgotten, IsLastPoll, StopsForgetting, unawaited, without_awaiter}
-use Rattle.machine_roads.specs.Refused.{IsLaterAnew, OneMoreLies, is_in_own, is_in_vain}
+use Rattle.machine_roads.specs.Refused.{IsLaterAnew}
 use Rattle.machine_roads.specs.Searching.{goes_on_by}
 use Rattle.machine_roads.specs.Stopped.{Finally, IsInPoll, given, of_last, of_tick, of_try, pended}
 use Rattle.machine_roads.specs.Within.{ActsBy, IsMade, Nested, alike, ends, gives, pends}
@@ -57,14 +57,14 @@ use Rattle.machine_roads.proofs.ActLands.{Facts, FactsOf, Lands, Tells, after_la
 use Rattle.machine_roads.proofs.ActLands.{stays_lands}
 use Rattle.machine_roads.proofs.AloneKeeps.{due, due_resting}
 use Rattle.machine_roads.proofs.Calling.{idles}
-use Rattle.machine_roads.proofs.Chosen.{found_so, none_so, searches_so}
+use Rattle.machine_roads.proofs.Chosen.{found_so, later_so, none_so, searches_so}
 use Rattle.machine_roads.proofs.Counted.{CountsSo, alone_counts, counts}
 use Rattle.machine_roads.proofs.Counting.{Alike, Counted, StandsSo, Taken, lasts, leaves, like, none_last, none_left, over_in, some_op}
 use Rattle.machine_roads.proofs.Counting.{taken_in}
 use Rattle.machine_roads.proofs.GoingStill.{behind_pended, dropped_still, forgets_still, forgotten_still, lost_still, pended_still}
 use Rattle.machine_roads.proofs.Having.{same_self}
 use Rattle.machine_roads.proofs.Inmost.{IsDropOf, is_going, is_taken, rests_in}
-use Rattle.machine_roads.proofs.LaterAnew.{ends_anew}
+use Rattle.machine_roads.proofs.LaterAnew.{LiesThere, ends_anew, granted_anew}
 use Rattle.machine_roads.proofs.Lists.{clash, same_of}
 use Rattle.machine_roads.proofs.LoneRuns.{passed}
 use Rattle.machine_roads.proofs.OwnGoes.{own_went}
@@ -76,7 +76,7 @@ use Rattle.machine_roads.proofs.RunApart.{drop_ends, gives_ends, gone_spares, go
 use Rattle.machine_roads.proofs.RunEnding.{behind_dropped, behind_lost}
 use Rattle.machine_roads.proofs.RunHere.{Above, final_none, going_here, left_here, none_empty, off_left, used_once}
 use Rattle.machine_roads.proofs.Runs.{changed, ended_run, runs_is}
-use Rattle.machine_roads.proofs.RunsOn.{goes_from}
+use Rattle.machine_roads.proofs.RunsOn.{Searched, goes_from, search_at}
 use Rattle.machine_roads.proofs.Standing.{IsGoing, IsTaken, StaysSo}
 use Rattle.machine_roads.proofs.Stepping.{Way}
 use Rattle.machine_roads.proofs.Still.{Still, still_here}
@@ -114,7 +114,7 @@ module _ (s : Machine) (reached : Reached s) (p : ℕ) (there : p < length s.par
       (sym (ap (λ t. answer_refusal t u) (top_of (stack s p) o os is).0) ∙ (sym (refusal-there s (Answer p u) there) ∙ may))
 
   came_by : (u : UserEnd) (x : plain_calls.Call Output Waker) → IsMade s p (Answer p u) x → (e : Done) (d : Choice)
-      → d.tells ≡ c1.tells → IsLaterAnew d.refusal x q (does wakes d x q) → Chooses s.world e.world d x q
+      → d.tells ≡ c1.tells → IsLaterAnew d x q (does wakes d x q) → Chooses s.world e.world d x q
       → StandsSo e (does wakes d x q) → Comes u e
   came_by u x is e d tells anew chooses so = (
     does wakes d x q,
@@ -148,24 +148,50 @@ module _ (s : Machine) (reached : Reached s) (p : ℕ) (there : p < length s.par
         → Follows w q → Follows w r0
     follows0 code at quiet w follows = stands_in inside w q follows (sym (ap (λ codes. waking_in codes) at ∙ quiet))
 
-    -- so it chooses
+    -- so it chooses, and where it searches in vain it is refused memory so
     abbrev pub Says : plain_calls.Call Output Waker → Code Output Waker → Done → Choice → Type 0
-    Says x code e d = Chooses s.world e.world d x (r1 code)
+    Says x code e d = Chooses s.world e.world d x (r1 code) × LiesThere (r1 code) (does wakes d x (r1 code)) d x
 
     -- the call has ended, and no run has changed
     back : (u : UserEnd) (x : plain_calls.Call Output Waker) → IsMade s p (Answer p u) x → (code : Code Output Waker)
-        → q.inside ≡ code ∷ inside → is_in_own (code ∷ inside) ≡ false → (e : Done) → Says x code e c1 → e.next ≡ below
+        → q.inside ≡ code ∷ inside → (e : Done) → Chooses s.world e.world c1 x (r1 code) → e.next ≡ below
         → (does wakes c1 x (r1 code)).inside ≡ inside
         → Counted below (does wakes c1 x (r1 code)).runs → Follows e.world (does wakes c1 x (r1 code)) → Comes u e
-    back u x is code at other e says next stays count follows =
+    back u x is code at e chooses next stays count follows =
         let z = does wakes c1 x (r1 code) in
-        came_by u x is e c1 refl (ends_anew q (does wakes c1 x q) s p (Answer p u) c1.refusal x refl is code inside at other)
-        (subst (λ y. Chooses s.world e.world c1 x y) (same code at) says)
+        came_by u x is e c1 refl (granted_anew q (does wakes c1 x q) c1 x refl)
+        (subst (λ y. Chooses s.world e.world c1 x y) (same code at) chooses)
         (subst (λ y. StandsSo e (does wakes c1 x y)) (same code at)
         (record {
           alike = alike (subst (λ os. Nested os z.inside) (sym next) (subst (λ codes. Nested below codes) (sym stays) nested)) follows;
           counted = subst (λ os. Counted os z.runs) (sym next) count;
         }))
+
+    -- where it lands, by a choice that tells alike
+    lands_so : (u : UserEnd) (x : plain_calls.Call Output Waker) → IsMade s p (Answer p u) x → (code : Code Output Waker)
+        → q.inside ≡ code ∷ inside → (e : Done) (rests : is_resting e.next ≡ true)
+        → Lands p below r0 nested under c1 room e rests (λ d. does wakes d x (r1 code)) (Says x code e) → Comes u e
+    lands_so u x is_made code at e rests lands =
+        let d = lands.choice in
+        let says =
+        subst (λ y. Chooses s.world e.world d x y × LiesThere y (does wakes d x y) d x) (same code at) lands.says in
+        came_by u x is_made e d lands.tells (ends_anew q (does wakes d x q) s p (Answer p u) d x refl is_made says.1) says.0
+        (subst (λ y. StandsSo e (does wakes d x y)) (same code at) lands.stands)
+
+    -- of no search nothing is said
+    none_says : (x : plain_calls.Call Output Waker) (code : Code Output Waker) (e : Done) → searches wakes c1 x (r1 code) ≡ None
+        → CountsSo s.world e.world → Says x code e c1
+    none_says x code e none stays =
+        (none_so s.world e.world x (r1 code) c1 none stays, λ y is vain later. absurd (clash (ap is_some none) (ap is_some is)))
+
+    -- of a search it is
+    found_says : (x : plain_calls.Call Output Waker) (code : Code Output Waker) (e : Done) (d : Choice) (w : World) (r : ℕ) (a : Waker)
+        (b : Plain Output Waker) → Still s.world w → searches wakes d x (r1 code) ≡ Some (search_at r a b)
+        → Searched r a w b d e.world (does wakes d x (r1 code)) → Says x code e d
+    found_says x code e d w r a b still is so = (
+      found_so s.world e.world x (r1 code) d w r a b (does wakes d x (r1 code)) still is so,
+      λ y its vain later. later_so s.world e.world x (r1 code) d w r a b (does wakes d x (r1 code)) is so y its vain later,
+    )
 
     count_at : (os xs : List Op) → reverse (stack s p) ≡ os → Alike os xs → Counted xs q.runs
     count_at os xs is alike_so = like os xs q.runs alike_so (subst (λ os. Counted os q.runs) is counted)
@@ -215,14 +241,9 @@ module _ (s : Machine) (reached : Reached s) (p : ℕ) (there : p < length s.par
 
       -- where the call comes to, by a choice that tells alike
       came : (u : UserEnd) (x : plain_calls.Call Output Waker) → IsMade s p (Answer p u) x → (code : Code Output Waker)
-          → q.inside ≡ code ∷ inside → is_in_own (code ∷ inside) ≡ false → (e : Done) (rests : is_resting e.next ≡ true)
+          → q.inside ≡ code ∷ inside → (e : Done) (rests : is_resting e.next ≡ true)
           → Lands p below r0 nested under c1 room e rests (λ d. does wakes d x (r1 code)) (Says x code e) → Comes u e
-      came u x is_made code at other e rests lands =
-          let d = lands.choice in
-          came_by u x is_made e d lands.tells
-          (ends_anew q (does wakes d x q) s p (Answer p u) d.refusal x refl is_made code inside at other)
-          (subst (λ y. Chooses s.world e.world d x y) (same code at) lands.says)
-          (subst (λ y. StandsSo e (does wakes d x y)) (same code at) lands.stands)
+      came u x is_made code at e rests lands = lands_so u x is_made code at e rests lands
 
       -- where a run searches behind, it chooses so; and where none does nothing is counted
       tells_so : (x : plain_calls.Call Output Waker) (code : Code Output Waker) (e : Done) (rests : is_resting e.next ≡ true)
@@ -235,10 +256,10 @@ module _ (s : Machine) (reached : Reached s) (p : ℕ) (there : p < length s.par
       tells_so x code e rests behind goes pass still = record {
         searched = λ r a is d so.
             let c = telling c1.tells d in
-            found_so s.world e.world x (r1 code) c pass.so.world r a pass.before (does wakes c x (r1 code)) still
+            found_says x code e c pass.so.world r a pass.before still
             (goes d ∙ (ap (searches_behind wakes c taker) (pass.at d) ∙ searches_so c r a pass.before taker is so.few)) so;
         unsearched = λ it none.
-            none_so s.world e.world x (r1 code) c1 (goes c1 ∙ (ap (searches_behind wakes c1 taker) (pass.at c1) ∙ none))
+            none_says x code e (goes c1 ∙ (ap (searches_behind wakes c1 taker) (pass.at c1) ∙ none))
             (λ k. on taker final it pass.so.way k ∙ still.counted k);
       }
         where
@@ -276,7 +297,7 @@ module _ (s : Machine) (reached : Reached s) (p : ℕ) (there : p < length s.par
 
           unsearched : (e : Done) → behind c1 ≡ None → Still s.world e.world → Says Pends (Poll f taker) e c1
           unsearched e none still =
-              none_so s.world e.world Pends (r1 (Poll f taker)) c1 (ap (searches_behind wakes c1 taker) none) still.counted
+              none_says Pends (Poll f taker) e (ap (searches_behind wakes c1 taker) none) still.counted
 
           by : (b : Bool) → is_last_waker move.EndPending (task s.world f) ≡ b
               → Leads (end.Polled answer.Pending) (op.User (user_op.Poll f)) (final ∷ below)
@@ -284,7 +305,7 @@ module _ (s : Machine) (reached : Reached s) (p : ℕ) (there : p < length s.par
               let in_poll : IsInPoll s.world f =
               record { known = taken.known; polled = taken.polled; entered = taken.entered; reached = left } in
               let e = alone p hints (pended p f final below s.world) in
-              came (end.Polled answer.Pending) Pends pends (Poll f taker) at refl e rests
+              came (end.Polled answer.Pending) Pends pends (Poll f taker) at e rests
               (goes_lands p below r0 nested under c1 room e rests will (Says Pends (Poll f taker) e) taker final it count its
               (λ d. pends_ends d taker r0 f) (Still s.world) behind (StaysSo taker final below r0 e)
               (tells_so Pends (Poll f taker) e rests behind (λ d. refl))
@@ -296,7 +317,7 @@ module _ (s : Machine) (reached : Reached s) (p : ℕ) (there : p < length s.par
               let last_poll : IsLastPoll s.world f =
               record { known = taken.known; polled = taken.polled; entered = taken.entered; last = last } in
               let e = alone p hints (pended p f final below s.world) in
-              came (end.Polled answer.Pending) Pends pends (Poll f taker) at refl e rests
+              came (end.Polled answer.Pending) Pends pends (Poll f taker) at e rests
               (goes_lands p below r0 nested under c1 room e rests will (Says Pends (Poll f taker) e) taker final it count its
               (λ d. pends_ends d taker r0 f) (Still s.world) behind (StopsForgetting taker final below f r0 e)
               (tells_so Pends (Poll f taker) e rests behind (λ d. refl))
@@ -307,13 +328,13 @@ module _ (s : Machine) (reached : Reached s) (p : ℕ) (there : p < length s.par
       from_poll f first at follows (end.Polled answer.Ready) ok = λ hints all rests.
           let taken : IsTaken s.world f = is_taken s p reached there open_still f (final ∷ below) (is ∙ first) in
           let e = alone p hints (given p f final below s.world) in
-          came (end.Polled answer.Ready) (EndsWith tt) gives (Poll f taker) at refl e rests
+          came (end.Polled answer.Ready) (EndsWith tt) gives (Poll f taker) at e rests
           (stays_lands p below r0 nested under c1 room e rests (λ d. does wakes d (EndsWith tt) (r1 (Poll f taker)))
           (Says (EndsWith tt) (Poll f taker) e) taker final it count
           (facts s.world follows refl refl) (λ d. gives_ends d taker r0 f tt) c1 refl
           ((gives_so p below s.world r0 under (follows0 (Poll f taker) at refl s.world follows) taker final f c1 hints all rests).0 taken)
           refl
-          (none_so s.world e.world (EndsWith tt) (r1 (Poll f taker)) c1 refl
+          (none_says (EndsWith tt) (Poll f taker) e refl
           (alone_counts p hints (given p f final below s.world).world (given p f final below s.world).next refl)))
       from_poll f first at follows u ok = absurd cc
 
@@ -329,14 +350,14 @@ module _ (s : Machine) (reached : Reached s) (p : ℕ) (there : p < length s.par
           let code = Drop f why taker in
           let says = Says Ends code e in
           let behind = behind_dropped f why r0 in
-          came end.Done Ends ends code at refl e rests
+          came end.Done Ends ends code at e rests
           (goes_lands p below r0 nested under c1 room e rests (λ d. does wakes d Ends (r1 code)) says taker final it count its
           (λ d. drop_ends d taker r0 f why) (Still s.world) behind (Drops taker final below f r0 e)
           (tells_so Ends code e rests behind (λ d. refl))
           (λ drops runs none still.
           drops_lands p below r0 nested under c1 room e rests (λ d. does wakes d Ends (r1 code)) says taker final it count its
           (λ d. drop_ends d taker r0 f why) f c1 refl drops runs.runs
-          (none_so s.world e.world Ends (r1 code) c1 (ap (searches_behind wakes c1 taker) none) still.counted))
+          (none_says Ends code e (ap (searches_behind wakes c1 taker) none) still.counted))
           (dropped_still p below under s.world taker final r0 c1 hints (follows0 code at refl s.world follows) f m why going.known
           going.entered going.ends many all rests))
       from_drop f m why how first at follows u ok = absurd cc
@@ -359,7 +380,7 @@ module _ (s : Machine) (reached : Reached s) (p : ℕ) (there : p < length s.par
           let e = alone p hints (done s.world (rest_of (task s.world f).awaiter f final ++ below)) in
           let code = Lose awaiter (Some taker) in
           let behind = behind_lost awaiter r0 in
-          came end.Done Ends ends code at refl e rests
+          came end.Done Ends ends code at e rests
           (goes_lands p below r0 nested under c1 room e rests (λ d. does wakes d Ends (r1 code)) (Says Ends code e) taker final it
           count (facts (without_run f s.world) ending.follows refl refl) (λ d. loss_ends d taker r0 awaiter) (Still s.world) behind
           (λ z. ⊥) (tells_so Ends code e rests behind (λ d. refl)) (λ stops runs none still. absurd stops)
@@ -406,18 +427,12 @@ module _ (s : Machine) (reached : Reached s) (p : ℕ) (there : p < length s.par
           let e = alone p hints (done s.world (op.Table (table_op.LeaveTable f) ∷ op.Handle (handle_op.LetGo f) ∷ final ∷ below)) in
           let code = Drop f Closed taker in
           let behind = behind_dropped f Closed r0 in
-          came end.Done Ends ends code at refl e rests
+          came end.Done Ends ends code at e rests
           (goes_lands p below r0 nested under c1 room e rests (λ d. does wakes d Ends (r1 code)) (Says Ends code e) taker final it count
           (facts_forgotten f it_is) (λ d. drop_ends d taker r0 f Closed) (Still s.world) behind
           (λ z. ⊥) (tells_so Ends code e rests behind (λ d. refl)) (λ stops runs none still. absurd stops)
           (forgotten_still p below under s.world taker final r0 c1 hints f forgotten0 many all rests))
       from_forgotten f at it_is u ok = absurd cc
-
-    -- so it chooses behind the poll of a run's own future, and is refused memory so
-    abbrev SaysOwn : RunPoll → Done → Choice → Type 0
-    SaysOwn x e d =
-        Chooses s.world e.world d Pends (r1 (PollOwn x.run x.waker))
-        × (any is_due q.due ≡ false → d.refusal ≡ Later → OneMoreLies q (does wakes d Pends (r1 (PollOwn x.run x.waker))))
 
     -- the poll of a run's own future: with an output, or without
     pub from_own_poll : (x : RunPoll) → reverse (stack s p) ≡ op.User (user_op.PollOwn x) ∷ below → q.inside ≡ PollOwn x.run x.waker ∷
@@ -492,33 +507,17 @@ module _ (s : Machine) (reached : Reached s) (p : ℕ) (there : p < length s.par
         by hints all rests =
             let e = alone p hints search in
             let lands =
-            after_lands p below r0 nested under c1 room e rests will (SaysOwn x e) x false count facts0
+            after_lands p below r0 nested under c1 room e rests will (Says Pends (PollOwn x.run x.waker) e) x false count facts0
             (λ d. take_ends d x.run x.waker r0 few) (taken_in x.run q.runs)
-            (goes_from p x below r0 c1.tells (taken_in x.run q.runs) e will (SaysOwn x e) under rests c1 s.world r0
+            (goes_from p x below r0 c1.tells (taken_in x.run q.runs) e will (Says Pends (PollOwn x.run x.waker) e) under rests c1 s.world r0
             (follows0 (PollOwn x.run x.waker) at refl s.world follows) room
-            (between p below r0 nested under c1 room e rests will (SaysOwn x e) x false count facts0) refl
+            (between p below r0 nested under c1 room e rests will (Says Pends (PollOwn x.run x.waker) e) x false count facts0) refl
             (record { hints = hints; has = all; is = refl })
             (λ d. sym (ap (λ b. if b then plain_takes.take wakes (telling c1.tells d) (Run x.run x.waker) r0
             else plain_takes.gives_way wakes (telling c1.tells d) x.run x.waker r0) few))
-            (λ d so. (
-              found_so s.world e.world Pends (r1 (PollOwn x.run x.waker)) (telling c1.tells d) s.world x.run x.waker r0
-              (will (telling c1.tells d)) (still_here s.world) refl so,
-              so.later,
-            ))) in
-            let d = lands.choice in
-            came_by (end.Polled answer.Pending) Pends pends e d lands.tells
-            (λ vain later.
-            subst (λ y. OneMoreLies q (does wakes d Pends y)) (same (PollOwn x.run x.waker) at)
-            (lands.says.1 (vain_none vain) later))
-            (subst (λ y. Chooses s.world e.world d Pends y) (same (PollOwn x.run x.waker) at) lands.says.0)
-            (subst (λ y. StandsSo e (does wakes d Pends y)) (same (PollOwn x.run x.waker) at) lands.stands)
-          where
-            vain_none : is_in_vain q ≡ true → any is_due q.due ≡ false
-            vain_none vain = off (any is_due q.due) (sym (ap (λ codes. is_in_own codes && not (any is_due q.due)) at) ∙ vain)
-              where
-                off : (b : Bool) → not b ≡ true → b ≡ false
-                off false is = refl
-                off true is = absurd cc
+            (λ d so.
+            found_says Pends (PollOwn x.run x.waker) e (telling c1.tells d) s.world x.run x.waker r0 (still_here s.world) refl so)) in
+            lands_so (end.Polled answer.Pending) Pends pends (PollOwn x.run x.waker) at e rests lands
     from_own_poll x is at follows u ok = absurd cc
 
     -- a run has gone: what others have taken stays
@@ -548,7 +547,7 @@ module _ (s : Machine) (reached : Reached s) (p : ℕ) (there : p < length s.par
         let counted0 : Counted xs q.runs = subst (λ os. Counted os q.runs) is counted in
         let so =
         own_goes p below under s.world r0 (follows0 (DropOwn r Ready) at refl s.world follows) c1 many r hints all rests in
-        back end.Done Ends ends (DropOwn r Ready) at refl e
+        back end.Done Ends ends (DropOwn r Ready) at e
         (none_so s.world e.world Ends (r1 (DropOwn r Ready)) c1 refl
         (alone_counts p hints s.world (op.List (list_op.LockWrite (section.Unregister r reply.Ready)) ∷ below)
         (omega (arith, due_resting counts below under)))) so.0 so.2
@@ -566,7 +565,7 @@ module _ (s : Machine) (reached : Reached s) (p : ℕ) (there : p < length s.par
         own_went p below under s.world r0 r rest leaving
         (stands_in inside s.world (record q { runs = changed ended_run r q.runs }) (subst (Follows s.world) (runs_is ended_run r q) follows)
         (sym (ap (λ codes. waking_in codes) at))) c1 many hints all rests in
-        back end.Done Ends ends (DropOwn r DoneAnswer) at refl e
+        back end.Done Ends ends (DropOwn r DoneAnswer) at e
         (none_so s.world e.world Ends (r1 (DropOwn r DoneAnswer)) c1 refl (counts_on rest leaving hints)) so.0 so.2 (by rest leaving is)
         so.1
       where

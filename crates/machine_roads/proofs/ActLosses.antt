@@ -40,7 +40,7 @@ use Rattle.machine_roads.proofs.InDrop.{stays_inside}
 use Rattle.machine_roads.proofs.InLoss.{calls_in_loss, loses_in_loss, loss_ends_in_loss}
 use Rattle.machine_roads.proofs.Inmost.{rests_in, whole}
 use Rattle.machine_roads.proofs.Inside.{ends_inside}
-use Rattle.machine_roads.proofs.LaterAnew.{off_anew}
+use Rattle.machine_roads.proofs.LaterAnew.{granted_anew, off_anew}
 use Rattle.machine_roads.proofs.LoneRuns.{both_true}
 use Rattle.machine_roads.proofs.LoneTicks.{there_all}
 use Rattle.machine_roads.proofs.Named.{Named, named}
@@ -144,7 +144,7 @@ module _ (s : Machine) (p : ℕ) (q : Plain Output Waker) (others : List Running
       chosen = chosen_in s q r;
       is = begins_by c n.made (subst (λ here. IsCallIn here s.world c n.made) (sym no_poll) n.within_none);
       so = refl;
-      anew = off_anew q (does wakes (choice r) n.made q) None s.world c r n.made n.within_none off;
+      anew = off_anew q (does wakes (choice r) n.made q) None s.world c (choice r) n.made n.within_none off;
       chooses = begun_so None s.world (choice r) q p hints c os (all_rest gs) n.made n.within_none None;
     }
 
@@ -242,7 +242,7 @@ module _ (s : Machine) (p : ℕ) (q : Plain Output Waker) (others : List Running
           chosen = (chosen_in s q Granted).tells;
           is = ends_by;
           so = refl;
-          anew = tt;
+          anew = granted_anew q (does wakes (choice Granted) Ends q) (choice Granted) Ends refl;
           chooses = loss_so p hints s.world f (loss_ops fs base) (all_rest fs) (choice Granted) q None inside first;
         },
         subst (λ y. StandsSo e (does wakes (choice Granted) Ends y)) same

@@ -33,7 +33,7 @@ use Rattle.machine_roads.proofs.ActLosses.{no_poll_at, spares_all, stays_runs}
 use Rattle.machine_roads.proofs.Counting.{Counted, StandsSo, like}
 use Rattle.machine_roads.proofs.InDrop.{stays_inside}
 use Rattle.machine_roads.proofs.Inside.{ends_inside}
-use Rattle.machine_roads.proofs.LaterAnew.{off_anew}
+use Rattle.machine_roads.proofs.LaterAnew.{granted_anew, off_anew}
 use Rattle.machine_roads.proofs.LoneTicks.{there_all}
 use Rattle.machine_roads.proofs.Named.{Named, named}
 use Rattle.machine_roads.proofs.Unseen.{stands_in}
@@ -155,7 +155,7 @@ module _ (s : Machine) (p : ℕ) (q : Plain Output Waker) (f : ℕ) (gs : List �
       chosen = chosen_in s q r;
       is = begins_by c n.made (subst (λ here. IsCallIn here s.world c n.made) (sym no_poll) n.within_none);
       so = refl;
-      anew = off_anew q (does wakes (choice r) n.made q) None s.world c r n.made n.within_none off;
+      anew = off_anew q (does wakes (choice r) n.made q) None s.world c (choice r) n.made n.within_none off;
       chooses = begun_so None s.world (choice r) q p hints c os (all_rest gs) n.made n.within_none None;
     }
 
@@ -247,7 +247,7 @@ module _ (s : Machine) (p : ℕ) (q : Plain Output Waker) (f : ℕ) (gs : List �
           chosen = (chosen_in s q Granted).tells;
           is = ends_by;
           so = refl;
-          anew = tt;
+          anew = granted_anew q (does wakes (choice Granted) Ends q) (choice Granted) Ends refl;
           chooses = loss_so p hints s.world g (loss_ops hs base) (all_rest hs) (choice Granted) q None inside first;
         },
         subst (λ y. StandsSo e (does wakes (choice Granted) Ends y)) same

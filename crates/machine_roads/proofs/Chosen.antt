@@ -1,10 +1,10 @@
 -- What a call chooses as it searches: from what the search tells of the world at it, which is in this as the one that the call began in.
-use Rattle.std.proofs.Common.{◌≡◌, ◌==◌, ◌&&◌, ℕ, nat_lt, true, if◌then◌else◌, Option, Some, None, is_some, slice_get, sym, ap, subst, ◌∙◌}
+use Rattle.std.proofs.Common.{◌≡◌, ◌==◌, ◌&&◌, ℕ, nat_lt, true, false, if◌then◌else◌, Option, Some, None, is_some, slice_get, sym, ap, subst, ◌∙◌}
 use Rattle.executor_parts.specs.Marks.{first_of}
 use Rattle.executor_parts.specs.declared.mark.Mark.{Mark}
 use Rattle.executor_model.specs.declared.op.Waker.{Waker}
 use Rattle.executor_model.specs.World.{World}
-use Rattle.plain_scheduler.specs.State.{Choice, Plain, Run, Taker}
+use Rattle.plain_scheduler.specs.State.{Choice, Later, Plain, Run, Taker}
 use Rattle.plain_scheduler.specs.Lists.{any, or}
 use Rattle.plain_scheduler.specs.Moves.{is_due}
 use Rattle.plain_scheduler.specs.Calls.{Call}
@@ -12,6 +12,7 @@ use Rattle.plain_scheduler.specs.Searches.{Search, finds, searches, searches_of}
 use Rattle.plain_scheduler.specs.Usual.{RobsAsUsual, TakesAsUsual, one_counted, run_turns, turned}
 use Rattle.machine_roads.specs.View.{Output, wakes}
 use Rattle.machine_roads.specs.Choosing.{Chooses, has_counted}
+use Rattle.machine_roads.specs.Refused.{OneMoreLies}
 use Rattle.machine_roads.proofs.Lists.{clash}
 use Rattle.machine_roads.proofs.RunsOn.{Searched, search_at}
 use Rattle.machine_roads.proofs.Still.{Still}
@@ -52,6 +53,14 @@ module _ (w v : World) (call : Call Output Waker) (q : Plain Output Waker) (d : 
     where
       same : (x : Search Output Waker) → searches wakes d call q ≡ Some x → search_at r a b ≡ x
       same x its = ap (the x) (sym is ∙ its)
+
+  -- one more lies behind a search in vain that is refused memory so
+  pub later_so : (u : World) (r : ℕ) (a : Waker) (b z : Plain Output Waker) → searches wakes d call q ≡ Some (search_at r a b)
+      → Searched r a u b d v z → (y : Search Output Waker) → searches wakes d call q ≡ Some y → finds y ≡ false → d.refusal ≡ Later
+      → OneMoreLies y.at z
+  later_so u r a b z is so y its vain later =
+      let same : search_at r a b ≡ y = ap (the y) (sym is ∙ its) in
+      subst (λ (y : Search Output Waker). OneMoreLies y.at z) same (so.later (ap finds same ∙ vain) later)
 
   pub none_so : searches wakes d call q ≡ None → ((k : ℕ) → has_counted v k ≡ has_counted w k) → Chooses w v d call q
   none_so none stays = record {

@@ -59,7 +59,7 @@ use Rattle.machine_roads.proofs.LossInDrop.{call_ends, call_loses, drop_ends_so}
 use Rattle.machine_roads.proofs.Unseen.{stands_in}
 use Rattle.machine_roads.proofs.InDrop.{stays_inside}
 use Rattle.machine_roads.proofs.Inside.{ends_inside}
-use Rattle.machine_roads.proofs.LaterAnew.{off_anew}
+use Rattle.machine_roads.proofs.LaterAnew.{granted_anew, off_anew}
 use Rattle.machine_roads.proofs.Lists.{clash}
 use Rattle.machine_roads.proofs.LoneCalls.{each}
 use Rattle.machine_roads.proofs.LoneCloses.{Closing, IsAny, drop_leads_so, walks}
@@ -97,7 +97,7 @@ module _ (s : Machine) (reached : Reached s) (p : ℕ) (there : p < length s.par
     chosen = chosen_in s q r;
     is = begins_by c x is;
     so = refl;
-    anew = off_anew q (does wakes (choice r) x q) (mine its) s.world c r x is off;
+    anew = off_anew q (does wakes (choice r) x q) (mine its) s.world c (choice r) x is off;
     chooses = begun_so (mine its) s.world (choice r) q p hints c os under x is None;
   }
 
@@ -108,7 +108,7 @@ module _ (s : Machine) (reached : Reached s) (p : ℕ) (there : p < length s.par
     chosen = (chosen_in s q Granted).tells;
     is = ends_by;
     so = refl;
-    anew = tt;
+    anew = granted_anew q (does wakes granted plain.Ends q) granted plain.Ends refl;
     chooses = chooses;
   }
 

@@ -61,6 +61,8 @@ pub mod Ticking
 pub mod TickPolls
 pub mod Copying
 pub mod Replacing
+pub mod Silent
+pub mod Took
 pub mod Bedding
 pub mod LyingDown
 pub mod RunIdle

@@ -189,9 +189,7 @@ module _ (p : ℕ) (x : RunPoll) (below : List Op) (q : Plain Output Waker) (n t
               robs = λ some. absurd (clash none some);
               counted = λ k. g.6.counted k
                   ∙ ap (λ b0. if b0 then one_counted (has_counted w k) else has_counted w k) (sym (nowhere (k == x.run) (any is_due b.due) none));
-              turns = g.6.turn
-                  ∙ ap (λ ds. turned (if any (is_kept x.run) ds then 0 else (if any is_due ds then 1 else vain_turns g.0 (ARun x.run) b.lying))
-                  w.urgent_turns) (sym quiet);
+              turns = g.6.turn;
               listed = g.6.listed;
               later = λ vain late. subst (OneMoreLies b) (sym same) (g.5 late);
             }))

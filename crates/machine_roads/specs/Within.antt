@@ -167,7 +167,7 @@ pub record ActsBy (s : Machine) (p : ℕ) (t : Step) (q r : Plain Output Waker) 
   pub chosen : IsChosenAt t s.world q choice
   pub is : IsMade s p t made
   pub so : does wakes choice made q ≡ r
-  pub anew : IsLaterAnew choice.refusal made q r
+  pub anew : IsLaterAnew choice made q r
   pub chooses : Chooses s.world v choice made q
 
 -- how a call that takes goes on behind what it took: a try and a tick's poll are answered, and a run searches on, or after its 200th

@@ -46,6 +46,8 @@ pub mod GivingWay
 pub mod Trying
 pub mod RunsStay
 pub mod Passing
+pub mod PassingStill
+pub mod GoingStill
 pub mod Unseen
 pub mod Pending
 pub mod Losing
@@ -98,12 +100,19 @@ pub mod RunsGone
 pub mod Adding
 pub mod Keeping
 pub mod Stealing
+pub mod Starting
+pub mod WalkOrder
+pub mod Robbing
+pub mod KeepingMarks
+pub mod RunCounting
 pub mod RunTaking
+pub mod RunFinding
 pub mod RunSearching
 pub mod TakenBeside
 pub mod RunLies
 pub mod RunGoesOn
 pub mod RunsOn
+pub mod Chosen
 pub mod LoneRunsOn
 pub mod LoneGoesOn
 pub mod LoneRunPolls
@@ -128,6 +137,7 @@ pub mod Course
 pub mod InHand
 pub mod Walked
 pub mod Inmost
+pub mod Unsearched
 pub mod ActBegins
 pub mod RunsAlone
 pub mod ActLosses
@@ -140,5 +150,6 @@ pub mod Counting
 pub mod RunHere
 pub mod ActLands
 pub mod ActCodes
+pub mod ActOwns
 pub mod OwnGoes
 pub mod ActsToEnd

@@ -77,7 +77,7 @@ module _ (who : Who) (ls : List (Lying Waker)) (w v : World) where
 
 -- its waker goes, and it is answered
 module _ (p : ℕ) (below : List Op) (under : is_resting below ≡ true) (end : Done) where
-  light : (os : List Op) → weigh stirs os ≡ 0 → (v : World) → Way p end v (os ++ below) → Still v end.world
+  pub light : (os : List Op) → weigh stirs os ≡ 0 → (v : World) → Way p end v (os ++ below) → Still v end.world
   light os none v way =
       subst (λ (d : Done). Still v d.world) way.is
       (alone_still p way.hints v (os ++ below) (due_push stirs os below none (due_resting stirs below under)))

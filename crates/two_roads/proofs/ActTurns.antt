@@ -65,12 +65,12 @@ use Rattle.machine_roads.proofs.Inmost.{rests_in}
 use Rattle.machine_roads.proofs.LoneRuns.{Walks, passed, within as is_within}
 use Rattle.machine_roads.proofs.Tying.{top_of}
 use Rattle.machine_roads.proofs.Walked.{answer_leads_of, begun_leads_of, no_answer}
+use Rattle.machine_roads.proofs.AloneKeeps.{due, due_push, due_resting}
+use Rattle.machine_roads.proofs.Seeking.{alone_turn, begins_none, begins_turn, is_still, mild_seeks, reacts_turn, seeks, try_turned}
 use Rattle.two_roads.specs.Acting.{goes_on_in, is_runs, seeks_for_run}
 use Rattle.two_roads.specs.Refusing.{refused_in}
 use Rattle.plain_scheduler.specs.Usual.{turned}
 use Rattle.two_roads.specs.Turns.{ActsTakeTurns, tick_turns, turns_of}
-use Rattle.two_roads.proofs.Seeking.{alone_still, begins_none, begins_still, due, due_push, due_resting, is_still, mild_seeks, seeks}
-use Rattle.two_roads.proofs.Seeking.{reacts_still, try_turned}
 use Rattle.two_roads.proofs.TickTurns.{polled, refused_at}
 
 -- nothing is asked of what is done
@@ -135,17 +135,17 @@ ends_for u codes = goes_on_in codes
 abbrev Rests : List (Code Output Waker) → List Op → Type 0
 Rests codes [] = Unit {0}
 Rests codes (o ∷ os) =
-    (u : UserEnd) → accepts o u ≡ true → ends_for u codes ≡ false → (p : ℕ) (w : World) → due ((react p o u w).next ++ os) ≡ 0
+    (u : UserEnd) → accepts o u ≡ true → ends_for u codes ≡ false → (p : ℕ) (w : World) → due seeks ((react p o u w).next ++ os) ≡ 0
 
 final_none : (taker : Taker Waker) (final : Op) → GoesOnBy taker final → is_runs taker ≡ false → seeks final ≡ 0
 final_none taker final by_try alone = refl
 final_none taker final (by_tick t a) alone = refl
 final_none taker final (by_run x last) alone = absurd cc
 
-module _ (taker : Taker Waker) (final : Op) (below : List Op) (it : GoesOnBy taker final) (under : due below ≡ 0) where
+module _ (taker : Taker Waker) (final : Op) (below : List Op) (it : GoesOnBy taker final) (under : due seeks below ≡ 0) where
   behind_poll : (f : ℕ) (codes : List (Code Output Waker)) → Rests (Poll f taker ∷ codes) (op.User (user_op.Poll f) ∷ final ∷ below)
   behind_poll f codes (Polled Pending) fits none p w =
-      due_push (op.Table (table_op.PutBack f) ∷ final ∷ []) below (omega (arith, final_none taker final it none)) under
+      due_push seeks (op.Table (table_op.PutBack f) ∷ final ∷ []) below (omega (arith, final_none taker final it none)) under
   behind_poll f codes (Polled Ready) fits none p w = refl
   behind_poll f codes Over fits none p w = absurd cc
 
@@ -153,13 +153,13 @@ module _ (taker : Taker Waker) (final : Op) (below : List Op) (it : GoesOnBy tak
       → Rests (Drop f end taker ∷ codes) (op.User (user_op.Drop f) ∷ op.Table (table_op.LeaveTable f) ∷ x ∷ final ∷ below)
   behind_drop f end x light codes (Polled answer) fits none p w = absurd cc
   behind_drop f end x light codes Over fits none p w =
-      due_push (op.Table (table_op.LeaveTable f) ∷ x ∷ final ∷ []) below (omega (arith, light, final_none taker final it none)) under
+      due_push seeks (op.Table (table_op.LeaveTable f) ∷ x ∷ final ∷ []) below (omega (arith, light, final_none taker final it none)) under
 
   behind_loss : (f : ℕ) (b : Bool) (awaiter : Option Waker) (codes : List (Code Output Waker))
       → Rests (Lose awaiter (Some taker) ∷ codes) (op.User (user_op.DropOutput f) ∷ (rest_of b f final ++ below))
   behind_loss f b awaiter codes (Polled answer) fits none p w = absurd cc
   behind_loss f b awaiter codes Over fits none p w =
-      due_push (rest_of b f final) below
+      due_push seeks (rest_of b f final) below
       (omega (
         arith,
         weigh-append seeks (awaiter_ops f (notify_if b)) (op.Move move.GiveUp f ∷ final ∷ []),
@@ -175,8 +175,8 @@ module _ (taker : Taker Waker) (final : Op) (below : List Op) (it : GoesOnBy tak
   behind_stop os inside codes under (drops_polled f) = behind_drop f _ (op.Move move.EndClosed f) refl inside
   behind_stop os inside codes under (drops_given f) = behind_drop f _ (op.Move move.EndReady f) refl inside
 
-due_in : (os : List Op) (codes : List (Code Output Waker)) → Nested os codes → due os ≡ 0
-due_in os codes nested = due_resting os (rests_in os codes nested)
+due_in : (os : List Op) (codes : List (Code Output Waker)) → Nested os codes → due seeks os ≡ 0
+due_in os codes nested = due_resting seeks os (rests_in os codes nested)
 
 behind_own : (x : _) (below : List Op) (inside : List (Code Output Waker))
     → Rests (PollOwn x.run x.waker ∷ inside) (op.User (user_op.PollOwn x) ∷ below)
@@ -184,15 +184,15 @@ behind_own x below inside (Polled Pending) fits none p w = absurd cc
 behind_own x below inside (Polled Ready) fits none p w = refl
 behind_own x below inside Over fits none p w = absurd cc
 
-behind_owns_drop : (r : ℕ) (o : Op) → seeks o ≡ 0 → (below : List Op) → due below ≡ 0 → (codes : List (Code Output Waker))
+behind_owns_drop : (r : ℕ) (o : Op) → seeks o ≡ 0 → (below : List Op) → due seeks below ≡ 0 → (codes : List (Code Output Waker))
     → Rests codes (op.User (user_op.DropOwn r) ∷ o ∷ below)
 behind_owns_drop r o light below under codes (Polled answer) fits none p w = absurd cc
-behind_owns_drop r o light below under codes Over fits none p w = due_push (o ∷ []) below (omega (arith, light)) under
+behind_owns_drop r o light below under codes Over fits none p w = due_push seeks (o ∷ []) below (omega (arith, light)) under
 
-behind_lost : (f : ℕ) (below : List Op) → due below ≡ 0 → (codes : List (Code Output Waker))
+behind_lost : (f : ℕ) (below : List Op) → due seeks below ≡ 0 → (codes : List (Code Output Waker))
     → Rests codes (op.User (user_op.DropOutput f) ∷ (left_of f ++ below))
 behind_lost f below under codes (Polled answer) fits none p w = absurd cc
-behind_lost f below under codes Over fits none p w = due_push (left_of f) below refl under
+behind_lost f below under codes Over fits none p w = due_push seeks (left_of f) below refl under
 
 nested_rests : (os : List Op) (codes : List (Code Output Waker)) → Nested os codes → Rests codes os
 nested_rests os codes nowhere = tt
@@ -210,14 +210,14 @@ alike_rests : (e : Done) (q : Plain Output Waker) → StandsAlike e q → Rests 
 alike_rests e q (alike nested follows) = nested_rests e.next q.inside nested
 alike_rests e q (losing f fs below codes nested stops) =
     subst (λ os. Rests q.inside os) (sym stops.left)
-    (behind_lost f (loss_ops fs below) (due_resting (loss_ops fs below) (loss_rests fs below (rests_in below codes nested))) q.inside)
+    (behind_lost f (loss_ops fs below) (due_resting seeks (loss_ops fs below) (loss_rests fs below (rests_in below codes nested))) q.inside)
 alike_rests e q (going r [] below codes nested stops) =
     subst (λ os. Rests q.inside os) (sym stops.left)
     (behind_owns_drop r stops.rest (leaving_none r stops.rest stops.leaving) below (due_in below codes nested) q.inside)
 alike_rests e q (going r (f ∷ fs) below codes nested stops) =
     let os = op.User (user_op.DropOwn r) ∷ stops.rest ∷ below in
     subst (λ os. Rests q.inside os) (sym stops.left)
-    (behind_lost f (loss_ops fs os) (due_resting (loss_ops fs os) (loss_rests fs os refl)) q.inside)
+    (behind_lost f (loss_ops fs os) (due_resting seeks (loss_ops fs os) (loss_rests fs os refl)) q.inside)
 alike_rests e q (dropping taker final below f b it nested (drop_answered next inside follows)) =
     subst (λ os. Rests q.inside os) (sym next)
     (subst (λ codes. Rests codes below) (sym inside) (nested_rests below b.inside nested))
@@ -228,7 +228,7 @@ alike_rests e q (dropping taker final below f b it nested (loses awaiter next in
 alike_rests e q (untaken taker final below f awaiter g gs codes it nested stops) =
     let os = op.User (user_op.DropOutput f) ∷ (rest_of (is_some awaiter) f final ++ below) in
     subst (λ os. Rests q.inside os) (sym stops.left)
-    (behind_lost g (loss_ops gs os) (due_resting (loss_ops gs os) (loss_rests gs os refl)) q.inside)
+    (behind_lost g (loss_ops gs os) (due_resting seeks (loss_ops gs os) (loss_rests gs os refl)) q.inside)
 alike_rests e q (forgetting taker final below f b it nested stops) =
     subst (λ os. Rests q.inside os) (sym stops.left)
     (subst
@@ -237,7 +237,7 @@ alike_rests e q (forgetting taker final below f b it nested stops) =
 alike_rests e q (forgotten taker final below f g gs codes it nested stops) =
     let os = op.User (user_op.Drop f) ∷ op.Table (table_op.LeaveTable f) ∷ op.Handle (handle_op.LetGo f) ∷ final ∷ below in
     subst (λ os. Rests q.inside os) (sym stops.left)
-    (behind_lost g (loss_ops gs os) (due_resting (loss_ops gs os) (loss_rests gs os refl)) q.inside)
+    (behind_lost g (loss_ops gs os) (due_resting seeks (loss_ops gs os) (loss_rests gs os refl)) q.inside)
 
 module _ (s : Machine) (reached : Reached s) (p : ℕ) (q : Plain Output Waker) (stands : StandsAlike (standing s p) q) (new : Machine) where
   abbrev Turns : ℕ → Type 0
@@ -265,9 +265,9 @@ module _ (s : Machine) (reached : Reached s) (p : ℕ) (q : Plain Output Waker) 
       let here = mine (top (stack s p)) in
       let below = reverse (stack s p) in
       began c ts there rests made 0
-      (λ hints over. alone_still p hints (begun p w here c).world ((begun p w here c).next ++ below)
-      (due_push (begun p w here c).next below (begins_none p w here c quiet) (due_resting below (rests_alike (standing s p) q stands)))
-      ∙ begins_still p w here c)
+      (λ hints over. alone_turn p hints (begun p w here c).world ((begun p w here c).next ++ below)
+      (due_push seeks (begun p w here c).next below (begins_none p w here c quiet) (due_resting seeks below (rests_alike (standing s p) q stands)))
+      ∙ begins_turn p w here c)
 
   -- a tick is polled
   tick_polled : (t : ℕ) (b : By) (ts : List Step) → p < length s.parties → rests_after p ts (after s (Begin p (call.PollTick t b))) ≡ true
@@ -328,9 +328,9 @@ module _ (s : Machine) (reached : Reached s) (p : ℕ) (q : Plain Output Waker) 
           let light = subst (λ xs. Rests q.inside xs) is (alike_rests (standing s p) q stands) in
           answer_leads_of (λ w o. Unit {0}) (λ s. Unit {0}) walks p (λ e. e.world.urgent_turns ≡ s.world.urgent_turns) new tt u o os ts s
           reached there is
-          (λ hints all over. alone_still p hints (react p o u s.world).world ((react p o u s.world).next ++ os)
+          (λ hints all over. alone_turn p hints (react p o u s.world).world ((react p o u s.world).next ++ os)
           (light u fits none p s.world)
-          ∙ reacts_still p o u s.world) rests made
+          ∙ reacts_turn p o u s.world) rests made
 
   there : (t : Step) (ts : List Step) → party_of t ≡ p → run_all (t ∷ ts) s ≡ Ok new → p < length s.parties
   there t ts its made =

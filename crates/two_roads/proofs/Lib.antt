@@ -26,7 +26,6 @@ pub mod Refusing
 pub mod Meant
 pub mod Acted
 pub mod ActedToEnd
-pub mod Seeking
 pub mod ActTurns
 pub mod SoloTurns
 pub mod InStep

@@ -51,12 +51,13 @@ use Rattle.machine_roads.proofs.Lists.{clash, get_last, length_last}
 use Rattle.machine_roads.proofs.Numbers.{IsNamed, Rests, down, rests_if, up}
 use Rattle.machine_roads.proofs.Replacing.{position_last}
 use Rattle.machine_roads.proofs.TickPolls.{none_in}
+use Rattle.machine_roads.proofs.AloneKeeps.{due, due_push, due_resting}
+use Rattle.machine_roads.proofs.Seeking.{alone_turn, seeks}
 use Rattle.two_roads.specs.Refusing.{ends_refused, refused_so}
 use Rattle.two_roads.specs.Renaming.{is_refusal}
 use Rattle.plain_scheduler.specs.Usual.{turned as turned_by}
 use Rattle.two_roads.specs.Turns.{lies_uncalled, searches_by, tick_turns}
 use Rattle.two_roads.proofs.Refusing.{last_is, more_test, same_test}
-use Rattle.two_roads.proofs.Seeking.{alone_still, due, due_push, due_resting, seeks}
 
 -- who rests stays
 resting_stays : (p : ℕ) (hints : List Hint) (w : World) (os : List Op) → is_resting os ≡ true → alone p hints (done w os) ≡ done w os
@@ -162,8 +163,8 @@ module _ (p : ℕ) (below : List Op) (under : is_resting below ≡ true) (t : �
       → Comes hs w os n
   as_many hs w os m n same comes rests = comes rests ∙ same (refused_at many (alone p hs (done w os)).world)
 
-  light : (hs : List Hint) (w : World) (os : List Op) → due os ≡ 0 → Comes hs w os (λ r. w.urgent_turns)
-  light hs w os none rests = alone_still p hs w os none
+  light : (hs : List Hint) (w : World) (os : List Op) → due seeks os ≡ 0 → Comes hs w os (λ r. w.urgent_turns)
+  light hs w os none rests = alone_turn p hs w os none
 
   -- it is answered
   answered : (r : Reply) (held : Hold) (hs : List Hint) (w : World) (n : Refusal → ℕ)
@@ -180,10 +181,10 @@ module _ (p : ℕ) (below : List Op) (under : is_resting below ≡ true) (t : �
       (sym (ap (λ (d : Done). refused_at many d.world) stays
       ∙ ap (λ b. refused_so b (nat_lt many (length w.sleepers.wakers))) (ended_heard p r w.trace))))
 
-  looks_light : (x : Ticker) (w : World) (l : Look) (f : ℕ) (rest : List ℕ) → due ((look_tick_by x w l (f ∷ rest) s).next ++ below) ≡ 0
-  looks_light Awake w l f rest = due_push (look_tick_by Awake w l (f ∷ rest) s).next below refl (due_resting below under)
-  looks_light (Asleep n) w l f rest = due_push (look_tick_by (Asleep n) w l (f ∷ rest) s).next below refl (due_resting below under)
-  looks_light Left w l f rest = due_push (look_tick_by Left w l (f ∷ rest) s).next below refl (due_resting below under)
+  looks_light : (x : Ticker) (w : World) (l : Look) (f : ℕ) (rest : List ℕ) → due seeks ((look_tick_by x w l (f ∷ rest) s).next ++ below) ≡ 0
+  looks_light Awake w l f rest = due_push seeks (look_tick_by Awake w l (f ∷ rest) s).next below refl (due_resting seeks below under)
+  looks_light (Asleep n) w l f rest = due_push seeks (look_tick_by (Asleep n) w l (f ∷ rest) s).next below refl (due_resting seeks below under)
+  looks_light Left w l f rest = due_push seeks (look_tick_by Left w l (f ∷ rest) s).next below refl (due_resting seeks below under)
 
   -- it finds one
   finds : (hs : List Hint) (w : World) (l : Look) (f : ℕ) (rest : List ℕ) (x : Ticker)
@@ -252,7 +253,7 @@ module _ (p : ℕ) (below : List Op) (under : is_resting below ≡ true) (t : �
       subst (λ x. Comes hs (fall_asleep_by x w s).world ((fall_asleep_by x w s).next ++ below) (λ r. w.urgent_turns)) (sym is)
       (subst (λ o. Comes hs (sleep_again_by o w n s).world ((sleep_again_by o w n s).next ++ below) (λ r. w.urgent_turns)) (sym place)
       (light hs (sleep_again_by (Some at) w n s).world ((sleep_again_by (Some at) w n s).next ++ below)
-      (due_push (sleep_again_by (Some at) w n s).next below (gone (waker_at (Some at) w.sleepers.wakers)) (due_resting below under))))
+      (due_push seeks (sleep_again_by (Some at) w n s).next below (gone (waker_at (Some at) w.sleepers.wakers)) (due_resting seeks below under))))
     where
       gone : (o : Option Sleeping) → weigh seeks (sleeper_goes o ++ pend_as (tick_or_run.Tick t)) ≡ 0
       gone None = refl

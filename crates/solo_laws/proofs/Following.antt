@@ -99,3 +99,4 @@ pub mod RunGoing
 pub mod RunEnding
 pub mod VainTurns
 pub mod TickTurns
+pub mod Ordering

@@ -42,3 +42,4 @@ pub mod RunsGo
 pub mod SearchesGo
 pub mod Choosing
 pub mod Counting
+pub mod Ordering

@@ -1,8 +1,8 @@
 -- The own queues at which others look stand in the order in which their runs were first polled: one comes last as its run is polled
 -- first, goes with its run, and else they stand as before.
 use Rattle.std.proofs.Common.{◌≡◌, ℕ, zero, suc, ◌+◌, ◌-◌, ◌<◌, ◌≤◌, ◌==◌, nat_lt, cond, if◌then◌else◌, not, Bool, true, false, List, []}
-use Rattle.std.proofs.Common.{◌∷◌, ◌++◌, length, map, take, remove, Option, Some, None, slice_get, slice_set, slice_index_or}
-use Rattle.std.proofs.Common.{refl, sym, ap, subst, ◌∙◌, arith}
+use Rattle.std.proofs.Common.{◌∷◌, ◌++◌, length, take, remove, Option, Some, None, slice_get, slice_set, slice_index_or}
+use Rattle.std.proofs.Common.{refl, sym, ap, ◌∙◌, arith}
 use Rattle.std.specs.List.{position_or_len, swap}
 use Rattle.std.proofs.lemmas.Bool.Decides.{nat_tests}
 use Rattle.std.proofs.lemmas.List.Edits.{swap_is}

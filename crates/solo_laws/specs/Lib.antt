@@ -43,3 +43,4 @@ pub mod SearchesGo
 pub mod Choosing
 pub mod Counting
 pub mod Ordering
+pub mod Starting

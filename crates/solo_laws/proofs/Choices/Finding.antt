@@ -1,12 +1,12 @@
 -- Where a run takes a future one is due; where it lies down, or is refused memory, none is.
-use Rattle.std.proofs.Common.{◌≡◌, ℕ, ◌≤◌, if◌then◌else◌, length, Bool, true, false, List, [], ◌∷◌, find, Option, Some, None, refl, sym, ap, subst, ◌∙◌}
+use Rattle.std.proofs.Common.{◌≡◌, ℕ, ◌≤◌, if◌then◌else◌, length, Bool, true, false, List, [], ◌∷◌, find, Option, Some, None, refl, sym}
+use Rattle.std.proofs.Common.{ap, ◌∙◌}
 use Rattle.solo.specs.declared.names.Task.{Task}
 use Rattle.solo.specs.declared.names.SoloWaker.{SoloWaker}
 use Rattle.solo.specs.declared.owed.Lent.{Lent}
 use Rattle.solo.specs.declared.runs.Runner.{Runner}
 use Rattle.solo.specs.declared.solo.Solo.{Solo}
 use Rattle.solo.specs.Lines.{mark_of_turn}
-use Rattle.solo.specs.OwnQueues as own
 use Rattle.solo.specs.Solo as solo
 use Rattle.solo.specs.Steals as steals
 use Rattle.plain_scheduler.specs.State.{Choice, Due, Event, Plain}

@@ -7,3 +7,6 @@ pub mod Robbing
 pub mod AsUsual
 pub mod Seeking
 pub mod Searched
+pub mod RunTurns
+pub mod Turns
+pub mod Counts

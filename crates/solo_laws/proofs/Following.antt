@@ -98,3 +98,6 @@ pub mod CodesKept
 pub mod Polled
 pub mod RunGoing
 pub mod RunEnding
+pub mod VainTurns
+pub mod TickTurns
+pub mod Ordering

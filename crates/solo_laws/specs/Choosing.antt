@@ -4,10 +4,10 @@ use Rattle.solo.specs.declared.names.SoloWaker.{SoloWaker}
 use Rattle.solo.specs.declared.owed.Lent.{Lent}
 use Rattle.solo.specs.declared.runs.Runner.{Runner}
 use Rattle.solo.specs.declared.solo.Solo.{Solo}
-use Rattle.plain_scheduler.specs.State.{Choice, Event}
+use Rattle.plain_scheduler.specs.State.{ARun, Choice, Event}
 use Rattle.plain_scheduler.specs.Searches.{Search, finds}
 use Rattle.solo_laws.specs.Numbered.{IsNumbered}
-use Rattle.solo_laws.specs.Owner.{HasRunner, Owner, taken_by_run}
+use Rattle.solo_laws.specs.Owner.{HasRoom, HasRunner, Owner, taken_by_run}
 use Rattle.solo_laws.specs.RunGoing.{Searches}
 use Rattle.solo_laws.specs.RunResting.{EachListed}
 use Rattle.solo_laws.specs.Tabled.{Stands, goes_on}
@@ -25,6 +25,7 @@ pub record SearchesAt {F T X : Type 0} (its : ℕ → Lent) (owner : Owner) (c :
   pub numbered : IsNumbered owner.number before.sleepers x.at.lying
   pub listed : EachListed before.runs
   pub going : goes_on runner.number x.at ≡ true
+  pub room : HasRoom (ARun runner.number) before x.at
   pub few : length x.at.lying ≤ c.tells
   pub turn : before.lines.turn ≡ s.lines.turn
   pub runs : before.runs ≡ s.runs

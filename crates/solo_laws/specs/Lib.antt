@@ -41,3 +41,5 @@ pub mod EndsGo
 pub mod RunsGo
 pub mod SearchesGo
 pub mod Choosing
+pub mod Counting
+pub mod Ordering

@@ -5,6 +5,7 @@
 
 pub mod answers;
 pub mod choosing;
+pub mod counting;
 pub mod laws;
 pub mod lying;
 pub mod roads;

@@ -67,7 +67,8 @@ use Rattle.machine_roads.proofs.Tying.{top_of}
 use Rattle.machine_roads.proofs.Walked.{answer_leads_of, begun_leads_of, no_answer}
 use Rattle.two_roads.specs.Acting.{goes_on_in, is_runs, seeks_for_run}
 use Rattle.two_roads.specs.Refusing.{refused_in}
-use Rattle.two_roads.specs.Turns.{ActsTakeTurns, tick_turns, turned, turns_of}
+use Rattle.plain_scheduler.specs.Usual.{turned}
+use Rattle.two_roads.specs.Turns.{ActsTakeTurns, tick_turns, turns_of}
 use Rattle.two_roads.proofs.Seeking.{alone_still, begins_none, begins_still, due, due_push, due_resting, is_still, mild_seeks, seeks}
 use Rattle.two_roads.proofs.Seeking.{reacts_still, try_turned}
 use Rattle.two_roads.proofs.TickTurns.{polled, refused_at}

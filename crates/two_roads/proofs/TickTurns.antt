@@ -53,7 +53,8 @@ use Rattle.machine_roads.proofs.Replacing.{position_last}
 use Rattle.machine_roads.proofs.TickPolls.{none_in}
 use Rattle.two_roads.specs.Refusing.{ends_refused, refused_so}
 use Rattle.two_roads.specs.Renaming.{is_refusal}
-use Rattle.two_roads.specs.Turns.{lies_uncalled, searches_by, tick_turns, turned as turned_by}
+use Rattle.plain_scheduler.specs.Usual.{turned as turned_by}
+use Rattle.two_roads.specs.Turns.{lies_uncalled, searches_by, tick_turns}
 use Rattle.two_roads.proofs.Refusing.{last_is, more_test, same_test}
 use Rattle.two_roads.proofs.Seeking.{alone_still, due, due_push, due_resting, seeks}
 

@@ -26,7 +26,7 @@ use Rattle.solo_laws.proofs.Following.RunWalking as walking
 use Rattle.solo_laws.proofs.Following.Trying as trying
 
 -- what is found is due
-found_due : (test : Due → Bool) (ds : List Due) (d : Due) → find test ds ≡ Some d → any is_due ds ≡ true
+pub found_due : (test : Due → Bool) (ds : List Due) (d : Due) → find test ds ≡ Some d → any is_due ds ≡ true
 found_due test [] d is = absurd cc
 found_due test (e ∷ ds) d is = refl
 

@@ -23,12 +23,15 @@ use Rattle.solo_laws.proofs.CallTurns.{ends_turn}
 use Rattle.solo_laws.proofs.Choices.Finding.{counts_so}
 use Rattle.solo_laws.proofs.Choices.Seeking.{SeeksAs, is_over, makes_none, seeks_as, silent, stays_in}
 use Rattle.solo_laws.proofs.Following.Counted.{other_events}
+use Rattle.solo_laws.proofs.Following.Crowding.{is_among}
+use Rattle.solo_laws.proofs.Following.Housed.{still_housed}
 use Rattle.solo_laws.proofs.Following.Keeping.{keeps, makes_numbered}
 use Rattle.solo_laws.proofs.Following.Listed.{each_listed, has_own}
+use Rattle.solo_laws.proofs.Following.Owns.{numbers}
 use Rattle.solo_laws.proofs.Following.Polled.{busy, polled}
 use Rattle.solo_laws.proofs.Following.RunEnding.{is_answer, same_last, tried_both, unlike}
 use Rattle.solo_laws.proofs.Following.RunPolling.{going_there, same_hands}
-use Rattle.solo_laws.proofs.Showing.Courses.{Known, makes_alike}
+use Rattle.solo_laws.proofs.Showing.Courses.{Known, makes_alike, run_room}
 use Rattle.solo_laws.proofs.Showing.StillListed.{one_in, stage_codes}
 
 module _ {F T X : Type 0} (its : ℕ → Lent) (owner : Owner) (c : Choice) (s : Solo F T X) (p : Plain T (SoloWaker X)) where
@@ -68,7 +71,7 @@ module _ {F T X : Type 0} (its : ℕ → Lent) (owner : Owner) (c : Choice) (s :
               (sym (ap (λ (q : Plain T (SoloWaker X)). q.events) one) ∙ seen_so shown e z how)).1)
 
       -- else it searches, but one that has taken 200
-      goes_sought : (shown : List (Event T (SoloWaker X))) (z : Solo F T X) → Makes its c s tried call (shown ++ Answers Yes ∷ []) z
+      pub goes_sought : (shown : List (Event T (SoloWaker X))) (z : Solo F T X) → Makes its c s tried call (shown ++ Answers Yes ∷ []) z
           → searches wakes c call p ≡ searches_of wakes c (Run r w) (record a { events = p.events ++ shown })
       goes_sought shown z how = by (seeks_as c r w p rest stage call ends is)
         where
@@ -108,6 +111,7 @@ module _ {F T X : Type 0} (its : ℕ → Lent) (owner : Owner) (c : Choice) (s :
           numbered = known.numbered;
           listed = listed;
           going = going_there its s p known.stands runner.number held;
+          room = run_room its owner s p known.stands known.numbered known.housed runner.number held;
           few = many;
           turn = refl;
           runs = refl;
@@ -164,8 +168,11 @@ module _ {F T X : Type 0} (its : ℕ → Lent) (owner : Owner) (c : Choice) (s :
             let stands = other_events its c y b (p.events ++ shown) it.0 in
             let numbered = makes_numbered its c s u owner.number call (shown ++ Answers Yes ∷ []) y how known.numbered many it.0 in
             let listed = subst EachListed (sym kept.0.1) (each_listed (polled p) (busy p) s.runs known.listed) in
-            let going =
-            going_there its y mid stands runner.number (subst (λ o. has_own runner.number o ≡ true) (sym kept.0.1) held) in
+            let has_own_y = subst (λ o. has_own runner.number o ≡ true) (sym kept.0.1) held in
+            let going = going_there its y mid stands runner.number has_own_y in
+            let housed =
+            still_housed owner.ticks s y p mid (ap (λ o. numbers o.queues) kept.0.1) kept.0.0.2
+            (λ v among. known.housed.living v (sym (ap (is_among v) kept.1.whos) ∙ among)) known.housed in
             let few = subst (λ k. k ≤ c.tells) (sym kept.1.long) many in
             a_search (record { run = runner.number; waker = w; at = mid })
             (sought ∙ ap (λ b. if b then Some (record { run = runner.number; waker = w; at = mid }) else None) (way ∙ ap not less))
@@ -179,6 +186,7 @@ module _ {F T X : Type 0} (its : ℕ → Lent) (owner : Owner) (c : Choice) (s :
               numbered = numbered;
               listed = listed;
               going = going;
+              room = run_room its owner y mid stands numbered housed runner.number has_own_y;
               few = few;
               turn = ends_turn its c s y u stage call (shown ++ Answers Yes ∷ []) ends how;
               runs = kept.0.1;

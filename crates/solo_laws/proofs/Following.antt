@@ -85,6 +85,7 @@ pub mod Keeping
 pub mod InVain
 pub mod RunResting
 pub mod RunRefusing
+pub mod ListedWithin
 pub mod Listed
 pub mod OwnKept
 pub mod Takings

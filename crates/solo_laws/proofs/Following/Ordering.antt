@@ -16,7 +16,8 @@ use Rattle.solo_laws.proofs.Following.Cells.{same_number}
 use Rattle.solo_laws.proofs.Following.Due.{clash}
 use Rattle.solo_laws.proofs.Following.Listed.{its_place}
 use Rattle.solo_laws.proofs.Following.Listing.{there}
-use Rattle.solo_laws.proofs.Following.Lists.{got_below, length_map, length_set, map_append}
+use Rattle.solo_laws.proofs.Following.ListedWithin.{Within, changed_within, closed_within, listed_within, opened_within}
+use Rattle.solo_laws.proofs.Following.Lists.{got_below, length_map, map_append}
 use Rattle.solo_laws.proofs.Following.Numbers.{turn}
 use Rattle.solo_laws.proofs.Following.Owns.{changed_now, changed_numbers, numbers}
 
@@ -32,9 +33,6 @@ lt_next n m = by (nat_lt n m) refl
 
 not_zero : (n : ℕ) → nat_lt n 0 ≡ false
 not_zero n = grind (arith, nat_tests)
-
-less : (a b : ℕ) → nat_lt a b ≡ true → a < b
-less a b is = grind (arith, nat_tests)
 
 past : (a b : ℕ) → nat_lt a b ≡ false → b ≤ a
 past a b is = grind (arith, nat_tests)
@@ -128,10 +126,14 @@ map_get [] i q is = absurd cc
 map_get (x ∷ qs) zero q is = ap (λ (o : Option Own). or o (λ q. Some q.number) None) is
 map_get (x ∷ qs) (suc i) q is = map_get qs i q is
 
+-- the numbers of those at which others look
+abbrev numbered : own.OwnQueuesValue → List ℕ
+numbered o = take o.listed (numbers o.queues)
+
 -- so they stand
 pub record Ordered (order : List ℕ) (o : own.OwnQueuesValue) : Type 0 where
-  pub is : take o.listed (numbers o.queues) ≡ order
-  pub within : o.listed ≤ length o.queues
+  pub is : numbered o ≡ order
+  pub within : Within o
 
 length_numbers : (qs : List Own) → length (numbers qs) ≡ length qs
 length_numbers qs = length_map (λ (q : Own). q.number) qs
@@ -141,11 +143,11 @@ pub changed_ordered : (order : List ℕ) (f : List Task → List Task) (r : ℕ)
 changed_ordered order f r o so =
     let now = changed_now f r o in
     let same = ap (λ (o : own.OwnQueuesValue). o.listed) now in
-    let ns = changed_numbers f r o in
-    let long = sym (length_numbers (own.changed f r o).queues) ∙ (ap (λ (ns : List ℕ). length ns) ns ∙ length_numbers o.queues) in
     record {
-      is = ap (λ n. take n (numbers (own.changed f r o).queues)) same ∙ (ap (λ ns. take o.listed ns) ns ∙ so.is);
-      within = let within = so.within in omega (arith, same, long, within);
+      is =
+          ap (λ n. take n (numbers (own.changed f r o).queues)) same
+          ∙ (ap (λ ns. take o.listed ns) (changed_numbers f r o) ∙ so.is);
+      within = changed_within f r o so.within;
     }
 
 pub opened_ordered : (order : List ℕ) (o : own.OwnQueuesValue) → Ordered order o → Ordered order (own.opened o)
@@ -157,18 +159,14 @@ opened_ordered order o so =
       is =
           ap (λ ns. take o.listed ns) (map_append (λ (q : Own). q.number) o.queues (new ∷ []))
           ∙ (take_before o.listed (numbers o.queues) (o.made ∷ []) (omega (arith, long, within)) ∙ so.is);
-      within =
-          let more = length_append o.queues new in omega (arith, more, within);
+      within = opened_within o so.within;
     }
-  where
-    length_append : (qs : List Own) (q : Own) → length (qs ++ q ∷ []) ≡ suc (length qs)
-    length_append [] q = refl
-    length_append (x ∷ qs) q = ap suc (length_append qs q)
 
 -- one whose run is polled
 pub listed_ordered : (order : List ℕ) (r : ℕ) (o : own.OwnQueuesValue) (ts : List Task) → own.queue_of r o.queues ≡ Some ts
     → Ordered order o → Ordered (with_run r order) (own.listed r o)
-listed_ordered order r o ts has so = by (own.place_of r o.queues) refl has
+listed_ordered order r o ts has so =
+    record { is = by (own.place_of r o.queues) refl has; within = listed_within r o so.within }
   where
     of_order : (b : Bool) → among r (take o.listed (numbers o.queues)) ≡ b
         → with_run r order ≡ (if b then order else order ++ r ∷ [])
@@ -176,8 +174,8 @@ listed_ordered order r o ts has so = by (own.place_of r o.queues) refl has
 
     at : (m : ℕ) (q : Own) → slice_get o.queues m ≡ Some q → q.number ≡ r → (b : Bool) → nat_lt m o.listed ≡ b
         → among r (take o.listed (numbers o.queues)) ≡ b
-        → Ordered (with_run r order) (choose b o (record o { queues = swap o.queues o.listed m; listed = o.listed + 1 }))
-    at m q here same true early is = record { is = so.is ∙ sym (of_order true is); within = so.within }
+        → numbered (choose b o (record o { queues = swap o.queues o.listed m; listed = o.listed + 1 })) ≡ with_run r order
+    at m q here same true early is = so.is ∙ sym (of_order true is)
     at m q here same false late is =
         let far = past m o.listed late in
         let inside = got_below o.queues m q here in
@@ -195,22 +193,16 @@ listed_ordered order r o ts has so = by (own.place_of r o.queues) refl has
         ∙ (map_set first m other
         ∙ ap (λ ns. slice_set ns m other.number)
         (map_set o.queues o.listed mine ∙ ap (λ n. slice_set (numbers o.queues) o.listed n) mine_is)) in
-        let long : length (swap o.queues o.listed m) ≡ length o.queues =
-        ap (λ (qs : List Own). length qs) (sym swap_so) ∙ (length_set first m other ∙ length_set o.queues o.listed mine) in
-        record {
-          is =
-              ap (λ n. take n (numbers (swap o.queues o.listed m))) (next o.listed)
-              ∙ (ap (take (suc o.listed)) numbers_are
-              ∙ (swapped (numbers o.queues) o.listed m r other.number far at_m at_n
-              ∙ (ap (λ ns. ns ++ r ∷ []) so.is ∙ sym (of_order false is))));
-          within = omega (arith, inside_too, long);
-        }
+        ap (λ n. take n (numbers (swap o.queues o.listed m))) (next o.listed)
+        ∙ (ap (take (suc o.listed)) numbers_are
+        ∙ (swapped (numbers o.queues) o.listed m r other.number far at_m at_n
+        ∙ (ap (λ ns. ns ++ r ∷ []) so.is ∙ sym (of_order false is))))
       where
         next : (n : ℕ) → n + 1 ≡ suc n
         next n = omega arith
 
     by : (m : Option ℕ) → own.place_of r o.queues ≡ m → own.queue_at m o.queues ≡ Some ts
-        → Ordered (with_run r order) (own.listed_at m o)
+        → numbered (own.listed_at m o) ≡ with_run r order
     by None is has = absurd cc
     by (Some m) is has =
         let it = its_place r m o.queues is in
@@ -220,7 +212,7 @@ listed_ordered order r o ts has so = by (own.place_of r o.queues) refl has
 -- one whose run goes
 pub closed_ordered : (order : List ℕ) (r : ℕ) (o : own.OwnQueuesValue) → Ordered order o
     → Ordered (without (λ k. r == k) order) (own.closed r o)
-closed_ordered order r o so = by (own.place_of r o.queues) refl
+closed_ordered order r o so = record { is = by (own.place_of r o.queues) refl; within = closed_within r o so.within }
   where
     early : (x : Option ℕ) → own.place_of r o.queues ≡ x
         → among r (take o.listed (numbers o.queues)) ≡ or x (λ m. nat_lt m o.listed) false
@@ -276,32 +268,9 @@ closed_ordered order r o so = by (own.place_of r o.queues) refl
             (sym (ap (λ b. cond b (Some (1 + k)) None) (lt_next k (length qs))) ∙ is) rest
             ∙ sym (ap (λ b. if b then numbers qs else q.number ∷ without (λ k. r == k) (numbers qs)) (same_test r q.number ∙ other))
 
-    by : (x : Option ℕ) → own.place_of r o.queues ≡ x → Ordered (without (λ k. r == k) order) (own.closed_at x o)
-    by None is = record {
-      is = so.is ∙ sym (none_out order (ap (among r) (sym so.is) ∙ early None is));
-      within = so.within;
-    }
-    by (Some m) is = record {
-      is =
-          ap (λ ns. take (choose (nat_lt m o.listed) (o.listed - 1) o.listed) ns) (removed o.queues m is)
-          ∙ (ap (λ b. take (if b then o.listed - 1 else o.listed) (without (λ k. r == k) (numbers o.queues))) (sym (early (Some m) is))
-          ∙ (take_without r o.listed (numbers o.queues) ∙ ap (λ ns. without (λ k. r == k) ns) so.is));
-      within = fewer (nat_lt m o.listed) refl;
-    }
-      where
-        within : m < length o.queues
-        within = let it = its_place r m o.queues is in got_below o.queues m it.0 it.1
-
-        one_gone : (qs : List Own) (m : ℕ) → m < length qs → suc (length (remove qs m)) ≡ length qs
-        one_gone [] m below = absurd (omega (arith, below))
-        one_gone (q ∷ qs) zero below = refl
-        one_gone (q ∷ qs) (suc m) below = ap suc (one_gone qs m (omega (arith, below)))
-
-        fewer : (b : Bool) → nat_lt m o.listed ≡ b → choose b (o.listed - 1) o.listed ≤ length (remove o.queues m)
-        fewer true early =
-            let all = so.within in
-            let gone = one_gone o.queues m within in
-            let is = less m o.listed early in
-            omega (arith, all, gone, is)
-        fewer false late =
-            let far = past m o.listed late in let gone = one_gone o.queues m within in omega (arith, far, gone, within)
+    by : (x : Option ℕ) → own.place_of r o.queues ≡ x → numbered (own.closed_at x o) ≡ without (λ k. r == k) order
+    by None is = so.is ∙ sym (none_out order (ap (among r) (sym so.is) ∙ early None is))
+    by (Some m) is =
+        ap (λ ns. take (choose (nat_lt m o.listed) (o.listed - 1) o.listed) ns) (removed o.queues m is)
+        ∙ (ap (λ b. take (if b then o.listed - 1 else o.listed) (without (λ k. r == k) (numbers o.queues))) (sym (early (Some m) is))
+        ∙ (take_without r o.listed (numbers o.queues) ∙ ap (λ ns. without (λ k. r == k) ns) so.is))

@@ -1,7 +1,6 @@
 -- After each call the own queues at which others look stand in the order in which their runs were first polled.
-use Rattle.std.proofs.Common.{◌≡◌, ℕ, suc, ◌≤◌, ◌==◌, not, if◌then◌else◌, Bool, true, false, List, [], ◌∷◌, ◌++◌, drop, filter, length, map}
+use Rattle.std.proofs.Common.{◌≡◌, ℕ, suc, ◌==◌, not, if◌then◌else◌, Bool, true, false, List, [], ◌∷◌, ◌++◌, drop, filter, map}
 use Rattle.std.proofs.Common.{Option, Some, None, slice_get, refl, sym, ap, subst, ◌∙◌, arith}
-use Rattle.solo.specs.declared.names.Kind.{Kind}
 use Rattle.solo.specs.declared.names.Task.{Task}
 use Rattle.solo.specs.declared.names.SoloWaker.{SoloWaker}
 use Rattle.solo.specs.declared.owed.Lent.{Lent}
@@ -11,22 +10,19 @@ use Rattle.solo.specs.declared.ticks.Ticker.{Ticker}
 use Rattle.solo.specs.OwnQueues as own
 use Rattle.solo.specs.Runs as runs
 use Rattle.solo.specs.Solo as solo
-use Rattle.solo.specs.Solo.{IsNew}
 use Rattle.solo.specs.Steals as steals
 use Rattle.solo.specs.Ticks as ticks
 use Rattle.plain_scheduler.specs.State.{Answers, ARun, ATick, Choice, Code, Drops, Event, Loses, Plain, Run, Running, Yes}
 use Rattle.plain_scheduler.specs.Lists.{or, without}
 use Rattle.plain_scheduler.specs.Moves.{is_kept}
-use Rattle.plain_scheduler.specs.Calls as plain
 use Rattle.plain_scheduler.specs.Calls.{Call, does}
 use Rattle.plain_scheduler.specs.Usual.{order_by, order_in, with_run}
 use Rattle.solo_laws.specs.Alike.{copies}
 use Rattle.solo_laws.specs.Courses as courses
-use Rattle.solo_laws.specs.Courses.{Acts, Leads, Makes, leads, stays}
-use Rattle.solo_laws.specs.Led.{IsLed}
+use Rattle.solo_laws.specs.Courses.{Acts, Makes}
 use Rattle.solo_laws.specs.Numbered.{ticker_of}
 use Rattle.solo_laws.specs.Ordering.{CallsOrder, order_of}
-use Rattle.solo_laws.specs.Owner.{Owner, new_owner}
+use Rattle.solo_laws.specs.Owner.{Owner}
 use Rattle.solo_laws.specs.Road.{due_task, wakes as wakes_of}
 use Rattle.solo_laws.specs.RunGoing as on
 use Rattle.solo_laws.specs.RunGoing.{IsEnding, RunsOn, Searches, Stage, code_at, drop_ends, in_try, loss_ends, poll_ends}
@@ -38,7 +34,7 @@ use Rattle.solo_laws.proofs.Following.Keeping.{keeps}
 use Rattle.solo_laws.proofs.Following.Ordering.{Ordered, changed_ordered, closed_ordered, listed_ordered, opened_ordered}
 use Rattle.solo_laws.proofs.Following.OwnKept.{copies_same, drains_as, found_same, left_as, once_same, rested_same, same_runs}
 use Rattle.solo_laws.proofs.Following.OwnKept.{searched_of, slept_same, sought_of, woken_same}
-use Rattle.solo_laws.proofs.Showing.Courses.{Known, leads_alike, led_known, new_known}
+use Rattle.solo_laws.proofs.Showing.Courses.{Known, led_known}
 
 -- whether its own future is over
 over_by : (o : Option Running) → or o (λ run. run.is_over) true ≡ not (or o (λ run. not run.is_over) false)
@@ -200,49 +196,13 @@ module _ {F T X : Type 0} (its : ℕ → Lent) (order : List ℕ) where
         let ticker = ticker_of owner.number (ATick t) p.lying in
         kept (ticks.left ticker s) (ap (λ (b : own.OwnQueuesValue × ℕ). b.0) (left_as ticker s))
 
-module _ {F T X : Type 0} (its : ℕ → Lent) where
-  -- they stand in some order
-  abbrev pub Within : Solo F T X → Type 0
-  Within s = Ordered (order_of s) s.runs
-
-  some_order : (order : List ℕ) (s : Solo F T X) → Ordered order s.runs → Within s
-  some_order order s o = record { is = refl; within = o.within }
-
-  pub new_within : (limit : ℕ) (kind : Kind) (s : Solo F T X) → IsNew limit kind s → Within s
-  new_within limit kind s is =
-      record {
-        is = refl;
-        within =
-            let listed = ap (λ (o : own.OwnQueuesValue). o.listed) is.runs in omega (arith, listed);
-      }
-
-  acts_known : (owner : Owner) (c : Choice) (s : Solo F T X) (p : Plain T (SoloWaker X)) (now : Owner) (z : Solo F T X)
-      (call : Call T (SoloWaker X)) (shown : List (Event T (SoloWaker X))) → Known its owner s p → length p.lying ≤ c.tells
-      → Acts its owner c s p call shown now z → Known its now z (does wakes_of c call p)
-  acts_known owner c s p now z call shown known many acts =
-      (leads_alike its ((c, call) ∷ []) owner now s z p (shown ++ []) known
-      (leads c call [] owner now now s z z p shown [] many acts (stays now z (does wakes_of c call p)))).0
-
-  pub leads_within : (list : List (Choice × Call T (SoloWaker X))) (owner last : Owner) (s z : Solo F T X) (p : Plain T (SoloWaker X))
-      (shown : List (Event T (SoloWaker X))) → Known its owner s p → Within s → Leads its list owner s p shown last z → Within z
-  leads_within list owner last s z p shown known o (stays owner' s' p') = o
-  leads_within list owner last s z p shown known o (leads c call rest before now later s' y z' p' first others many acts how) =
-      leads_within rest now later y z' (does wakes_of c call p') others
-      (acts_known before c s' p' now y call first known many acts)
-      (some_order (order_by call p' (order_of s')) y (acts_ordered its (order_of s') before c s' p' known.stands o now y call first acts)) how
-
-  pub led_within : (owner : Owner) (s : Solo F T X) (p : Plain T (SoloWaker X)) → IsLed its owner s p → Within s
-  led_within owner s p led =
-      leads_within led.calls (new_owner led.before) owner led.first s (plain.new led.limit led.is_static) led.shown
-      (new_known its led.before led.limit led.kind led.is_static led.first led.is_new led.counted)
-      (new_within led.limit led.kind led.first led.is_new) led.leads
-
+module _ {F T X : Type 0} (its : ℕ → Lent) (owner : Owner) (c : Choice) (s : Solo F T X) (p : Plain T (SoloWaker X))
+    (known : Known its owner s p) where
   -- and so each call leaves them
-  pub call_order : (owner : Owner) (c : Choice) (s : Solo F T X) (p : Plain T (SoloWaker X)) → Stands its s p → Within s
-      → (now : Owner) (z : Solo F T X) (call : Call T (SoloWaker X)) (shown : List (Event T (SoloWaker X)))
+  pub call_order : (now : Owner) (z : Solo F T X) (call : Call T (SoloWaker X)) (shown : List (Event T (SoloWaker X)))
       → Acts its owner c s p call shown now z → order_of z ≡ order_by call p (order_of s)
-  call_order owner c s p so o now z call shown acts = (acts_ordered its (order_of s) owner c s p so o now z call shown acts).is
+  call_order now z call shown acts =
+      (acts_ordered its (order_of s) owner c s p known.stands (record { is = refl; within = known.listed.within }) now z call shown acts).is
 
 pub calls_order : {F T X : Type 0} → CallsOrder F T X
-calls_order its owner c s p now z call shown led many acts =
-    call_order its owner c s p (led_known its owner s p led).stands (led_within its owner s p led) now z call shown acts
+calls_order its owner c s p now z call shown led many acts = call_order its owner c s p (led_known its owner s p led) now z call shown acts

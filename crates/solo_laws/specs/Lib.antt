@@ -42,3 +42,5 @@ pub mod RunsGo
 pub mod SearchesGo
 pub mod Choosing
 pub mod Counting
+pub mod Ordering
+pub mod Starting

@@ -1,0 +1,9 @@
+use Rattle.solo_laws.proofs.Choices.AsUsual.{chooses_there}
+use Rattle.solo_laws.proofs.Choices.Searched.{searched_there}
+use Rattle.solo_laws.proofs.Showing.Courses.{led_known}
+use Rattle.solo_laws.proofs.choosing.calls_choose_as_usual.Goals as goal
+
+pub returns : goal.returns
+returns g k its owner c s p now z call shown led many few acts x is has =
+    chooses_there its owner c s x now z few
+    (searched_there its owner c s p (led_known its owner s p led) many now z call shown acts x is) has

@@ -1,3 +1,4 @@
+pub mod Rescheduling
 pub mod BehindTake
 pub mod Enlisting
 pub mod Still

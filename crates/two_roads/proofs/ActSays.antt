@@ -11,7 +11,8 @@ use Rattle.machine_roads.specs.Within.{Act, ActsBy, IsAct, StandsAlike, is_on_wa
 use Rattle.two_roads.proofs.Refusing.{Lie}
 use Rattle.two_roads.proofs.Says.{ActSays}
 
-pub act_says : (s : Machine) → Reached s → (q : Plain Output Waker) (a : Act) → StandsAlike (standing s a.party) q → IsAct s a
-    → is_on_way (reverse (stack s a.party)) a.first ≡ true → (r : Plain Output Waker) (by : ActsBy s a.party a.first q r)
+abbrev pub AllSay : Type 0
+AllSay =
+    (s : Machine) → Reached s → (q : Plain Output Waker) (a : Act) → StandsAlike (standing s a.party) q → IsAct s a
+    → is_on_way (reverse (stack s a.party)) a.first ≡ true → (r : Plain Output Waker) (by : ActsBy s a.party a.first q r a.left.world)
     → Lie s.world q → heard_in a.left.world.trace ≡ map shown_alike r.events → Lie a.left.world r → ActSays s a by.choice by.made q
-act_says s reached q a stands it way r by lie seen lie_then = ?

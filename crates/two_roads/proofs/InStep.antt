@@ -24,6 +24,7 @@ use Rattle.machine_roads.specs.View.{Output, wakes as wakes_in}
 use Rattle.machine_roads.specs.Within.{Act, ActAlike, AreActs, StandsAlike, alike, nowhere, standing}
 use Rattle.machine_roads.proofs.Acts.{acts_alike, goes_rest, taken_over}
 use Rattle.machine_roads.proofs.Calling.{begin_alike}
+use Rattle.solo_laws.proofs.Showing.Counts.{Below, acts_below, new_below}
 use Rattle.solo_laws.proofs.Showing.Courses.{Known, leads_alike, new_known}
 use Rattle.solo_laws.specs.Counting.{counts_of}
 use Rattle.solo_laws.specs.Courses.{Leads, leads, stays}
@@ -34,7 +35,7 @@ use Rattle.two_roads.specs.Acting.{AreOfSteps, acts_by, left_of}
 use Rattle.two_roads.specs.Renaming.{call_as, event_as, lying_as, renamed}
 use Rattle.two_roads.specs.Together.{as_heard, nothing, numbered}
 use Rattle.two_roads.proofs.Acted.{one_same, tells_at}
-use Rattle.two_roads.proofs.ActSays.{act_says}
+use Rattle.two_roads.proofs.ActSays.{AllSay}
 use Rattle.two_roads.proofs.Both.{map_twice}
 use Rattle.two_roads.proofs.CallSays.{call_says}
 use Rattle.two_roads.proofs.Inner.{acts_seen, seen_in}
@@ -42,7 +43,7 @@ use Rattle.two_roads.proofs.Meant.{one_made}
 use Rattle.two_roads.proofs.Refusing.{lie_in}
 use Rattle.two_roads.proofs.Robbed.{is_robbed}
 use Rattle.two_roads.proofs.Says.{ActSays, has_counted}
-use Rattle.two_roads.proofs.StepAlike.{IsInStep, counts_next, takes_alike, turns_next}
+use Rattle.two_roads.proofs.StepAlike.{IsInStep, RobsSame, counts_next, takes_alike, turns_next}
 use Rattle.two_roads.proofs.Words.{length_map}
 
 -- only who does a step has anything else to do
@@ -56,18 +57,19 @@ OthersRest p s = (q : ℕ) → ¬ (q ≡ p) → stack s q ≡ []
 fewer : (n m t : ℕ) → n ≡ m → m < t → n ≤ t
 fewer n m t same below = omega (arith, same, below)
 
-module _ {F T X : Type 0} (its : ℕ → Lent) (number : X → ℕ) where
+module _ {F T X : Type 0} (its : ℕ → Lent) (number : X → ℕ) (act_says : AllSay) where
   in_step : (acts : List Act) (s : Machine) → Reached s → (before : ℕ) → OthersRest before s → (q : Plain Output Waker)
       → StandsAlike (standing s before) q → AreActs s acts → (go : ActAlike s q acts) → (p : Plain T (SoloWaker X))
       → renamed nothing (numbered number) p ≡ q → (cs : List (Choice × Call T (SoloWaker X))) (owner last : Owner) (y z : Solo F T X)
       (shown : List (Event T (SoloWaker X))) → Leads its cs owner y p shown last z → Known its owner y p
-      → IsInStep s.world.urgent_turns y.lines.turn → ((k : ℕ) → has_counted s.world k ≡ counts_of owner k) → AreOfSteps number s acts p cs
+      → IsInStep s.world.urgent_turns y.lines.turn → ((k : ℕ) → has_counted s.world k ≡ counts_of owner k) → Below owner
+      → AreOfSteps number s acts p cs
       → renamed nothing (numbered number) (course wakes cs p) ≡ course wakes_in (acts_by s q acts go) q
-  in_step [] s reached before others q stands are go p is [] owner last y z shown led known step same of = is
-  in_step [] s reached before others q stands are go p is (x ∷ xs) owner last y z shown led known step same of = absurd of
-  in_step (a ∷ acts) s reached before others q stands are go p is [] owner last y z shown led known step same of = absurd of
+  in_step [] s reached before others q stands are go p is [] owner last y z shown led known step same below of = is
+  in_step [] s reached before others q stands are go p is (x ∷ xs) owner last y z shown led known step same below of = absurd of
+  in_step (a ∷ acts) s reached before others q stands are go p is [] owner last y z shown led known step same below of = absurd of
   in_step (a ∷ acts) s reached before others q stands are go p is (x ∷ xs) owner last y z shown
-      (leads c call rest b now e t y2 v r first more tells acts_so on) known step same of =
+      (leads c call rest b now e t y2 v r first more tells acts_so on) known step same below of =
       let it = are.0 in
       let d : Choice = go.1.choice in
       let made : Call Output Waker = call_as nothing (numbered number) call in
@@ -85,11 +87,11 @@ module _ {F T X : Type 0} (its : ℕ → Lent) (number : X → ℕ) where
       fewer (length p.lying) (length q.lying) d.tells
       (sym (length_map (lying_as (numbered number)) p.lying) ∙ ap (λ (z : Plain Output Waker). length z.lying) is)
       (tells_at s.world q d a.first go.1.chosen) in
-      let says = call_says its b c t p now y2 call first known tells acts_so in
+      let says = call_says its b c t p now y2 call first known below tells acts_so in
       let behind : StandsAlike (standing a.left a.party) (does wakes_in d made q) =
       subst (λ z. StandsAlike (standing a.left a.party) z) (sym go.1.so ∙ ap (λ (m : Call Output Waker). does wakes_in d m q) call_is) go.2 in
-      let robs =
-      λ (x : Search T (SoloWaker X)) x_is x_there found kept.
+      let robs : RobsSame number s a c d b now t y2 call p tells tells_so theirs says step same =
+      λ x x_is x_there found kept.
       is_robbed s.world a.left.world (standing s a.party) (standing a.left a.party) refl refl q here d made behind
       (record { run = x.run; waker = numbered number x.waker; at = renamed nothing (numbered number) x.at })
       (ap (λ (z : Plain Output Waker). searches wakes_in d made z) (sym is) ∙ x_there) kept
@@ -104,7 +106,8 @@ module _ {F T X : Type 0} (its : ℕ → Lent) (number : X → ℕ) where
       (goes_rest a.steps (after_step s a.first) a.left a.party it.rests k.1 (rest_still a.party s a.first it.its it.others)) go.0 go.2
       are.2 go.3 (does wakes c call p) one xs now last y2 z more on next
       (turns_next number s a c d b now t y2 call p tells tells_so theirs says step same of.0.refused)
-      (counts_next number s a c d b now t y2 call p tells tells_so theirs says step same) of.1
+      (counts_next number s a c d b now t y2 call p tells tells_so theirs says step same)
+      (acts_below its b c below t p now y2 call first acts_so) of.1
       ∙ ap (course wakes_in (acts_by a.left go.0 acts go.3)) (sym go.1.so)
 
   -- from new ones on
@@ -126,7 +129,7 @@ module _ {F T X : Type 0} (its : ℕ → Lent) (number : X → ℕ) where
       subst (λ xs. StandsAlike (done s.world (reverse xs)) q) (sym (empty 0)) (alike nowhere (begin_alike limit kind parties)) in
       in_step acts s reached 0 (λ n apart. empty n) q stands they go (new limit (is_static_kind kind)) refl cs (new_owner before) after
       first last shown led (new_known its before limit solo_kind (is_static_kind kind) first is_new counted)
-      (ap (λ (l : LinesValue). 7 + l.turn % 8) is_new.lines) (λ k. refl) of
+      (ap (λ (l : LinesValue). 7 + l.turn % 8) is_new.lines) (λ k. refl) (new_below before) of
 
   pub steps_together : (limit : ℕ) (kind : MachineKind) (solo_kind : Kind) (parties : ℕ) (acts : List Act)
       (cs : List (Choice × Call T (SoloWaker X))) (first last : Solo F T X) (shown : List (Event T (SoloWaker X)))

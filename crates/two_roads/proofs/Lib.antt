@@ -27,8 +27,6 @@ pub mod Meant
 pub mod Acted
 pub mod ActedToEnd
 pub mod ActTurns
-pub mod SoloTurns
 pub mod InStep
 pub mod InStepToEnd
 pub mod TickTurns
-pub mod SoloTicks

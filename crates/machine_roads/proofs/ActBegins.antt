@@ -288,7 +288,8 @@ module _ (s : Machine) (reached : Reached s) (p : ℕ) (q : Plain Output Waker) 
   one_begins call.TryTick on may = λ hints all rests.
       let e = alone p hints (upon below (begins p here call.TryTick s.world)) in
       let x : plain_calls.Call Output Waker = plain_calls.TryTick in
-      take call.TryTick x Granted try_tick tt Try yes by_try (record { last = λ r. refl; left = λ r. refl }) hints (try_runs (choice Granted) q)
+      take call.TryTick x Granted try_tick tt Try yes by_try (record { last = λ r. refl; left = λ r. refl }) hints
+      (try_runs (choice Granted) q)
       (stops_so Try yes below q e (does wakes (choice Granted) x q)
       (tries_so p below s.world q under follows (choice Granted) refl many hints all rests))
   one_begins call.IsEmpty on may =
@@ -357,7 +358,8 @@ module _ (s : Machine) (reached : Reached s) (p : ℕ) (q : Plain Output Waker) 
       let so =
       polls_tick_so p here below s.world q under follows (choice Granted) t b refl (more_by_one (length q.lying))
       (can_poll s reached p t b may) hints all rests in
-      take (call.PollTick t b) x so.0 (poll_tick t b) so.2 (Tick t a) final (by_tick t a) (record { last = λ r. refl; left = λ r. refl }) hints
+      take (call.PollTick t b) x so.0 (poll_tick t b) so.2 (Tick t a) final (by_tick t a) (record { last = λ r. refl; left = λ r. refl })
+      hints
       (poll_tick_runs (choice so.0) q t a)
       (stops_so (Tick t a) final below q e (does wakes (choice so.0) x q) so.1)
   one_begins (call.DropTick t) on may =

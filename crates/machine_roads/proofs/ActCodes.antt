@@ -91,7 +91,7 @@ module _ (s : Machine) (reached : Reached s) (p : ℕ) (there : p < length s.par
   many : length q.lying ≤ suc (length q.lying)
   many = enough (length q.lying)
 
-  room : length q.lying < suc (length q.lying)
+  pub room : length q.lying < suc (length q.lying)
   room = more_by_one (length q.lying)
 
   abbrev pub Comes : UserEnd → Done → Type 0
@@ -113,7 +113,7 @@ module _ (s : Machine) (reached : Reached s) (p : ℕ) (there : p < length s.par
       passed (accepts o u) WrongAnswer None
       (sym (ap (λ t. answer_refusal t u) (top_of (stack s p) o os is).0) ∙ (sym (refusal-there s (Answer p u) there) ∙ may))
 
-  came_by : (u : UserEnd) (x : plain_calls.Call Output Waker) → IsMade s p (Answer p u) x → (e : Done) (d : Choice)
+  pub came_by : (u : UserEnd) (x : plain_calls.Call Output Waker) → IsMade s p (Answer p u) x → (e : Done) (d : Choice)
       → d.tells ≡ c1.tells → IsLaterAnew d x q (does wakes d x q) → Chooses s.world e.world d x q
       → StandsSo e (does wakes d x q) → Comes u e
   came_by u x is e d tells anew chooses so = (
@@ -131,7 +131,7 @@ module _ (s : Machine) (reached : Reached s) (p : ℕ) (there : p < length s.par
   )
 
   module _ (below : List Op) (inside : List (Code Output Waker)) (nested : Nested below inside) where
-    under : is_resting below ≡ true
+    pub under : is_resting below ≡ true
     under = rests_in below inside nested
 
     abbrev pub r0 : Plain Output Waker
@@ -144,7 +144,7 @@ module _ (s : Machine) (reached : Reached s) (p : ℕ) (there : p < length s.par
     same : (code : Code Output Waker) → q.inside ≡ code ∷ inside → r1 code ≡ q
     same code at = ap (λ (codes : List (Code Output Waker)). record q { inside = codes }) (sym at)
 
-    follows0 : (code : Code Output Waker) → q.inside ≡ code ∷ inside → waking_in (code ∷ inside) ≡ waking_in inside → (w : World)
+    pub follows0 : (code : Code Output Waker) → q.inside ≡ code ∷ inside → waking_in (code ∷ inside) ≡ waking_in inside → (w : World)
         → Follows w q → Follows w r0
     follows0 code at quiet w follows = stands_in inside w q follows (sym (ap (λ codes. waking_in codes) at ∙ quiet))
 
@@ -153,7 +153,7 @@ module _ (s : Machine) (reached : Reached s) (p : ℕ) (there : p < length s.par
     Says x code e d = Chooses s.world e.world d x (r1 code) × LiesThere (r1 code) (does wakes d x (r1 code)) d x
 
     -- the call has ended, and no run has changed
-    back : (u : UserEnd) (x : plain_calls.Call Output Waker) → IsMade s p (Answer p u) x → (code : Code Output Waker)
+    pub back : (u : UserEnd) (x : plain_calls.Call Output Waker) → IsMade s p (Answer p u) x → (code : Code Output Waker)
         → q.inside ≡ code ∷ inside → (e : Done) → Chooses s.world e.world c1 x (r1 code) → e.next ≡ below
         → (does wakes c1 x (r1 code)).inside ≡ inside
         → Counted below (does wakes c1 x (r1 code)).runs → Follows e.world (does wakes c1 x (r1 code)) → Comes u e
@@ -168,7 +168,7 @@ module _ (s : Machine) (reached : Reached s) (p : ℕ) (there : p < length s.par
         }))
 
     -- where it lands, by a choice that tells alike
-    lands_so : (u : UserEnd) (x : plain_calls.Call Output Waker) → IsMade s p (Answer p u) x → (code : Code Output Waker)
+    pub lands_so : (u : UserEnd) (x : plain_calls.Call Output Waker) → IsMade s p (Answer p u) x → (code : Code Output Waker)
         → q.inside ≡ code ∷ inside → (e : Done) (rests : is_resting e.next ≡ true)
         → Lands p below r0 nested under c1 room e rests (λ d. does wakes d x (r1 code)) (Says x code e) → Comes u e
     lands_so u x is_made code at e rests lands =
@@ -179,13 +179,13 @@ module _ (s : Machine) (reached : Reached s) (p : ℕ) (there : p < length s.par
         (subst (λ y. StandsSo e (does wakes d x y)) (same code at) lands.stands)
 
     -- of no search nothing is said
-    none_says : (x : plain_calls.Call Output Waker) (code : Code Output Waker) (e : Done) → searches wakes c1 x (r1 code) ≡ None
+    pub none_says : (x : plain_calls.Call Output Waker) (code : Code Output Waker) (e : Done) → searches wakes c1 x (r1 code) ≡ None
         → CountsSo s.world e.world → Says x code e c1
     none_says x code e none stays =
         (none_so s.world e.world x (r1 code) c1 none stays, λ y is vain later. absurd (clash (ap is_some none) (ap is_some is)))
 
     -- of a search it is
-    found_says : (x : plain_calls.Call Output Waker) (code : Code Output Waker) (e : Done) (d : Choice) (w : World) (r : ℕ) (a : Waker)
+    pub found_says : (x : plain_calls.Call Output Waker) (code : Code Output Waker) (e : Done) (d : Choice) (w : World) (r : ℕ) (a : Waker)
         (b : Plain Output Waker) → Still s.world w → searches wakes d x (r1 code) ≡ Some (search_at r a b)
         → Searched r a w b d e.world (does wakes d x (r1 code)) → Says x code e d
     found_says x code e d w r a b still is so = (
@@ -193,7 +193,7 @@ module _ (s : Machine) (reached : Reached s) (p : ℕ) (there : p < length s.par
       λ y its vain later. later_so s.world e.world x (r1 code) d w r a b (does wakes d x (r1 code)) is so y its vain later,
     )
 
-    count_at : (os xs : List Op) → reverse (stack s p) ≡ os → Alike os xs → Counted xs q.runs
+    pub count_at : (os xs : List Op) → reverse (stack s p) ≡ os → Alike os xs → Counted xs q.runs
     count_at os xs is alike_so = like os xs q.runs alike_so (subst (λ os. Counted os q.runs) is counted)
 
     module _ (taker : Taker Waker) (final : Op) (it : GoesOnBy taker final) (os : List Op) (is : reverse (stack s p) ≡ os)
@@ -433,161 +433,3 @@ module _ (s : Machine) (reached : Reached s) (p : ℕ) (there : p < length s.par
           (λ z. ⊥) (tells_so Ends code e rests behind (λ d. refl)) (λ stops runs none still. absurd stops)
           (forgotten_still p below under s.world taker final r0 c1 hints f forgotten0 many all rests))
       from_forgotten f at it_is u ok = absurd cc
-
-    -- the poll of a run's own future: with an output, or without
-    pub from_own_poll : (x : RunPoll) → reverse (stack s p) ≡ op.User (user_op.PollOwn x) ∷ below → q.inside ≡ PollOwn x.run x.waker ∷
-        inside
-        → Follows s.world q → (u : UserEnd) → accepts (op.User (user_op.PollOwn x)) u ≡ true
-        → Leads u (op.User (user_op.PollOwn x)) below
-    from_own_poll x is at follows (end.Polled answer.Ready) ok = λ hints all rests.
-        let os = op.User (user_op.DropOwn x.run) ∷ op.List (list_op.LockWrite (section.Unregister x.run reply.Ready)) ∷ below in
-        let e = alone p hints (done s.world os) in
-        let stays : done s.world os ≡ e = sym (idles p hints os s.world refl) in
-        let z : Plain Output Waker = r1 (DropOwn x.run Ready) in
-        came_by (end.Polled answer.Ready) (EndsWith tt) gives e c1 refl tt
-        (subst (λ y. Chooses s.world e.world c1 (EndsWith tt) y) (same (PollOwn x.run x.waker) at)
-        (none_so s.world e.world (EndsWith tt) (r1 (PollOwn x.run x.waker)) c1 refl
-        (subst (λ (d : Done). CountsSo s.world d.world) stays (λ k. refl))))
-        (subst (λ y. StandsSo e (does wakes c1 (EndsWith tt) y)) (same (PollOwn x.run x.waker) at)
-        (subst (λ (d : Done). StandsSo d z) stays
-        (record {
-          alike = alike (drops_own x.run below inside nested)
-              (stands_in (DropOwn x.run Ready ∷ inside) s.world q follows (sym (ap (λ codes. waking_in codes) at)));
-          counted = record {
-            taken = count0.taken;
-            going = λ r is_left. goes r (r == x.run) refl is_left;
-          };
-        })))
-      where
-        xs : List Op
-        xs = op.User (user_op.PollOwn x) ∷ below
-
-        count0 : Counted below q.runs
-        count0 = count_at (op.User (user_op.PollOwn x) ∷ below) below is (record { last = λ r. refl; left = λ r. refl })
-
-        polled : over_in x.run q.runs ≡ false
-        polled =
-            going_here s reached p there (op.User (user_op.PollOwn x) ∷ below) is q s.world follows refl refl x.run
-            (omega (arith, same_self x.run))
-
-        goes : (r : ℕ) (b : Bool) → (r == x.run) ≡ b → ((r == x.run) || some_op (leaves r) below) ≡ true → over_in r q.runs ≡ false
-        goes r true here is_left = ap (λ k. over_in k q.runs) (same_of r x.run here) ∙ polled
-        goes r false apart is_left = count0.going r (ap (λ b. b || some_op (leaves r) below) (sym apart) ∙ is_left)
-    from_own_poll x is at follows (end.Polled answer.Pending) ok = λ hints all rests. by hints all rests
-      where
-        xs : List Op
-        xs = op.User (user_op.PollOwn x) ∷ below
-
-        count : Counted (goes_on_by x false ∷ below) q.runs
-        count = count_at xs (goes_on_by x false ∷ below) is (record { last = λ r. refl; left = λ r. refl })
-
-        unused : weigh (running_of x.run) below ≡ 0
-        unused = omega (arith, used_once s reached p there xs is x.run, same_self x.run)
-
-        few : nat_lt (taken_in x.run q.runs) 200 ≡ true
-        few = subst (λ b. Taken b (taken_in x.run q.runs)) (none_last x.run below unused) (count.taken x.run)
-
-        facts0 : Facts below r0 x
-        facts0 = record {
-          unused = unused;
-          going = going_here s reached p there xs is q s.world follows refl refl x.run (omega (arith, same_self x.run));
-          left = left_here s reached p there xs is q s.world follows refl refl others
-              (λ k off. omega (arith, none_empty k below inside nested off)) (subst (λ os. Counted os q.runs) is counted);
-        }
-
-        search : Done
-        search = done s.world (op.Tick (tick_op.Search (asleep x)) ∷ below)
-
-        will : Choice → Plain Output Waker
-        will d = does wakes d Pends (r1 (PollOwn x.run x.waker))
-
-        -- where something is due it takes, and else it lies down, or is refused memory
-        by : (hints : List Hint) → HasAll p hints search → is_resting (alone p hints search).next ≡ true
-            → Comes (end.Polled answer.Pending) (alone p hints search)
-        by hints all rests =
-            let e = alone p hints search in
-            let lands =
-            after_lands p below r0 nested under c1 room e rests will (Says Pends (PollOwn x.run x.waker) e) x false count facts0
-            (λ d. take_ends d x.run x.waker r0 few) (taken_in x.run q.runs)
-            (goes_from p x below r0 c1.tells (taken_in x.run q.runs) e will (Says Pends (PollOwn x.run x.waker) e) under rests c1 s.world r0
-            (follows0 (PollOwn x.run x.waker) at refl s.world follows) room
-            (between p below r0 nested under c1 room e rests will (Says Pends (PollOwn x.run x.waker) e) x false count facts0) refl
-            (record { hints = hints; has = all; is = refl })
-            (λ d. sym (ap (λ b. if b then plain_takes.take wakes (telling c1.tells d) (Run x.run x.waker) r0
-            else plain_takes.gives_way wakes (telling c1.tells d) x.run x.waker r0) few))
-            (λ d so.
-            found_says Pends (PollOwn x.run x.waker) e (telling c1.tells d) s.world x.run x.waker r0 (still_here s.world) refl so)) in
-            lands_so (end.Polled answer.Pending) Pends pends (PollOwn x.run x.waker) at e rests lands
-    from_own_poll x is at follows u ok = absurd cc
-
-    -- a run has gone: what others have taken stays
-    gone_count : (r : ℕ) → weigh (running_of r) below ≡ 0 → ((k : ℕ) → Taken (some_op (lasts k) below) (taken_in k q.runs))
-        → ((k : ℕ) → (k == r) ≡ false → some_op (leaves k) below ≡ true → over_in k q.runs ≡ false)
-        → Counted below (plain_calls.gone wakes c1 r r0).runs
-    gone_count r unused taken going = record {
-      taken = λ k. subst (Taken (some_op (lasts k) below)) (sym (gone_taken c1 k r r0)) (taken k);
-      going = λ k is_left. goes k (k == r) refl is_left;
-    }
-      where
-        goes : (k : ℕ) (b : Bool) → (k == r) ≡ b → some_op (leaves k) below ≡ true
-            → over_in k (plain_calls.gone wakes c1 r r0).runs ≡ false
-        goes k true here is_left =
-            absurd (clash (ap (λ k. some_op (leaves k) below) (same_of k r here) ∙ none_left r below unused) is_left)
-        goes k false apart is_left =
-            ap (λ o. or o (λ run. run.is_over) true) (gone_spares c1 k r r0 apart) ∙ going k apart is_left
-
-    -- and its drop
-    pub from_own_drop : (r : ℕ)
-        → reverse (stack s p) ≡ op.User (user_op.DropOwn r) ∷ op.List (list_op.LockWrite (section.Unregister r reply.Ready)) ∷ below
-        → q.inside ≡ DropOwn r Ready ∷ inside → Follows s.world q → (u : UserEnd) → accepts (op.User (user_op.DropOwn r)) u ≡ true
-        → Leads u (op.User (user_op.DropOwn r)) (op.List (list_op.LockWrite (section.Unregister r reply.Ready)) ∷ below)
-    from_own_drop r is at follows end.Done ok = λ hints all rests.
-        let xs = op.User (user_op.DropOwn r) ∷ op.List (list_op.LockWrite (section.Unregister r reply.Ready)) ∷ below in
-        let e = alone p hints (done s.world (op.List (list_op.LockWrite (section.Unregister r reply.Ready)) ∷ below)) in
-        let counted0 : Counted xs q.runs = subst (λ os. Counted os q.runs) is counted in
-        let so =
-        own_goes p below under s.world r0 (follows0 (DropOwn r Ready) at refl s.world follows) c1 many r hints all rests in
-        back end.Done Ends ends (DropOwn r Ready) at e
-        (none_so s.world e.world Ends (r1 (DropOwn r Ready)) c1 refl
-        (alone_counts p hints s.world (op.List (list_op.LockWrite (section.Unregister r reply.Ready)) ∷ below)
-        (omega (arith, due_resting counts below under)))) so.0 so.2
-        (gone_count r (omega (arith, used_once s reached p there xs is r, same_self r)) counted0.taken
-        (λ k apart is_left. counted0.going k (ap (λ b. b || some_op (leaves k) below) apart ∙ is_left))) so.1
-    from_own_drop r is at follows u ok = absurd cc
-
-    -- so is that of a run that goes
-    pub from_going : (r : ℕ) (rest : Op) → IsLeaving r rest → reverse (stack s p) ≡ op.User (user_op.DropOwn r) ∷ rest ∷ below
-        → q.inside ≡ DropOwn r DoneAnswer ∷ inside → Follows s.world (plain.runs ended_run r q)
-        → (u : UserEnd) → accepts (op.User (user_op.DropOwn r)) u ≡ true → Leads u (op.User (user_op.DropOwn r)) (rest ∷ below)
-    from_going r rest leaving is at follows end.Done ok = λ hints all rests.
-        let e = alone p hints (done s.world (rest ∷ below)) in
-        let so =
-        own_went p below under s.world r0 r rest leaving
-        (stands_in inside s.world (record q { runs = changed ended_run r q.runs }) (subst (Follows s.world) (runs_is ended_run r q) follows)
-        (sym (ap (λ codes. waking_in codes) at))) c1 many hints all rests in
-        back end.Done Ends ends (DropOwn r DoneAnswer) at e
-        (none_so s.world e.world Ends (r1 (DropOwn r DoneAnswer)) c1 refl (counts_on rest leaving hints)) so.0 so.2 (by rest leaving is)
-        so.1
-      where
-        counts_on : (rest : Op) → IsLeaving r rest → (hints : List Hint)
-            → CountsSo s.world (alone p hints (done s.world (rest ∷ below))).world
-        counts_on rest unlisted hints =
-            alone_counts p hints s.world (op.Run (run_op.Reschedule r reply.Done) ∷ below)
-            (omega (arith, due_resting counts below under))
-        counts_on rest listed hints =
-            alone_counts p hints s.world (op.List (list_op.LockWrite (section.Unregister r reply.Done)) ∷ below)
-            (omega (arith, due_resting counts below under))
-
-        by : (rest : Op) → IsLeaving r rest → reverse (stack s p) ≡ op.User (user_op.DropOwn r) ∷ rest ∷ below
-            → Counted below (plain_calls.gone wakes c1 r r0).runs
-        by rest unlisted is =
-            let xs = op.User (user_op.DropOwn r) ∷ op.Run (run_op.Reschedule r reply.Done) ∷ below in
-            let counted0 : Counted xs q.runs = subst (λ os. Counted os q.runs) is counted in
-            gone_count r (omega (arith, used_once s reached p there xs is r, same_self r)) counted0.taken
-            (λ k apart is_left. counted0.going k is_left)
-        by rest listed is =
-            let xs = op.User (user_op.DropOwn r) ∷ op.List (list_op.LockWrite (section.Unregister r reply.Done)) ∷ below in
-            let counted0 : Counted xs q.runs = subst (λ os. Counted os q.runs) is counted in
-            gone_count r (omega (arith, used_once s reached p there xs is r, same_self r)) counted0.taken
-            (λ k apart is_left. counted0.going k (ap (λ b. b || some_op (leaves k) below) apart ∙ is_left))
-    from_going r rest leaving is at follows u ok = absurd cc

@@ -1,5 +1,6 @@
 -- What a call chooses as it searches: from what the search tells of the world at it, which is in this as the one that the call began in.
-use Rattle.std.proofs.Common.{◌≡◌, ◌==◌, ◌&&◌, ℕ, nat_lt, true, false, if◌then◌else◌, Option, Some, None, is_some, slice_get, sym, ap, subst, ◌∙◌}
+use Rattle.std.proofs.Common.{◌≡◌, ◌==◌, ◌&&◌, ℕ, nat_lt, true, false, if◌then◌else◌, Option, Some, None, is_some, slice_get, sym, ap}
+use Rattle.std.proofs.Common.{subst, ◌∙◌}
 use Rattle.executor_parts.specs.Marks.{first_of}
 use Rattle.executor_parts.specs.declared.mark.Mark.{Mark}
 use Rattle.executor_model.specs.declared.op.Waker.{Waker}
@@ -43,7 +44,8 @@ module _ (w v : World) (call : Call Output Waker) (q : Plain Output Waker) (d : 
         so.counted k
         ∙ (ap (λ n. if (k == r) && any is_due b.due then one_counted n else n) (still.counted k)
         ∙ sym (ap
-        (λ (o : Option (Search Output Waker)). or o (λ x. if (k == x.run) && finds x then one_counted (has_counted w k) else has_counted w k)
+        (λ (o : Option (Search Output Waker)). or o (λ x. if (k == x.run) && finds x then one_counted (has_counted w k) else has_counted w
+        k)
         (has_counted w k)) is));
     turns = λ x its.
         so.turns
@@ -70,7 +72,8 @@ module _ (w v : World) (call : Call Output Waker) (q : Plain Output Waker) (d : 
     counted = λ k.
         stays k
         ∙ sym (ap
-        (λ (o : Option (Search Output Waker)). or o (λ x. if (k == x.run) && finds x then one_counted (has_counted w k) else has_counted w k)
+        (λ (o : Option (Search Output Waker)). or o (λ x. if (k == x.run) && finds x then one_counted (has_counted w k) else has_counted w
+        k)
         (has_counted w k)) none);
     turns = λ x its. absurd (no_search x its);
   }

@@ -93,7 +93,6 @@ module _ (p : ℕ) (below : List Op) (under : is_resting below ≡ true) (w : Wo
         (λ d. none (telling c.tells d)))
         (λ e z is so. forgets_apart taker below f q e z is so) all rests
       where
-
         by : (x y z : Bool) → (not x && (not y && z)) ≡ true → abstract.pending_end (task f q) ≡ end_of x y z → (d : Choice)
             → behind_pended f d ≡ None
         by true y z last ending d = absurd cc

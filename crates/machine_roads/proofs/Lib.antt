@@ -150,5 +150,6 @@ pub mod Counting
 pub mod RunHere
 pub mod ActLands
 pub mod ActCodes
+pub mod ActOwns
 pub mod OwnGoes
 pub mod ActsToEnd

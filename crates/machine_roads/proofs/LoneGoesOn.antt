@@ -117,7 +117,8 @@ module _ (s : Machine) (reached : Reached s) (q : Plain Output Waker) (quiet : I
   leads : LeadsSo p (done own.world (op.Tick (tick_op.Search (asleep x)) ∷ [])) S
   leads hints all rests =
       goes_from p x [] q (suc (length q.lying)) t (alone p hints (done own.world (op.Tick (tick_op.Search (asleep x)) ∷ []))) pends_with
-      anyhow refl rests c own.world q own.follows_in (one_more (length q.lying)) now refl (record { hints = hints; has = all; is = refl }) next_so
+      anyhow refl rests c own.world q own.follows_in (one_more (length q.lying)) now refl (record { hints = hints; has = all; is = refl })
+      next_so
       (λ d said. tt)
 
   rested : Rests p S new

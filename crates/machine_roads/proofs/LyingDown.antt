@@ -88,8 +88,7 @@ module _ (p : ℕ) (below : List Op) (under : is_resting below ≡ true) (end : 
       let still = copied_can a w t can in
       let g =
       lies_down_so p below under end rests c it a k IsQuiet finds_none early w q follows room
-      (λ none. record { living = still.living; roomed = still.roomed }) quiet took way in
-      (
+      (λ none. record { living = still.living; roomed = still.roomed }) quiet took way in (
         g.0,
         comes q (plain_takes.rests wakes c g.0 (ATick t) a q) g.1,
         g.2,

@@ -150,5 +150,5 @@ pub forgets_apart : (taker : Taker Waker) (below : List Op) (f : ℕ) (q : Plain
     → e.next ≡ stop ∷ below → StopsForgetting taker stop below f q e z → ⊥
 forgets_apart taker below f q e z is so =
     let no : stop ∷ below
-        ≡ op.User (user_op.Drop f) ∷ op.Table (table_op.LeaveTable f) ∷ op.Handle (handle_op.LetGo f) ∷ stop ∷ below = sym is ∙ so.left in
+    ≡ op.User (user_op.Drop f) ∷ op.Table (table_op.LeaveTable f) ∷ op.Handle (handle_op.LetGo f) ∷ stop ∷ below = sym is ∙ so.left in
     absurd cc

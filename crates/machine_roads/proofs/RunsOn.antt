@@ -71,15 +71,16 @@ anyhow d = Unit {0}
 abbrev pub search_at : ℕ → Waker → Plain Output Waker → Search Output Waker
 search_at r a b = record { run = r; waker = a; at = b }
 
-pub record Searched (r : ℕ) (a : Waker) (w : World) (b : Plain Output Waker) (d : Choice) (v : World) (z : Plain Output Waker) : Type 0 where
-  pub few : nat_lt (taken_by r b) 200 ≡ true
-  pub usual : any is_due b.due ≡ true → TakesAsUsual wakes d (first_of w.urgent_turns) (has_counted w r) (search_at r a b)
-  pub start : ℕ
-  pub robs : any is_due b.due ≡ true → RobsAsUsual wakes d w.listed start (search_at r a b)
-  pub counted : (k : ℕ) → has_counted v k ≡ (if (k == r) && any is_due b.due then one_counted (has_counted w k) else has_counted w k)
-  pub turns : v.urgent_turns ≡ turned (run_turns d.refusal (search_at r a b)) w.urgent_turns
-  pub listed : v.listed ≡ w.listed
-  pub later : any is_due b.due ≡ false → d.refusal ≡ Later → OneMoreLies b z
+pub record Searched (r : ℕ) (a : Waker) (w : World) (b : Plain Output Waker) (d : Choice) (v : World) (z : Plain Output Waker) : Type 0
+  where
+    pub few : nat_lt (taken_by r b) 200 ≡ true
+    pub usual : any is_due b.due ≡ true → TakesAsUsual wakes d (first_of w.urgent_turns) (has_counted w r) (search_at r a b)
+    pub start : ℕ
+    pub robs : any is_due b.due ≡ true → RobsAsUsual wakes d w.listed start (search_at r a b)
+    pub counted : (k : ℕ) → has_counted v k ≡ (if (k == r) && any is_due b.due then one_counted (has_counted w k) else has_counted w k)
+    pub turns : v.urgent_turns ≡ turned (run_turns d.refusal (search_at r a b)) w.urgent_turns
+    pub listed : v.listed ≡ w.listed
+    pub later : any is_due b.due ≡ false → d.refusal ≡ Later → OneMoreLies b z
 
 module _ (p : ℕ) (x : RunPoll) (below : List Op) (q : Plain Output Waker) (n t : ℕ) (end : Done) (new : Choice → Plain Output Waker)
     (Says : Choice → Type 0) where
@@ -98,8 +99,10 @@ module _ (p : ℕ) (x : RunPoll) (below : List Op) (q : Plain Output Waker) (n t
 
   module _ (under : is_resting below ≡ true) (rests : is_resting end.next ≡ true) (c : Choice) where
     -- one more is taken
-    takes_more : (start : ℕ) (w : World) (b : Plain Output Waker) → Between x.run false t b → b.inside ≡ q.inside → (first : Choice) → first.tells ≡ n
-        → first.first ≡ first_of w.urgent_turns → any is_due b.due ≡ true → Found p below under end rests first x start (turn_behind x.run b.due w) w b
+    takes_more : (start : ℕ) (w : World) (b : Plain Output Waker) → Between x.run false t b → b.inside ≡ q.inside → (first : Choice) →
+        first.tells ≡ n
+        → first.first ≡ first_of w.urgent_turns → any is_due b.due ≡ true → Found p below under end rests first x start
+        (turn_behind x.run b.due w) w b
         → ((d : Choice) → new (telling n d) ≡ plain_takes.next wakes (telling n d) taker b) → Tells w b → After
     takes_more start w b so inside first told turn some g is tells =
         let d = pick p below under end rests first x g.0 g.1 g.2 in
@@ -143,7 +146,8 @@ module _ (p : ℕ) (x : RunPoll) (below : List Op) (q : Plain Output Waker) (n t
         })))
       where
         one_more : (k : ℕ) (own due : Bool) → due ≡ true
-            → (if own then one_counted (has_counted w k) else has_counted w k) ≡ (if own && due then one_counted (has_counted w k) else has_counted w k)
+            → (if own then one_counted (has_counted w k) else has_counted w k) ≡
+            (if own && due then one_counted (has_counted w k) else has_counted w k)
         one_more k true due some = ap (λ b0. if b0 then one_counted (has_counted w k) else has_counted w k) (sym some)
         one_more k false due some = refl
 
@@ -188,7 +192,8 @@ module _ (p : ℕ) (x : RunPoll) (below : List Op) (q : Plain Output Waker) (n t
               start = 0;
               robs = λ some. absurd (clash none some);
               counted = λ k. g.6.counted k
-                  ∙ ap (λ b0. if b0 then one_counted (has_counted w k) else has_counted w k) (sym (nowhere (k == x.run) (any is_due b.due) none));
+                  ∙ ap (λ b0. if b0 then one_counted (has_counted w k) else has_counted w k)
+                  (sym (nowhere (k == x.run) (any is_due b.due) none));
               turns = g.6.turn;
               listed = g.6.listed;
               later = λ vain late. subst (OneMoreLies b) (sym same) (g.5 late);

@@ -150,7 +150,7 @@ module _ {T X : Type 0} (number : X → ℕ) where
       by (calls.EndsWith v) looks alone takes = tt
 
   -- one act
-  pub one_same : (s : Machine) (a : Act) (q r : Plain Output Waker) (by : ActsBy s a.party a.first q r) → Lie s.world q
+  pub one_same : (s : Machine) (a : Act) (q r : Plain Output Waker) (by : ActsBy s a.party a.first q r a.left.world) → Lie s.world q
       → heard_in a.left.world.trace ≡ map shown_alike r.events → Lie a.left.world r → (p : Plain T (SoloWaker X)) (c : Choice)
       (call : Call T (SoloWaker X)) → renamed nothing (numbered number) p ≡ q → IsActed number s a p c call → length p.lying ≤ c.tells
       → renamed nothing (numbered number) (does wakes c call p) ≡ r

@@ -26,8 +26,8 @@ use Rattle.machine_roads.specs.InLoss.{loss_ops}
 use Rattle.machine_roads.specs.Losing.{left_of}
 use Rattle.machine_roads.specs.Within.{going}
 use Rattle.machine_roads.specs.Within.{StandsAlike, alike, dropping, forgetting, forgotten, losing, standing, untaken}
-use Rattle.machine_roads.proofs.ActCodes.{EndsSo, from_going, accepted, from_drop, from_forgotten, from_loss, from_own_drop}
-use Rattle.machine_roads.proofs.ActCodes.{from_own_poll, from_poll}
+use Rattle.machine_roads.proofs.ActCodes.{EndsSo, accepted, from_drop, from_forgotten, from_loss, from_poll}
+use Rattle.machine_roads.proofs.ActOwns.{from_going, from_own_drop, from_own_poll}
 use Rattle.machine_roads.proofs.ActsForgotten.{ends_forgotten}
 use Rattle.machine_roads.proofs.ActLosses.{ends_in_going, ends_in_loss}
 use Rattle.machine_roads.proofs.Counting.{Counted}

@@ -189,7 +189,7 @@ forgotten_off (g ∷ gs) f os c on =
 module _ (s : Machine) (reached : Reached s) (p : ℕ) (q : Plain Output Waker) (stands : StandsSo (standing s p) q) (new : Machine)
     (later : new.world.gone ≡ false) (open_still : s.world.gone ≡ false) (others : OthersRest p s) (there : p < length s.parties) where
   abbrev Comes : Step → Type 0
-  Comes t = (r : Plain Output Waker) × ActsBy s p t q r × StandsSo (standing new p) r
+  Comes t = (r : Plain Output Waker) × ActsBy s p t q r new.world × StandsSo (standing new p) r
 
   call_begins : (c : Call) (ts : List Step) → may_stand_in c ≡ true → may_begin_in (reverse (stack s p)) c ≡ true
       → rests_after p ts (after s (Begin p c)) ≡ true → run_all (Begin p c ∷ ts) s ≡ Ok new → Comes (Begin p c)
@@ -197,7 +197,7 @@ module _ (s : Machine) (reached : Reached s) (p : ℕ) (q : Plain Output Waker) 
     where
       begins : Nested (reverse (stack s p)) q.inside → Follows s.world q → Comes (Begin p c)
       begins nested follows =
-          begun_leads p (λ e. (r : Plain Output Waker) × ActsBy s p (Begin p c) q r × StandsSo e r) new later c ts s reached there
+          begun_leads p (λ e. (r : Plain Output Waker) × ActsBy s p (Begin p c) q r e.world × StandsSo e r) new later c ts s reached there
           (one_begins s reached p q follows nested stands.counted c on (may_begin s p c (run-first (Begin p c) ts s new made).0)) rests made
 
       inside_of : (taker : Taker Waker) (final : Op) (below : List Op) (f : ℕ) (awaiter : Option Waker)
@@ -207,7 +207,7 @@ module _ (s : Machine) (reached : Reached s) (p : ℕ) (q : Plain Output Waker) 
           let off =
           untaken_off gs (is_some awaiter) f final below c (sym (ap (λ os. may_begin_in os c) stops.left) ∙ even) in
           begun_led (Asked f awaiter) (asked_walks f awaiter) p
-          (λ e. (r : Plain Output Waker) × ActsBy s p (Begin p c) q r × StandsSo e r) new later c ts s reached there
+          (λ e. (r : Plain Output Waker) × ActsBy s p (Begin p c) q r e.world × StandsSo e r) new later c ts s reached there
           (begins_untaken taker final below f awaiter codes it nested s p q stands.counted gs stops reached there c off.0 off.1
           (may_begin s p c (run-first (Begin p c) ts s new made).0))
           rests made
@@ -216,7 +216,7 @@ module _ (s : Machine) (reached : Reached s) (p : ℕ) (q : Plain Output Waker) 
           → Nested below codes → (gs : List ℕ) → StopsForgotten taker final below f gs codes (standing s p) q → Comes (Begin p c)
       within_drop taker final below f codes it nested gs stops =
           let off = forgotten_off gs f (final ∷ below) c (sym (ap (λ os. may_begin_in os c) stops.left) ∙ even) in
-          begun_leads p (λ e. (r : Plain Output Waker) × ActsBy s p (Begin p c) q r × StandsSo e r) new later c ts s reached there
+          begun_leads p (λ e. (r : Plain Output Waker) × ActsBy s p (Begin p c) q r e.world × StandsSo e r) new later c ts s reached there
           (begins_forgotten taker final below f codes it nested s p q stands.counted gs stops reached there c off
           (may_begin s p c (run-first (Begin p c) ts s new made).0))
           rests made
@@ -226,14 +226,14 @@ module _ (s : Machine) (reached : Reached s) (p : ℕ) (q : Plain Output Waker) 
       by (losing f fs below codes nested stops) =
           let off : is_on_executor c ≡ false =
           (neither (is_on_executor c) (polls_untaken (loss_ops fs below) c) (sym (ap (λ os. may_begin_in os c) stops.left) ∙ even)).0 in
-          begun_leads p (λ e. (r : Plain Output Waker) × ActsBy s p (Begin p c) q r × StandsSo e r) new later c ts s reached there
+          begun_leads p (λ e. (r : Plain Output Waker) × ActsBy s p (Begin p c) q r e.world × StandsSo e r) new later c ts s reached there
           (begins_in_loss s reached p there q f fs below codes nested stops stands.counted c off
           (may_begin s p c (run-first (Begin p c) ts s new made).0))
           rests made
       by (going r fs below codes nested stops) =
           let off =
           going_off fs r stops.rest stops.leaving below c (sym (ap (λ os. may_begin_in os c) stops.left) ∙ even) in
-          begun_leads p (λ e. (r : Plain Output Waker) × ActsBy s p (Begin p c) q r × StandsSo e r) new later c ts s reached there
+          begun_leads p (λ e. (r : Plain Output Waker) × ActsBy s p (Begin p c) q r e.world × StandsSo e r) new later c ts s reached there
           (begins_in_going s reached p there q r fs below codes nested stops stands.counted c off
           (may_begin s p c (run-first (Begin p c) ts s new made).0))
           rests made
@@ -286,7 +286,7 @@ module _ (s : Machine) (reached : Reached s) (p : ℕ) (q : Plain Output Waker) 
     plainly : (a : StandsAlike (standing s p) q) → is_inner a ≡ false → Comes (Answer p u)
     plainly a plain =
         let e = code_ends s reached p there open_still others q stands.counted a plain u (run-first (Answer p u) ts s new whole).0 in
-        answer_leads p (λ e. (r : Plain Output Waker) × ActsBy s p (Answer p u) q r × StandsSo e r) new later u e.first e.rest ts s
+        answer_leads p (λ e. (r : Plain Output Waker) × ActsBy s p (Answer p u) q r e.world × StandsSo e r) new later u e.first e.rest ts s
         reached there e.is e.leads rests whole
 
     answers : StandsAlike (standing s p) q → Comes (Answer p u)
@@ -294,7 +294,7 @@ module _ (s : Machine) (reached : Reached s) (p : ℕ) (q : Plain Output Waker) 
         let o = op.User (user_op.DropOutput g) in
         let xs = left_of g ++ loss_ops gs (op.User (user_op.DropOutput f) ∷ (rest_of (is_some awaiter) f final ++ below)) in
         answer_led (Asked f awaiter) (asked_walks f awaiter) p
-        (λ e. (r : Plain Output Waker) × ActsBy s p (Answer p u) q r × StandsSo e r) new later u o xs ts s reached there stops.left
+        (λ e. (r : Plain Output Waker) × ActsBy s p (Answer p u) q r e.world × StandsSo e r) new later u o xs ts s reached there stops.left
         (ends_untaken taker final below f awaiter codes it nested s p q stands.counted g gs stops u
         (accepted s reached p there open_still others q stands.counted u o xs (run-first (Answer p u) ts s new whole).0 stops.left))
         rests whole

@@ -32,7 +32,7 @@ module _ (Asked : World → Op → Type 0) (p : ℕ) where
     has = λ xs. (
       has,
       subst (λ b. HasAllOf Asked p hs (one_by b p h o w (os ++ xs))) (sym goes)
-      (subst (λ ys. HasAllOf Asked p hs (done (act p h o w).world ys)) (append_assoc (act p h o w).next os xs) (more.has xs)),
+          (subst (λ ys. HasAllOf Asked p hs (done (act p h o w).world ys)) (append_assoc (act p h o w).next os xs) (more.has xs)),
     );
   }
 
@@ -47,7 +47,7 @@ module _ (Asked : World → Op → Type 0) (p : ℕ) where
     has = λ xs. (
       has,
       subst (λ b. HasAllOf Asked p hs (one_by b p h o w (os ++ xs))) (sym held)
-      (subst (λ b. HasAllOf Asked p hs (done w (answered_by b o (os ++ xs)))) (sym out) (more.has xs)),
+          (subst (λ b. HasAllOf Asked p hs (done w (answered_by b o (os ++ xs)))) (sym out) (more.has xs)),
     );
   }
   comes_waiting false h hs w o os v left held out has more = record {
@@ -57,7 +57,7 @@ module _ (Asked : World → Op → Type 0) (p : ℕ) where
     has = λ xs. (
       has,
       subst (λ b. HasAllOf Asked p hs (one_by b p h o w (os ++ xs))) (sym held)
-      (subst (λ b. HasAllOf Asked p hs (done w (answered_by b o (os ++ xs)))) (sym out) (more.has xs)),
+          (subst (λ b. HasAllOf Asked p hs (done w (answered_by b o (os ++ xs)))) (sym out) (more.has xs)),
     );
   }
 

@@ -50,6 +50,8 @@ pub mod GivingWay
 pub mod Trying
 pub mod RunsStay
 pub mod Passing
+pub mod PassingStill
+pub mod GoingStill
 pub mod Unseen
 pub mod Pending
 pub mod Losing
@@ -63,6 +65,8 @@ pub mod Ticking
 pub mod TickPolls
 pub mod Copying
 pub mod Replacing
+pub mod Silent
+pub mod Took
 pub mod Bedding
 pub mod LyingDown
 pub mod RunIdle
@@ -100,12 +104,19 @@ pub mod RunsGone
 pub mod Adding
 pub mod Keeping
 pub mod Stealing
+pub mod Starting
+pub mod WalkOrder
+pub mod Robbing
+pub mod KeepingMarks
+pub mod RunCounting
 pub mod RunTaking
+pub mod RunFinding
 pub mod RunSearching
 pub mod TakenBeside
 pub mod RunLies
 pub mod RunGoesOn
 pub mod RunsOn
+pub mod Chosen
 pub mod LoneRunsOn
 pub mod LoneGoesOn
 pub mod LoneRunPolls
@@ -130,6 +141,7 @@ pub mod Course
 pub mod InHand
 pub mod Walked
 pub mod Inmost
+pub mod Unsearched
 pub mod ActBegins
 pub mod RunsAlone
 pub mod ActLosses
@@ -142,5 +154,6 @@ pub mod Counting
 pub mod RunHere
 pub mod ActLands
 pub mod ActCodes
+pub mod ActOwns
 pub mod OwnGoes
 pub mod ActsToEnd

@@ -41,8 +41,8 @@ use Rattle.machine_roads.specs.Stopped.{IsInPoll}
 use Rattle.machine_roads.proofs.LoneRuns.{InCode, Inside, IsBefore, Rests, Whole, before, goes_on_of}
 use Rattle.machine_roads.proofs.Passing.{GoesBy, passed, stood, telling}
 use Rattle.machine_roads.proofs.Pending.{gives_so, pends_by}
-use Rattle.machine_roads.proofs.RunEnding.{dropped_by, drops_with, loses_with, lost_by}
-use Rattle.machine_roads.proofs.RunsOn.{After, Between, between_stays, ends, goes_on as runs_on, takes}
+use Rattle.machine_roads.proofs.RunEnding.{behind_dropped, behind_lost, dropped_by, drops_with, loses_with, lost_by}
+use Rattle.machine_roads.proofs.RunsOn.{After, Between, anyhow, between_stays, ends, goes_on as runs_on, takes}
 use Rattle.machine_roads.proofs.Tying.{LeadsSo}
 
 -- the same but for the code in which it stands
@@ -120,37 +120,39 @@ module _ (p : ℕ) (new : Machine) (later : new.world.gone ≡ false) (at_last :
     -- it has taken the next one, has let others go first, or has lain down
     pub from_after : (e : plain_calls.Call Output Waker) (r : Plain Output Waker) → is_end r.inside e ≡ true
         → (b : Plain Output Waker) → b.inside ≡ codes
-        → Rests p (λ d. After p x [] b (tells_for r) t d (λ d. does wakes d e r)) new → Result r
+        → Rests p (λ d. After p x [] b (tells_for r) t d (λ d. does wakes d e r) anyhow) new → Result r
     from_after e r it b same (Whole so) = by so
       where
-        by : After p x [] b (tells_for r) t (done new.world []) (λ d. does wakes d e r) → Result r
-        by (takes d l stands now) =
+        by : After p x [] b (tells_for r) t (done new.world []) (λ d. does wakes d e r) anyhow → Result r
+        by (takes d l stands now said) =
             let d1 = telling (tells_for r) d in
             once_more d1 e r it refl (on l b (does wakes d1 e r) same now (Whole stands))
-        by (ends d next follows inside) =
+        by (ends d next follows inside said) =
             let d1 = telling (tells_for r) d in
             once_more d1 e r it refl (ends_here (does wakes d1 e r) (inside ∙ same) follows)
     from_after e r it b same (Inside y) = by y.so
       where
-        by : After p x [] b (tells_for r) t (done y.machine.world (y.first ∷ y.rest)) (λ d. does wakes d e r) → Result r
-        by (takes d l stands now) =
+        by : After p x [] b (tells_for r) t (done y.machine.world (y.first ∷ y.rest)) (λ d. does wakes d e r) anyhow → Result r
+        by (takes d l stands now said) =
             let d1 = telling (tells_for r) d in
             once_more d1 e r it refl
             (on l b (does wakes d1 e r) same now
-            (Inside (again p new (λ d. After p x [] b (tells_for r) t d (λ d. does wakes d e r))
+            (Inside (again p new (λ d. After p x [] b (tells_for r) t d (λ d. does wakes d e r) anyhow)
             (λ d. StandsSo taker (goes_on_by x l) [] b d (does wakes d1 e r)) y stands)))
-        by (ends d next follows inside) = absurd cc
+        by (ends d next follows inside said) = absurd cc
 
     -- or more user code has come before that
     data Left (So : Plain Output Waker → Done → Type 0) (b : Plain Output Waker) (n : ℕ) (will : Choice → Plain Output Waker) (e : Done)
         : Type 0 where
-      goes : After p x [] b n t e will → Left So b n will e
+      goes : After p x [] b n t e will anyhow → Left So b n will e
       still : So (will (telling n c)) e → Now (will (telling n c)) → Left So b n will e
 
     left_by : (So : Plain Output Waker → Done → Type 0) (b : Plain Output Waker) (n : ℕ) (will : Choice → Plain Output Waker) (e : Done)
-        → is_resting e.next ≡ true → length b.lying < n → Now b → GoesBy p taker final [] b n e will (λ z. So z e) → Left So b n will e
-    left_by So b n will e rests fit now (passed so) = goes (runs_on p x [] b n t e will refl rests c last fit now so)
-    left_by So b n will e rests fit now (stood so stays) =
+        → is_resting e.next ≡ true → length b.lying < n → Now b → (behind : Choice → Option (Plain Output Waker))
+        → GoesBy p taker final [] b n e will behind (λ z. So z e) → Left So b n will e
+    left_by So b n will e rests fit now behind (passed so) =
+        goes (runs_on p x [] b n t e will anyhow refl rests c behind last fit now so (λ d said. tt) (λ it none. tt))
+    left_by So b n will e rests fit now behind (stood so stays none) =
         still (so c) (between_stays x.run last t b (will (telling n c)) (stays c) now)
 
     from_left : (So : Plain Output Waker → Done → Type 0) (e : plain_calls.Call Output Waker) (r : Plain Output Waker)
@@ -172,7 +174,7 @@ module _ (p : ℕ) (new : Machine) (later : new.world.gone ≡ false) (at_last :
         by : Left So b (tells_for r) (λ d. does wakes d e r) (done y.machine.world (y.first ∷ y.rest)) → Result r
         by (goes so) =
             from_after e r it b same
-            (Inside (again p new R (λ d. After p x [] b (tells_for r) t d (λ d. does wakes d e r)) y so))
+            (Inside (again p new R (λ d. After p x [] b (tells_for r) t d (λ d. does wakes d e r) anyhow) y so))
         by (still so now) =
             let d1 = telling (tells_for r) c in
             once_more d1 e r it refl (more (does wakes d1 e r) now (Inside (again p new R (λ d. So (does wakes d1 e r) d) y so)))
@@ -208,12 +210,12 @@ module _ (p : ℕ) (new : Machine) (later : new.world.gone ≡ false) (at_last :
                   stands_in codes (without_run f m.world) r ending.follows
                   (sym (ap (λ codes. waking_in codes) inside ∙ ap (λ codes. waking_in codes) same));
             } in
-            let S : Done → Type 0 = λ e. After p x [] r0 n t e (λ d. does wakes d Ends r1) in
+            let S : Done → Type 0 = λ e. After p x [] r0 n t e (λ d. does wakes d Ends r1) anyhow in
             let leads : LeadsSo p (done m.world os) S =
             λ hints all rests.
-            runs_on p x [] r0 n t (alone p hints (done m.world os)) (loses_with taker awaiter r0) refl rests c last (most r0)
-            (between_inside x.run last t r codes now)
-            (lost_by taker final p f [] m.world r0 awaiter c1 ending0 (least r0) hints all rests) in
+            runs_on p x [] r0 n t (alone p hints (done m.world os)) (loses_with taker awaiter r0) anyhow refl rests c
+            (behind_lost awaiter r0) last (most r0) (between_inside x.run last t r codes now)
+            (lost_by taker final p f [] m.world r0 awaiter c1 ending0 (least r0) hints all rests) (λ d said. tt) (λ it none. tt) in
             let here : LeadsSo p (done (react p y.first y.end m.world).world ((react p y.first y.end m.world).next ++ y.rest)) S =
             subst (λ o. LeadsSo p (done (react p o y.end m.world).world ((react p o y.end m.world).next ++ y.rest)) S) (sym both.0)
             (subst (λ os. LeadsSo p (done m.world os) S) (sym both.1) leads) in
@@ -236,7 +238,7 @@ module _ (p : ℕ) (new : Machine) (later : new.world.gone ≡ false) (at_last :
         let leads : LeadsSo p (done m.world os) S =
         λ hints all rests.
         left_by So r0 n (drops_with taker f why r0) (alone p hints (done m.world os)) rests (most r0)
-        (between_inside x.run last t r codes now)
+        (between_inside x.run last t r codes now) (behind_dropped f why r0)
         (dropped_by p [] m.world r0 refl (stands_in codes m.world r follows (sym (ap (λ codes. waking_in codes) inside))) taker final
         f mv why going.known going.entered going.ends (telling n c) (least r0) hints all rests) in
         let here : LeadsSo p (done (react p y.first y.end m.world).world ((react p y.first y.end m.world).next ++ y.rest)) S =
@@ -278,12 +280,12 @@ module _ (p : ℕ) (new : Machine) (later : new.world.gone ≡ false) (at_last :
               (sym (ap (λ codes. waking_in codes) (put_by (λ p. p.inside) f (record (plain_task f r) { awaiter = None }) r (λ fs. refl))
               ∙ (ap (λ codes. waking_in codes) y.so.stops.inside ∙ ap (λ codes. waking_in codes) same))));
         } in
-        let S : Done → Type 0 = λ e. After p x [] r0 n t e (λ d. does wakes d Ends r1) in
+        let S : Done → Type 0 = λ e. After p x [] r0 n t e (λ d. does wakes d Ends r1) anyhow in
         let leads : LeadsSo p (done m.world os) S =
         λ hints all rests.
-        runs_on p x [] r0 n t (alone p hints (done m.world os)) (forgets_with taker f r0) refl rests c last (most r0)
-        (between_inside x.run last t r codes (between_stays x.run last t b r y.so.stay now))
-        (forgotten_by taker final p f [] m.world r0 (telling n c) forgotten0 (least r0) hints all rests) in
+        runs_on p x [] r0 n t (alone p hints (done m.world os)) (forgets_with taker f r0) anyhow refl rests c
+        (behind_dropped f Closed r0) last (most r0) (between_inside x.run last t r codes (between_stays x.run last t b r y.so.stay now))
+        (forgotten_by taker final p f [] m.world r0 (telling n c) forgotten0 (least r0) hints all rests) (λ d said. tt) (λ it none. tt) in
         let here : LeadsSo p (done (react p y.first y.end m.world).world ((react p y.first y.end m.world).next ++ y.rest)) S =
         subst (λ o. LeadsSo p (done (react p o y.end m.world).world ((react p o y.end m.world).next ++ y.rest)) S) (sym both.0)
         (subst (λ os. LeadsSo p (done m.world os) S) (sym both.1) leads) in
@@ -375,7 +377,7 @@ module _ (p : ℕ) (new : Machine) (later : new.world.gone ≡ false) (at_last :
                 from_left So Pends r1 refl r0 refl (λ z now rests. from_stays r0 z refl now rests)
                 (goes_on R S y (here (end.Polled answer.Pending) S at
                 (λ hints all rests.
-                left_by So r0 n (λ d. does wakes d Pends r1) _ rests (most r0) now0
+                left_by So r0 n (λ d. does wakes d Pends r1) _ rests (most r0) now0 _
                 (pends_by p [] y.machine.world r0 refl follows0 taker final f in_poll c1 (least r0) hints all rests))))
             pends true last_one =
                 let S : Done → Type 0 = λ e. Forgets taker final [] f r0 e (does wakes c1 Pends r1) in

@@ -44,7 +44,7 @@ use Rattle.machine_roads.proofs.LyingDown.{polls_tick_so}
 use Rattle.machine_roads.proofs.Passing.{passes_end}
 use Rattle.machine_roads.proofs.Pending.{gives_so, pends_so}
 use Rattle.machine_roads.proofs.Puts.{put_at, put_by}
-use Rattle.machine_roads.proofs.RunEnding.{drops, loses_with, lost_by}
+use Rattle.machine_roads.proofs.RunEnding.{behind_dropped, behind_lost, drops, loses_with, lost_by}
 use Rattle.machine_roads.proofs.Standing.{Answered, Behind, InDrop, InPoll, IsGoing, IsTaken, Stands, StandsSo, Stays, StaysSo}
 use Rattle.machine_roads.proofs.Trying.{tries_so, yes}
 use Rattle.machine_roads.proofs.Tying.{AtEnd, Leads, LeadsSo}
@@ -115,7 +115,7 @@ module _ (p : ℕ) (new : Machine) (later : new.world.gone ≡ false) (last : Re
           λ hints all rests.
           let e =
           passes_end p [] refl (alone p hints (done m.world os)) rests taker final r0 (it r0) c1 (loses_with taker awaiter r0)
-          (lost_by taker final p f [] m.world r0 awaiter c1 ending0 (least (length r.lying)) hints all rests) in
+          (behind_lost awaiter r0) (lost_by taker final p f [] m.world r0 awaiter c1 ending0 (least (length r.lying)) hints all rests) in
           (e.0, record { follows = e.1; inside = e.2 }) in
           let now : Leads p (done (react p x.first x.end m.world).world ((react p x.first x.end m.world).next ++ x.rest)) P =
           subst (λ o. Leads p (done (react p o x.end m.world).world ((react p o x.end m.world).next ++ x.rest)) P) (sym both.0)
@@ -184,7 +184,7 @@ module _ (p : ℕ) (new : Machine) (later : new.world.gone ≡ false) (last : Re
       λ hints all rests.
       let e =
       passes_end p [] refl (alone p hints (done m.world os)) rests taker final r0 (it r0) c1 (forgets_with taker f r0)
-      (forgotten_by taker final p f [] m.world r0 c1 forgotten0 (least (length r.lying)) hints all rests) in
+      (behind_dropped f Closed r0) (forgotten_by taker final p f [] m.world r0 c1 forgotten0 (least (length r.lying)) hints all rests) in
       (e.0, record { follows = e.1; inside = e.2 }) in
       let now : Leads p (done (react p x.first x.end m.world).world ((react p x.first x.end m.world).next ++ x.rest)) P =
       subst (λ o. Leads p (done (react p o x.end m.world).world ((react p o x.end m.world).next ++ x.rest)) P) (sym both.0)

@@ -11,8 +11,10 @@ use Rattle.executor_model.specs.ActsOfRuns.{asleep}
 use Rattle.executor_model.specs.World.{Done, World}
 use Rattle.plain_scheduler.specs.State.{ARun, Choice, Due, Later, Plain, Refusal, Run, Taker}
 use Rattle.plain_scheduler.specs.Lists.{any, or, without}
-use Rattle.plain_scheduler.specs.Moves.{chosen, is_due, looks}
+use Rattle.plain_scheduler.specs.Moves.{chosen, is_due, is_kept, looks}
 use Rattle.plain_scheduler.specs.Takes as plain_takes
+use Rattle.plain_scheduler.specs.Searches.{Search}
+use Rattle.plain_scheduler.specs.Usual.{run_turns, vain_turns}
 use Rattle.machine_roads.specs.View.{Output, wakes}
 use Rattle.machine_roads.specs.Road.{Follows}
 use Rattle.machine_roads.specs.Alone.{alone, is_resting}
@@ -25,6 +27,7 @@ use Rattle.machine_roads.proofs.Passing.{telling}
 use Rattle.machine_roads.proofs.RunIdle.{IsQuiet, run_finds_none}
 use Rattle.machine_roads.proofs.RunsStay.{runs_aside}
 use Rattle.machine_roads.proofs.Stepping.{Way}
+use Rattle.machine_roads.proofs.Took.{Took}
 
 pub none_due : (ds : List Due) → any is_due ds ≡ false → ds ≡ []
 none_due [] none = refl
@@ -33,6 +36,16 @@ none_due (d ∷ ds) none = absurd cc
 module _ (p : ℕ) (x : RunPoll) (below : List Op) (end : Done) (under : is_resting below ≡ true) (rests : is_resting end.next ≡ true) where
   abbrev taker : Taker Waker
   taker = Run x.run x.waker
+
+  -- here it searches
+  abbrev at : Plain Output Waker → Search Output Waker
+  at b = record { run = x.run; waker = x.waker; at = b }
+
+  none_there : (r : Refusal) (b : Plain Output Waker) → b.due ≡ [] → vain_turns r (ARun x.run) b.lying ≡ run_turns r (at b)
+  none_there r b quiet =
+      ap
+      (λ (ds : List Due). if any (is_kept x.run) ds then 0 else (if any is_due ds then 1 else vain_turns r (ARun x.run) b.lying))
+      (sym quiet)
 
   -- there the plain scheduler takes nothing
   takes_none : (d : Choice) (b : Plain Output Waker) → b.due ≡ []
@@ -43,23 +56,25 @@ module _ (p : ℕ) (x : RunPoll) (below : List Op) (end : Done) (under : is_rest
       (λ e. plain_takes.takes wakes d taker e (record b { due = without (chosen (looks d taker) b.due) b.due }))
       (plain_takes.nothing wakes d taker b)) quiet
 
-  -- it has lain down, as the plain scheduler's does where memory is refused so; once it lies only where it lies anew
-  abbrev Lies : Choice → Plain Output Waker → Type 0
-  Lies c b =
+  -- it has lain down, as the plain scheduler's does where memory is refused so; once it lies only where it lies anew; and it took so many
+  -- turns from where it began to search
+  abbrev Lies : Choice → World → Plain Output Waker → Type 0
+  Lies c w b =
       (r : Refusal) × (end.next ≡ below) × Follows end.world (plain_takes.take wakes (record c { refusal = r }) taker b)
       × ((plain_takes.take wakes (record c { refusal = r }) taker b).inside ≡ b.inside)
       × ((plain_takes.take wakes (record c { refusal = r }) taker b).runs ≡ b.runs)
       × (r ≡ Later → OneMoreLies b (plain_takes.take wakes (record c { refusal = r }) taker b))
+      × Took (run_turns r (at b)) w end.world
 
   pub lies_so : (c : Choice) (w : World) (b : Plain Output Waker) → Follows w b → length b.lying < c.tells → any is_due b.due ≡ false
-      → Way p end w (op.Tick (tick_op.Search (asleep x)) ∷ below) → Lies c b
+      → Way p end w (op.Tick (tick_op.Search (asleep x)) ∷ below) → Lies c w b
   lies_so c w b follows room none way =
       let quiet = none_due b.due none in
       let i = run_finds_none p below under end rests c x b quiet w follows way in
       let g =
       lies_down_so p below under end rests c (tick_or_run.Run x.run) x.waker x.poll IsQuiet
-      (λ w z follows quiet way. run_finds_none p below under end rests c x z quiet w follows way) i.world b i.follows room (λ can. can)
-      quiet i.way in
+      (λ w z follows quiet way. run_finds_none p below under end rests c x z quiet w follows way) w i.world b i.follows room (λ can. can)
+      quiet i.took i.way in
       let same = takes_none (record c { refusal = g.0 }) b quiet in (
         g.0,
         g.1.next,
@@ -68,6 +83,7 @@ module _ (p : ℕ) (x : RunPoll) (below : List Op) (end : Done) (under : is_rest
         ap (λ (q : Plain Output Waker). q.runs) same
             ∙ rests_keeps (λ (q : Plain Output Waker). q.runs) runs_aside c g.0 (ARun x.run) x.waker b,
         λ later. subst (OneMoreLies b) (sym same) (g.2 later),
+        subst (λ k. Took k w end.world) (none_there g.0 b quiet) g.3,
       )
 
   -- also behind a future that it took, where it has taken fewer than 200
@@ -76,6 +92,7 @@ module _ (p : ℕ) (x : RunPoll) (below : List Op) (end : Done) (under : is_rest
       → Way p end w (op.Tick (tick_op.Search (asleep x)) ∷ below)
       → ((d : Choice) → new (telling n d) ≡ plain_takes.next wakes (telling n d) taker b)
       → (d : Choice) × (end.next ≡ below) × Follows end.world (new (telling n d)) × ((new (telling n d)).inside ≡ b.inside)
+      × (d.refusal ≡ Later → OneMoreLies b (new (telling n d))) × Took (run_turns d.refusal (at b)) w end.world
   lies n t new c w b follows room taken few none way is =
       let g = lies_so (telling n c) w b follows room none way in
       let d : Choice = record (telling n c) { refusal = g.0 } in
@@ -87,6 +104,8 @@ module _ (p : ℕ) (x : RunPoll) (below : List Op) (end : Done) (under : is_rest
         g.1,
         subst (Follows end.world) (sym same) g.2,
         ap (λ (q : Plain Output Waker). q.inside) same ∙ g.3,
+        λ later. subst (OneMoreLies b) (sym same) (g.5 later),
+        g.6,
       )
 
 -- behind its own future's poll

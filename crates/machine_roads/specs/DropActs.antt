@@ -46,7 +46,8 @@ AreDropActs s (a ∷ acts) = IsAct s a × AreDropActs a.left acts
 abbrev pub DropActAlike : Machine → Plain Output Waker → List Act → Type 0
 DropActAlike s q [] = Unit {0}
 DropActAlike s q (a ∷ acts) =
-    (r : Plain Output Waker) × ActsBy s a.party a.first q r × StandsDropping (standing a.left a.party) r × DropActAlike a.left r acts
+    (r : Plain Output Waker) × ActsBy s a.party a.first q r a.left.world × StandsDropping (standing a.left a.party) r
+    × DropActAlike a.left r acts
 
 -- so it is from a lone machine's executor's drop on, where the plain scheduler stands in no code
 abbrev pub DropActsAlike : Machine → Plain Output Waker → Type 0

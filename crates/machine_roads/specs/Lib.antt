@@ -1,6 +1,7 @@
 pub mod Untaken
 pub mod InForgotten
 pub mod View
+pub mod Choosing
 pub mod Moving
 pub mod Seeing
 pub mod Road

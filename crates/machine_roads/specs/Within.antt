@@ -38,6 +38,7 @@ use Rattle.plain_scheduler.specs.Calls.{does, new}
 use Rattle.machine_roads.specs.View.{Output, wakes}
 use Rattle.machine_roads.specs.Road.{Follows}
 use Rattle.machine_roads.specs.Alone.{is_outside, is_resting}
+use Rattle.machine_roads.specs.Choosing.{Chooses}
 use Rattle.machine_roads.specs.Course.{IsChosen}
 use Rattle.machine_roads.specs.Dropped.{Drops, rest_of}
 use Rattle.machine_roads.specs.Forgotten.{StopsForgetting}
@@ -159,14 +160,15 @@ abbrev pub IsChosenAt : Step → World → Plain Output Waker → Choice → Typ
 IsChosenAt (Begin p c) w q d = IsChosen w q d
 IsChosenAt t w q d = length q.lying < d.tells
 
--- the plain scheduler makes that
-pub record ActsBy (s : Machine) (p : ℕ) (t : Step) (q r : Plain Output Waker) : Type 0 where
+-- the plain scheduler makes that, and where a run searches in it the machine chooses as told; this world it leaves
+pub record ActsBy (s : Machine) (p : ℕ) (t : Step) (q r : Plain Output Waker) (v : World) : Type 0 where
   pub choice : Choice
   pub made : plain.Call Output Waker
   pub chosen : IsChosenAt t s.world q choice
   pub is : IsMade s p t made
   pub so : does wakes choice made q ≡ r
-  pub anew : IsLaterAnew choice.refusal made q r
+  pub anew : IsLaterAnew choice made q r
+  pub chooses : Chooses s.world v choice made q
 
 -- how a call that takes goes on behind what it took: a try and a tick's poll are answered, and a run searches on, or after its 200th
 -- calls its own waker
@@ -240,7 +242,7 @@ pub data StandsAlike (e : Done) (q : Plain Output Waker) : Type 0 where
 abbrev pub ActAlike : Machine → Plain Output Waker → List Act → Type 0
 ActAlike s q [] = Unit {0}
 ActAlike s q (a ∷ acts) =
-    (r : Plain Output Waker) × ActsBy s a.party a.first q r × StandsAlike (standing a.left a.party) r × ActAlike a.left r acts
+    (r : Plain Output Waker) × ActsBy s a.party a.first q r a.left.world × StandsAlike (standing a.left a.party) r × ActAlike a.left r acts
 
 -- so it is from a new machine on
 abbrev pub ListsActAlike : Type 0

@@ -97,3 +97,5 @@ pub mod CodesKept
 pub mod Polled
 pub mod RunGoing
 pub mod RunEnding
+pub mod VainTurns
+pub mod TickTurns

@@ -40,3 +40,5 @@ pub mod PollsGo
 pub mod EndsGo
 pub mod RunsGo
 pub mod SearchesGo
+pub mod Choosing
+pub mod Counting

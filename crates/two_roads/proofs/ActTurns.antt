@@ -67,7 +67,8 @@ use Rattle.machine_roads.proofs.Seeking.{alone_turn, begins_none, begins_turn, i
 use Rattle.machine_roads.proofs.StandsHere.{follows_here, owes_none, rests_alike, walks}
 use Rattle.two_roads.specs.Acting.{goes_on_in, is_runs, seeks_for_run}
 use Rattle.two_roads.specs.Refusing.{refused_in}
-use Rattle.two_roads.specs.Turns.{ActsTakeTurns, tick_turns, turned, turns_of}
+use Rattle.plain_scheduler.specs.Usual.{turned}
+use Rattle.two_roads.specs.Turns.{ActsTakeTurns, tick_turns, turns_of}
 use Rattle.two_roads.proofs.TickTurns.{polled, refused_at}
 
 -- numbers in use are distinct

@@ -1,5 +1,5 @@
 -- So where no run takes a future, what the machine's steps begin and answer, what it refuses, and where it looks first, says it all.
-use Rattle.std.proofs.Common.{◌≡◌, ℕ, ◌<◌, ◌≤◌, nat_lt, not, Bool, true, false, List, [], ◌∷◌, length, map, Some, None}
+use Rattle.std.proofs.Common.{◌≡◌, ℕ, ◌<◌, ◌≤◌, nat_lt, not, Bool, true, false, List, [], ◌∷◌, length, map, Some, None, Option}
 use Rattle.std.proofs.Common.{refl, sym, ap, subst, ◌∙◌, arith}
 use Rattle.executor_parts.specs.Marks.{first_of}
 use Rattle.executor_model.specs.declared.kind.Kind.{Kind as MachineKind}
@@ -15,6 +15,10 @@ use Rattle.solo.specs.declared.solo.Solo.{Solo}
 use Rattle.solo.specs.Solo.{IsNew, counts}
 use Rattle.plain_scheduler.specs.State.{Answers, Choice, Close, Code, Drop, DropOwn, Due, Event, Gives, Lose, Plain, Poll, PollOwn, Run}
 use Rattle.plain_scheduler.specs.State.{Taker, Tick, Try, Who}
+use Rattle.plain_scheduler.specs.Lists.{any, or}
+use Rattle.plain_scheduler.specs.Moves.{is_due, task}
+use Rattle.plain_scheduler.specs.Searches.{Search, behind_drop, behind_loss, behind_pending, finds, searches_behind, searches_inside}
+use Rattle.task_moves.specs.AbstractTask as abstract
 use Rattle.plain_scheduler.specs.Calls as calls
 use Rattle.plain_scheduler.specs.Calls.{Call, course, does, new}
 use Rattle.machine_roads.specs.Refused.{IsLaterAnew}
@@ -32,7 +36,7 @@ use Rattle.solo_laws.proofs.Showing.Courses.{leads_alike, new_known}
 use Rattle.two_roads.specs.Acting.{AreActed, IsActed, acts_by, goes_on_in, is_runs, left_of, looks_first, seeks_for_run}
 use Rattle.two_roads.specs.Acting.{takes_for_run, takes_in}
 use Rattle.two_roads.specs.Refusing.{asks_memory, ends_refused, refused_in, refused_so}
-use Rattle.two_roads.specs.Renaming.{CallsAlike, GoesOnAlike, InnermostAlike, call_as, event_as, is_refusal, lying_as}
+use Rattle.two_roads.specs.Renaming.{CallsAlike, call_as, event_as, is_refusal, lying_as}
 use Rattle.two_roads.specs.Renaming.{renamed}
 use Rattle.two_roads.specs.Together.{as_heard, nothing, numbered}
 use Rattle.two_roads.proofs.Both.{map_twice, wakes_so}
@@ -46,22 +50,30 @@ refusal_shown : (e : Event Output Waker) → is_refusal (shown_alike e) ≡ is_r
 refusal_shown (Answers (Gives v)) = refl
 refusal_shown e = refl
 
-module _ {A : Type 0} (c d : Choice) where
-  goes_on_alone : (by : Taker A) → is_runs by ≡ false → GoesOnAlike c d by
-  goes_on_alone Try is = tt
-  goes_on_alone (Tick t w) is = tt
-  goes_on_alone (Run r w) is = absurd cc
+-- where none takes, none that searches finds any
+module _ {T A : Type 0} (wakes : A → Option ℕ) (c : Choice) where
+  none_of : (by : Taker A) (o : Option (Plain T A)) (x : Search T A) → is_runs by ≡ false → searches_behind wakes c by o ≡ Some x → ⊥
+  none_of Try None x off is = cc
+  none_of Try (Some p) x off is = cc
+  none_of (Tick t w) None x off is = cc
+  none_of (Tick t w) (Some p) x off is = cc
+  none_of (Run r w) o x off is = absurd cc
 
-module _ {T A : Type 0} (c d : Choice) where
-  ends_alone : (due : List Due) (codes : List (Code T A)) → takes_in due codes ≡ false → InnermostAlike c d due codes
-  ends_alone due [] is = tt
-  ends_alone due (Poll f by ∷ codes) is = goes_on_alone c d by is
-  ends_alone due (Drop f end by ∷ codes) is = goes_on_alone c d by is
-  ends_alone due (Lose awaiter None ∷ codes) is = tt
-  ends_alone due (Lose awaiter (Some by) ∷ codes) is = goes_on_alone c d by is
-  ends_alone due (PollOwn r w ∷ codes) is = λ some. absurd (clash is some)
-  ends_alone due (DropOwn r answer ∷ codes) is = tt
-  ends_alone due (Close fs all ∷ codes) is = tt
+  pends_alone : (p : Plain T A) (codes : List (Code T A)) → takes_in p.due codes ≡ false → (x : Search T A)
+      → searches_inside wakes c calls.Pends codes p ≡ Some x → finds x ≡ true → ⊥
+  pends_alone p (Poll f by ∷ rest) is x so found =
+      let p0 : Plain T A = record p { inside = rest } in none_of by (behind_pending wakes c (abstract.pending_end (task f p0)) f p0) x is so
+  pends_alone p (PollOwn r w ∷ rest) is x so found =
+      clash is (ap (λ o. or o (λ (x : Search T A). any is_due x.at.due) (any is_due p.due)) so ∙ found)
+  pends_alone p codes is x so found = absurd cc
+
+  ends_alone : (p : Plain T A) (codes : List (Code T A)) → takes_in p.due codes ≡ false → (x : Search T A)
+      → searches_inside wakes c calls.Ends codes p ≡ Some x → finds x ≡ true → ⊥
+  ends_alone p (Drop f end by ∷ rest) is x so found =
+      none_of by (behind_drop wakes c f end (record p { inside = rest })) x is so
+  ends_alone p (Lose awaiter (Some by) ∷ rest) is x so found =
+      none_of by (Some (behind_loss wakes c awaiter (record p { inside = rest }))) x is so
+  ends_alone p codes is x so found = absurd cc
 
 -- where no run searches none takes
 module _ {T A : Type 0} where
@@ -107,16 +119,17 @@ module _ {T X : Type 0} (number : X → ℕ) where
   -- what has to be the same of what is chosen
   chosen_alike : (s : Machine) (p : Plain T (SoloWaker X)) (c d : Choice) (call : Call T (SoloWaker X))
       → (looks_first call ≡ true → c.first ≡ first_of s.world.urgent_turns) → takes_for_run p call ≡ false
-      → (is_take (call_as nothing (numbered number) call) ≡ true → d.first ≡ first_of s.world.urgent_turns) → CallsAlike c d p call
+      → (is_take (call_as nothing (numbered number) call) ≡ true → d.first ≡ first_of s.world.urgent_turns) → CallsAlike c d wakes p call
   chosen_alike s p c d call = by call
     where
       by : (call : Call T (SoloWaker X))
           → (looks_first call ≡ true → c.first ≡ first_of s.world.urgent_turns) → takes_for_run p call ≡ false
-          → (is_take (call_as nothing (numbered number) call) ≡ true → d.first ≡ first_of s.world.urgent_turns) → CallsAlike c d p call
+          → (is_take (call_as nothing (numbered number) call) ≡ true → d.first ≡ first_of s.world.urgent_turns) → CallsAlike c d wakes p
+          call
       by calls.TryTick looks alone takes = λ both. looks refl ∙ sym (takes refl)
       by (calls.PollTick t w) looks alone takes = λ both. looks refl ∙ sym (takes refl)
-      by calls.Pends looks alone takes = ends_alone c d p.due p.inside alone
-      by calls.Ends looks alone takes = ends_alone c d p.due p.inside alone
+      by calls.Pends looks alone takes = λ x is found. absurd (pends_alone wakes c p p.inside alone x is found)
+      by calls.Ends looks alone takes = λ x is found. absurd (ends_alone wakes c p p.inside alone x is found)
       by (calls.Spawn m) looks alone takes = tt
       by calls.IsEmpty looks alone takes = tt
       by (calls.Wake f) looks alone takes = tt

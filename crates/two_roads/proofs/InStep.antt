@@ -44,7 +44,8 @@ use Rattle.two_roads.specs.Acting.{AreActed, AreOfSteps, IsActed, goes_on_in, is
 use Rattle.two_roads.specs.Renaming.{call_as, code_as, lying_as, renamed, taker_as}
 use Rattle.two_roads.specs.Refusing.{asks_memory, refused_in}
 use Rattle.two_roads.specs.Together.{as_heard, nothing, numbered}
-use Rattle.two_roads.specs.Turns.{lies_uncalled, searches_by, tick_turns, turned, turned_in, turns_of}
+use Rattle.plain_scheduler.specs.Usual.{turned}
+use Rattle.two_roads.specs.Turns.{lies_uncalled, searches_by, tick_turns, turned_in, turns_of}
 use Rattle.two_roads.proofs.Refusing.{lie_in}
 use Rattle.two_roads.proofs.ActTurns.{act_turns}
 use Rattle.two_roads.proofs.Acted.{one_same, runless_together, unsought}

@@ -8,7 +8,10 @@ pub mod Tasks
 pub mod Moving
 pub mod Looking
 pub mod Taking
+pub mod Sought
+pub mod AsUsual
 pub mod Calling
+pub mod InTurn
 pub mod Plainly
 pub mod PlainCalls
 pub mod Both

@@ -1,14 +1,8 @@
 -- How many turns the executor of one owner takes in a call in which no run goes on.
-use Rattle.std.proofs.Common.{◌≡◌, ◌+◌, ◌^◌, ◌%◌, ℕ, zero, suc, List, ◌∷◌, Bool, false, Option, Some, None}
-use Rattle.std.proofs.Common.{◌≤◌, refl, sym, ap, ◌∙◌, length, slice_get}
-use Rattle.solo.specs.declared.names.Task.{Task}
+use Rattle.std.proofs.Common.{◌≡◌, ◌+◌, ◌^◌, ◌%◌, ℕ, suc, List, ◌∷◌, false}
+use Rattle.std.proofs.Common.{◌≤◌, refl, sym, ap, ◌∙◌, length}
 use Rattle.solo.specs.declared.names.SoloWaker.{SoloWaker}
-use Rattle.solo.specs.declared.names.SoloWaker.TheVariants.{Task as OfTask, Outside}
-use Rattle.solo.specs.declared.cells.After.{After}
-use Rattle.solo.specs.declared.cells.After.TheVariants.{Queue, Rest, Drop as DropFuture, Unknown}
 use Rattle.solo.specs.declared.owed.Lent.{Lent}
-use Rattle.solo.specs.declared.owed.Owed.{Owed}
-use Rattle.solo.specs.declared.runs.Leaving.{Leaving}
 use Rattle.solo.specs.declared.solo.Solo.{Solo}
 use Rattle.solo.specs.OwnQueues as own
 use Rattle.solo.specs.Cells.{asked}
@@ -17,25 +11,21 @@ use Rattle.solo.specs.Closing as closing
 use Rattle.solo.specs.Runs as runs
 use Rattle.solo.specs.Solo as solo
 use Rattle.solo.specs.Turns as turns
-use Rattle.solo.specs.Lines.{search_answer}
-use Rattle.solo.specs.Steals as steals
 use Rattle.plain_scheduler.specs.State.{ARun, ATick, Choice, Code, Event, Plain, Run}
-use Rattle.plain_scheduler.specs.Lists.{on, repeat}
 use Rattle.plain_scheduler.specs.Calls.{Call, is_granted}
-use Rattle.solo_laws.specs.Alike.{calls, cancelled, copies, handle_polled, lets_go, registered, replaced_by}
+use Rattle.solo_laws.specs.Alike.{cancelled}
 use Rattle.solo_laws.specs.Courses as courses
 use Rattle.solo_laws.specs.Courses.{Acts, Makes}
-use Rattle.solo_laws.specs.Dropping.{after_drop}
 use Rattle.solo_laws.specs.Numbered.{ticker_of}
 use Rattle.solo_laws.specs.Owner.{Owner}
 use Rattle.solo_laws.specs.Tabled.{named}
 use Rattle.solo_laws.specs.RunGoing.{IsEnding, Stage, code_at, poll_ends, drop_ends, loss_ends}
-use Rattle.solo_laws.specs.Running.{drains, more_left}
 use Rattle.machine_roads.proofs.Lists.{clash}
-use Rattle.solo_laws.proofs.Prompt.{chosen}
 use Rattle.solo_laws.proofs.Showing.Courses.{Known, led_known, tick_room}
-use Rattle.solo_laws.proofs.Turning.{At, begun_at, left_at, let_go_at, lined_if_at, run_drained_at, scheduled_at, scheduled_if_at}
-use Rattle.solo_laws.proofs.Turning.{further_at, searched_turn, tick_left_at, told_at}
+use Rattle.solo_laws.proofs.CallTurns.{after_at, calls_at, cancelled_at, detached_at, drains_at, finished_at, handle_at, leaked_at}
+use Rattle.solo_laws.proofs.CallTurns.{pending_at}
+use Rattle.solo_laws.proofs.CallTurns.{ready_at, taken_by_at, used_at, woken_at}
+use Rattle.solo_laws.proofs.Turning.{let_go_at, scheduled_at, searched_turn, tick_left_at}
 use Rattle.two_roads.proofs.SoloTicks.{later_turns, refused_turns, rested_turns, taken_turns}
 use Rattle.two_roads.specs.Acting.{goes_on_in, seeks_for_run}
 use Rattle.two_roads.specs.Turns.{CallsTakeTurns, tick_turns, turned_in, turns_of}
@@ -49,110 +39,6 @@ for_run p stage r w rest call (drop_ends f end) is alone = clash alone (ap (λ c
 for_run p stage r w rest call (loss_ends awaiter) is alone = clash alone (ap (λ codes. goes_on_in codes) is)
 
 module _ {F T X : Type 0} where
-  module _ (t : ℕ) where
-    woken_at : (task : Task) (s : Solo F T X) → At t s → At t (solo.woken task s)
-    woken_at task s at =
-        scheduled_if_at t (asked cells.wake_queues false task s.cells) task (turns.turned cells.woken task s) at
-
-    cancel_at : (task : Task) (s : Solo F T X) → At t s → At t (solo.cancelled task s)
-    cancel_at task s at = scheduled_if_at t _ task (turns.turned cells.cancelled task s) at
-
-    detached_at : (task : Task) (s : Solo F T X) → At t s → At t (solo.detached task s)
-    detached_at task s at = scheduled_if_at t _ task (turns.turned cells.detached task s) at
-
-    used_at : (task : Task) (s : Solo F T X) → At t s → At t (solo.woken_and_released task s)
-    used_at task s at =
-        scheduled_if_at t (solo.wakes_or_closes task s) task (turns.turned cells.released task (turns.turned cells.woken task s)) at
-
-    calls_at : (w : Option (SoloWaker X)) (s : Solo F T X) → At t s → At t (calls w s)
-    calls_at (Some (OfTask task)) s at = used_at task s at
-    calls_at (Some (Outside x)) s at = at
-    calls_at None s at = at
-
-    lets_go_at : (w : Option (SoloWaker X)) (s : Solo F T X) → At t s → At t (lets_go w s)
-    lets_go_at (Some (OfTask task)) s at = let_go_at t task s at
-    lets_go_at (Some (Outside x)) s at = at
-    lets_go_at None s at = at
-
-    copies_at : (w : SoloWaker X) (s : Solo F T X) → At t s → At t (copies w s)
-    copies_at (OfTask task) s at = at
-    copies_at (Outside x) s at = at
-
-    cancelled_at : (task : Task) (s : Solo F T X) → At t s → At t (cancelled task s)
-    cancelled_at task s at = calls_at (solo.cancel_answer task s).awaiter (solo.cancelled task s) (cancel_at task s at)
-
-    registered_at : (task : Task) (w : SoloWaker X) (s : Solo F T X) → At t s → At t (registered task w s)
-    registered_at task w s at = lets_go_at (replaced_by (solo.poll_answer task w s)) (solo.polled task w s) at
-
-    handle_at : (copied : Bool) (task : Task) (w : SoloWaker X) (s : Solo F T X) → At t s → At t (handle_polled copied task w s)
-    handle_at copied task w s at =
-        chosen (At t) (solo.must_wait task s) _ (solo.polled task w s)
-        (chosen (At t) copied (registered task w (copies w s)) s (registered_at task w (copies w s) (copies_at w s at)) at) at
-
-    taken_by_at : (task : Option Task) (s : Solo F T X) → At t s → At t (solo.taken_by task s)
-    taken_by_at None s at = at
-    taken_by_at (Some task) s at = begun_at t task (turns.told s) (told_at t s at)
-
-    pending_at : (after : After) (lent : Lent) (future : F) (s : Solo F T X) → At t s → At t (solo.pending_by after lent future s)
-    pending_at DropFuture lent future s at = at
-    pending_at Unknown lent future s at = at
-    pending_at Rest lent future s at = at
-    pending_at Queue lent future s at = scheduled_at t lent.task (solo.put_back lent future s) at
-
-    after_at : (owed : Owed F T X) (s : Solo F T X) → At t s → At t (after_drop owed s)
-    after_at owed s at =
-        chosen (At t) _ s (calls owed.awaiter (lets_go owed.old s)) at
-        (calls_at owed.awaiter (lets_go owed.old s) (lets_go_at owed.old s at))
-
-    ready_at : (lent : Lent) (v : T) (s : Solo F T X) → At t s → At t (solo.settled_ready lent v s)
-    ready_at lent v s at = left_at t lent.place s at
-
-    finished_at : (lent : Lent) (s : Solo F T X) → At t s → At t (solo.finished lent s)
-    finished_at lent s at = left_at t lent.place s at
-
-    leak_woken_at : (s : Solo F T X) → At t s → At t (closing.leak_woken s)
-    leak_woken_at s at = by (slice_get s.leaving.items 0) (closing.first_left s) at
-      where
-        by : (task : Option Task) (s : Solo F T X) → At t s → At t (closing.leak_woken_by task s)
-        by (Some task) s at =
-            lined_if_at t (asked cells.release_queues false task (solo.woken task s).cells) task
-            (turns.turned cells.released task (solo.woken task s)) (woken_at task s at)
-        by None s at = at
-
-    leaked_at : (n : ℕ) (s : Solo F T X) → At t s → At t (repeat n closing.leak_woken s)
-    leaked_at zero s at = at
-    leaked_at (suc n) s at = leaked_at n (closing.leak_woken s) (leak_woken_at s at)
-
-    drains_at : (n : ℕ) (leaving : Leaving) (s : Solo F T X) → At t s → At t (drains n leaving s)
-    drains_at zero leaving s at = at
-    drains_at (suc n) leaving s at =
-        by (more_left (runs.drain_answer leaving s)) (λ more here. drains_at n more (runs.drained leaving s) here)
-        (run_drained_at t (runs.first_left leaving.own) leaving.ticker s at)
-      where
-        by : (more : Option Leaving)
-            → ((more : Leaving) → At t (runs.drained leaving s) → At t (drains n more (runs.drained leaving s)))
-            → At t (runs.drained leaving s) → At t (on more (drains n) (runs.drained leaving s))
-        by (Some more) on here = on more here
-        by None on here = here
-
-  -- a run that keeps none searches further, and takes a turn; so does one that finds none
-  by_none : (o : Option Task) (r start : ℕ) (s : Solo F T X) → o ≡ None
-      → (steals.sought_by o r start s).lines.turn ≡ (s.lines.turn + 1) % 2 ^ 64
-  by_none (Some task) r start s none = absurd cc
-  by_none None r start s none =
-      further_at ((s.lines.turn + 1) % 2 ^ 64) (search_answer s.lines).task (search_answer s.lines).mark r start (solo.popped s)
-      (searched_turn s.lines)
-
-  none_own : (o : Option Task) (r start : ℕ) (s : Solo F T X) → (steals.seek_answer_by o r start s).task ≡ None → o ≡ None
-  none_own (Some task) r start s none = none
-  none_own None r start s none = refl
-
-  pub sought_turn : (r start : ℕ) (s : Solo F T X) → (steals.seek_answer r start s).task ≡ None
-      → (steals.sought r start s).lines.turn ≡ (s.lines.turn + 1) % 2 ^ 64
-  sought_turn r start s none =
-      let o = own.first_of r s.runs in
-      by_none o r start (steals.own_popped r s) (none_own o r start (steals.own_popped r s) none)
-
   abbrev Turns : Choice → Plain T (SoloWaker X) → Call T (SoloWaker X) → Solo F T X → Solo F T X → Type 0
   Turns c p call s z = z.lines.turn ≡ turned_in (turns_of c.refusal p call) s.lines.turn
 

@@ -55,7 +55,8 @@ use Rattle.machine_roads.proofs.AloneKeeps.{due, due_push, due_resting}
 use Rattle.machine_roads.proofs.Seeking.{alone_turn, seeks}
 use Rattle.two_roads.specs.Refusing.{ends_refused, refused_so}
 use Rattle.two_roads.specs.Renaming.{is_refusal}
-use Rattle.two_roads.specs.Turns.{lies_uncalled, searches_by, tick_turns, turned as turned_by}
+use Rattle.plain_scheduler.specs.Usual.{turned as turned_by}
+use Rattle.two_roads.specs.Turns.{lies_uncalled, searches_by, tick_turns}
 use Rattle.two_roads.proofs.Refusing.{last_is, more_test, same_test}
 
 -- who rests stays

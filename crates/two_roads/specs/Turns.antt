@@ -1,7 +1,6 @@
 -- How many turns of the executor's two queues a call takes, as the plain scheduler has it, where no run goes on.
 use Rattle.std.specs.Prelude.{◌≡◌, ℕ, zero, suc, ◌+◌, ◌^◌, ◌%◌, Bool, true, false, List, Ok, find, if◌then◌else◌, is_some, reverse}
 use Rattle.std.specs.Prelude.{length, ◌≤◌}
-use Rattle.executor_parts.specs.Marks.{turn_after}
 use Rattle.executor_model.specs.declared.kind.Kind.{Kind}
 use Rattle.executor_model.specs.declared.op.Waker.{Waker}
 use Rattle.executor_model.specs.declared.step.Step.{Step}
@@ -15,6 +14,7 @@ use Rattle.plain_scheduler.specs.State.{ATick, AtOnce, Choice, Event, Lying, Pla
 use Rattle.plain_scheduler.specs.Lists.{any, or}
 use Rattle.plain_scheduler.specs.Moves.{is_common, lies}
 use Rattle.plain_scheduler.specs.Calls.{Call, PollTick, TryTick}
+use Rattle.plain_scheduler.specs.Usual.{turned}
 use Rattle.machine_roads.specs.View.{Output}
 use Rattle.machine_roads.specs.Within.{Act, IsAct, IsMade, StandsAlike, is_on_way, standing}
 use Rattle.solo_laws.specs.Courses.{Acts}
@@ -44,11 +44,7 @@ turns_of r p TryTick = 1
 turns_of r p (PollTick t w) = tick_turns r t p
 turns_of r p _ = 0
 
--- what the machine's turn is so many later, and that of the executor of one owner
-abbrev pub turned : ℕ → ℕ → ℕ
-turned zero n = n
-turned (suc k) n = turned k (turn_after n)
-
+-- what the turn of the executor of one owner is so many later
 abbrev pub turned_in : ℕ → ℕ → ℕ
 turned_in zero n = n
 turned_in (suc k) n = turned_in k ((n + 1) % 2 ^ 64)

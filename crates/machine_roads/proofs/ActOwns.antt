@@ -1,0 +1,281 @@
+-- The ends of the code of a run's own future, of its poll and of its drop: where the call rests next, both stand alike.
+use Rattle.std.proofs.Common.{◌≡◌, ℕ, suc, ◌<◌, ◌≤◌, ◌++◌, Bool, true, false, List, [], ◌∷◌, length, Option, Some, None, is_some}
+use Rattle.std.proofs.Common.{◌==◌, ◌||◌, ◌&&◌, not, nat_lt, if◌then◌else◌, refl, sym, ap, subst, ◌∙◌, slice_get, arith}
+use Rattle.std.specs.Prelude.{reverse}
+use Rattle.task_moves.specs.declared.moves.owed.Move.{Move}
+use Rattle.task_moves.specs.declared.moves.owed.Move.TheVariants as move
+use Rattle.executor_model.specs.declared.event.Answer.TheVariants as answer
+use Rattle.executor_model.specs.declared.call.Reply.TheVariants as reply
+use Rattle.executor_model.specs.declared.op.HandleOp.TheVariants as handle_op
+use Rattle.executor_model.specs.declared.op.ListOp.TheVariants as list_op
+use Rattle.executor_model.specs.declared.op.Op.{Op}
+use Rattle.executor_model.specs.declared.op.Op.TheVariants as op
+use Rattle.executor_model.specs.declared.op.RunOp.TheVariants as run_op
+use Rattle.executor_model.specs.declared.op.RunPoll.{RunPoll}
+use Rattle.executor_model.specs.declared.op.Section.TheVariants as section
+use Rattle.executor_model.specs.declared.op.TableOp.TheVariants as table_op
+use Rattle.executor_model.specs.declared.op.TickOp.TheVariants as tick_op
+use Rattle.executor_model.specs.declared.op.UserOp.TheVariants as user_op
+use Rattle.executor_model.specs.declared.op.Waker.{Waker}
+use Rattle.executor_model.specs.declared.step.Step.TheVariants.{Answer}
+use Rattle.executor_model.specs.declared.step.Hint.{Hint}
+use Rattle.executor_model.specs.declared.step.StepError.TheVariants.{WrongAnswer}
+use Rattle.executor_model.specs.declared.step.UserEnd.{UserEnd}
+use Rattle.executor_model.specs.declared.step.UserEnd.TheVariants as end
+use Rattle.executor_model.specs.Acts.{is_last_waker}
+use Rattle.executor_model.specs.ActsOfRuns.{asleep}
+use Rattle.executor_model.specs.Rows.{running_of}
+use Rattle.executor_model.specs.Steps.{Machine, accepts, answer_refusal, react, refusal, stack}
+use Rattle.executor_model.specs.World.{Done, World, done, task}
+use Rattle.executor_model.specs.Weights.{weigh}
+use Rattle.executor_model.proofs.OwnQueues.Using.{emptying_of, polling_of}
+use Rattle.executor_model.proofs.Steps.Reached.{Reached}
+use Rattle.executor_model.proofs.Steps.Stepping.{refusal-there}
+use Rattle.executor_laws.proofs.Termination.LoneEnds.{OthersRest}
+use Rattle.plain_scheduler.specs.State.{Choice, Closed, Code, Drop, DropOwn, End, Future, Granted, Later, Lose, Plain, Poll, PollOwn, Ready}
+use Rattle.plain_scheduler.specs.State.{Done as DoneAnswer, Run, Taker}
+use Rattle.plain_scheduler.specs.Lists.{any, on, or}
+use Rattle.plain_scheduler.specs.Moves.{is_due, is_kept}
+use Rattle.plain_scheduler.specs.Searches.{searches, searches_behind}
+use Rattle.plain_scheduler.specs.Takes as plain_takes
+use Rattle.plain_scheduler.specs.Moves as plain
+use Rattle.plain_scheduler.specs.Calls as plain_calls
+use Rattle.plain_scheduler.specs.Calls.{does, Ends, EndsWith, Pends}
+use Rattle.machine_roads.specs.View.{Output, wakes}
+use Rattle.machine_roads.specs.Road.{Follows, futures_in, waking_in}
+use Rattle.machine_roads.specs.Alone.{HasAll, alone, is_resting}
+use Rattle.machine_roads.specs.Choosing.{Chooses}
+use Rattle.machine_roads.specs.Dropped.{Drops, IsEnding, rest_of, without_run}
+use Rattle.machine_roads.specs.Forgotten.{IsForgotten, IsLastPoll, StopsForgetting, unawaited, without_awaiter}
+use Rattle.machine_roads.specs.Refused.{IsLaterAnew}
+use Rattle.machine_roads.specs.Searching.{goes_on_by}
+use Rattle.machine_roads.specs.Stopped.{Finally, IsInPoll, given, of_last, of_tick, of_try, pended}
+use Rattle.machine_roads.specs.Within.{ActsBy, IsMade, Nested, alike, ends, gives, pends}
+use Rattle.machine_roads.specs.Within.{GoesOnBy, IsLeaving, by_run, by_tick, by_try, drops_own, listed, unlisted}
+use Rattle.machine_roads.proofs.ActBegins.{choice_in, enough, more_by_one}
+use Rattle.machine_roads.proofs.ActLands.{Facts, FactsOf, Lands, Tells, after_lands, between, drops_lands, forgets_lands, goes_lands}
+use Rattle.machine_roads.proofs.ActLands.{stays_lands}
+use Rattle.machine_roads.proofs.ActCodes.{back, came_by, count_at, follows0, found_says, lands_so, room as its_room, under as rests_under}
+use Rattle.machine_roads.proofs.AloneKeeps.{due, due_resting}
+use Rattle.machine_roads.proofs.Calling.{idles}
+use Rattle.machine_roads.proofs.Chosen.{found_so, later_so, none_so, searches_so}
+use Rattle.machine_roads.proofs.Counted.{CountsSo, alone_counts, counts}
+use Rattle.machine_roads.proofs.Counting.{Alike, Counted, StandsSo, Taken, lasts, leaves, like, none_last, none_left, over_in, some_op}
+use Rattle.machine_roads.proofs.Counting.{taken_in}
+use Rattle.machine_roads.proofs.GoingStill.{behind_pended, dropped_still, forgets_still, forgotten_still, lost_still, pended_still}
+use Rattle.machine_roads.proofs.Having.{same_self}
+use Rattle.machine_roads.proofs.Inmost.{IsDropOf, is_going, is_taken, rests_in}
+use Rattle.machine_roads.proofs.LaterAnew.{LiesThere, ends_anew, granted_anew}
+use Rattle.machine_roads.proofs.Lists.{clash, same_of}
+use Rattle.machine_roads.proofs.LoneRuns.{passed}
+use Rattle.machine_roads.proofs.OwnGoes.{own_went}
+use Rattle.machine_roads.proofs.OwnPolls.{own_goes}
+use Rattle.machine_roads.proofs.Passing.{Passes, telling}
+use Rattle.machine_roads.proofs.Pending.{gives_so}
+use Rattle.machine_roads.proofs.Puts.{put_at, put_by}
+use Rattle.machine_roads.proofs.RunApart.{drop_ends, gives_ends, gone_spares, gone_taken, loss_ends, pends_ends, take_ends}
+use Rattle.machine_roads.proofs.RunEnding.{behind_dropped, behind_lost}
+use Rattle.machine_roads.proofs.RunHere.{Above, final_none, going_here, left_here, none_empty, off_left, used_once}
+use Rattle.machine_roads.proofs.Runs.{changed, ended_run, runs_is}
+use Rattle.machine_roads.proofs.RunsOn.{Searched, goes_from, search_at}
+use Rattle.machine_roads.proofs.Standing.{IsGoing, IsTaken, StaysSo}
+use Rattle.machine_roads.proofs.Stepping.{Way}
+use Rattle.machine_roads.proofs.Still.{Still, still_here}
+use Rattle.machine_roads.proofs.Tying.{LeadsSo, top_of}
+use Rattle.machine_roads.proofs.Unseen.{stands_in}
+
+module _ (s : Machine) (reached : Reached s) (p : ℕ) (there : p < length s.parties) (open_still : s.world.gone ≡ false)
+    (others : OthersRest p s) (q : Plain Output Waker) (counted : Counted (reverse (stack s p)) q.runs)
+    (below : List Op) (inside : List (Code Output Waker)) (nested : Nested below inside) where
+  abbrev c1 : Choice
+  c1 = choice_in s q Granted
+
+  many : length q.lying ≤ suc (length q.lying)
+  many = enough (length q.lying)
+
+  abbrev room : length q.lying < suc (length q.lying)
+  room = its_room s reached p there open_still others q counted
+
+  abbrev under : is_resting below ≡ true
+  under = rests_under s reached p there open_still others q counted below inside nested
+
+  abbrev Comes : UserEnd → Done → Type 0
+  Comes u e = (r : Plain Output Waker) × ActsBy s p (Answer p u) q r e.world × StandsSo e r
+
+  abbrev Leads : UserEnd → Op → List Op → Type 0
+  Leads u o os = LeadsSo p (done (react p o u s.world).world ((react p o u s.world).next ++ os)) (Comes u)
+
+  abbrev r0 : Plain Output Waker
+  r0 = record q { inside = inside }
+
+  abbrev r1 : Code Output Waker → Plain Output Waker
+  r1 code = record q { inside = code ∷ inside }
+
+  same : (code : Code Output Waker) → q.inside ≡ code ∷ inside → r1 code ≡ q
+  same code at = ap (λ (codes : List (Code Output Waker)). record q { inside = codes }) (sym at)
+
+  abbrev Says : plain_calls.Call Output Waker → Code Output Waker → Done → Choice → Type 0
+  Says x code e d = Chooses s.world e.world d x (r1 code) × LiesThere (r1 code) (does wakes d x (r1 code)) d x
+
+  -- the poll of a run's own future: with an output, or without
+  pub from_own_poll : (x : RunPoll) → reverse (stack s p) ≡ op.User (user_op.PollOwn x) ∷ below → q.inside ≡ PollOwn x.run x.waker ∷
+      inside
+      → Follows s.world q → (u : UserEnd) → accepts (op.User (user_op.PollOwn x)) u ≡ true
+      → Leads u (op.User (user_op.PollOwn x)) below
+  from_own_poll x is at follows (end.Polled answer.Ready) ok = λ hints all rests.
+      let os = op.User (user_op.DropOwn x.run) ∷ op.List (list_op.LockWrite (section.Unregister x.run reply.Ready)) ∷ below in
+      let e = alone p hints (done s.world os) in
+      let stays : done s.world os ≡ e = sym (idles p hints os s.world refl) in
+      let z : Plain Output Waker = r1 (DropOwn x.run Ready) in
+      came_by s reached p there open_still others q counted (end.Polled answer.Ready) (EndsWith tt) gives e c1 refl tt
+      (subst (λ y. Chooses s.world e.world c1 (EndsWith tt) y) (same (PollOwn x.run x.waker) at)
+      (none_so s.world e.world (EndsWith tt) (r1 (PollOwn x.run x.waker)) c1 refl
+      (subst (λ (d : Done). CountsSo s.world d.world) stays (λ k. refl))))
+      (subst (λ y. StandsSo e (does wakes c1 (EndsWith tt) y)) (same (PollOwn x.run x.waker) at)
+      (subst (λ (d : Done). StandsSo d z) stays
+      (record {
+        alike = alike (drops_own x.run below inside nested)
+            (stands_in (DropOwn x.run Ready ∷ inside) s.world q follows (sym (ap (λ codes. waking_in codes) at)));
+        counted = record {
+          taken = count0.taken;
+          going = λ r is_left. goes r (r == x.run) refl is_left;
+        };
+      })))
+    where
+      xs : List Op
+      xs = op.User (user_op.PollOwn x) ∷ below
+
+      count0 : Counted below q.runs
+      count0 = count_at s reached p there open_still others q counted below inside nested (op.User (user_op.PollOwn x) ∷ below) below is
+          (record { last = λ r. refl; left = λ r. refl })
+
+      polled : over_in x.run q.runs ≡ false
+      polled =
+          going_here s reached p there (op.User (user_op.PollOwn x) ∷ below) is q s.world follows refl refl x.run
+          (omega (arith, same_self x.run))
+
+      goes : (r : ℕ) (b : Bool) → (r == x.run) ≡ b → ((r == x.run) || some_op (leaves r) below) ≡ true → over_in r q.runs ≡ false
+      goes r true here is_left = ap (λ k. over_in k q.runs) (same_of r x.run here) ∙ polled
+      goes r false apart is_left = count0.going r (ap (λ b. b || some_op (leaves r) below) (sym apart) ∙ is_left)
+  from_own_poll x is at follows (end.Polled answer.Pending) ok = λ hints all rests. by hints all rests
+    where
+      xs : List Op
+      xs = op.User (user_op.PollOwn x) ∷ below
+
+      count : Counted (goes_on_by x false ∷ below) q.runs
+      count = count_at s reached p there open_still others q counted below inside nested xs (goes_on_by x false ∷ below) is
+          (record { last = λ r. refl; left = λ r. refl })
+
+      unused : weigh (running_of x.run) below ≡ 0
+      unused = omega (arith, used_once s reached p there xs is x.run, same_self x.run)
+
+      few : nat_lt (taken_in x.run q.runs) 200 ≡ true
+      few = subst (λ b. Taken b (taken_in x.run q.runs)) (none_last x.run below unused) (count.taken x.run)
+
+      facts0 : Facts below r0 x
+      facts0 = record {
+        unused = unused;
+        going = going_here s reached p there xs is q s.world follows refl refl x.run (omega (arith, same_self x.run));
+        left = left_here s reached p there xs is q s.world follows refl refl others
+            (λ k off. omega (arith, none_empty k below inside nested off)) (subst (λ os. Counted os q.runs) is counted);
+      }
+
+      search : Done
+      search = done s.world (op.Tick (tick_op.Search (asleep x)) ∷ below)
+
+      will : Choice → Plain Output Waker
+      will d = does wakes d Pends (r1 (PollOwn x.run x.waker))
+
+      -- where something is due it takes, and else it lies down, or is refused memory
+      by : (hints : List Hint) → HasAll p hints search → is_resting (alone p hints search).next ≡ true
+          → Comes (end.Polled answer.Pending) (alone p hints search)
+      by hints all rests =
+          let e = alone p hints search in
+          let lands =
+          after_lands p below r0 nested under c1 room e rests will (Says Pends (PollOwn x.run x.waker) e) x false count facts0
+          (λ d. take_ends d x.run x.waker r0 few) (taken_in x.run q.runs)
+          (goes_from p x below r0 c1.tells (taken_in x.run q.runs) e will (Says Pends (PollOwn x.run x.waker) e) under rests c1 s.world r0
+          (follows0 s reached p there open_still others q counted below inside nested (PollOwn x.run x.waker) at refl s.world follows) room
+          (between p below r0 nested under c1 room e rests will (Says Pends (PollOwn x.run x.waker) e) x false count facts0) refl
+          (record { hints = hints; has = all; is = refl })
+          (λ d. sym (ap (λ b. if b then plain_takes.take wakes (telling c1.tells d) (Run x.run x.waker) r0
+          else plain_takes.gives_way wakes (telling c1.tells d) x.run x.waker r0) few))
+          (λ d so.
+          found_says s reached p there open_still others q counted below inside nested Pends (PollOwn x.run x.waker) e
+          (telling c1.tells d) s.world x.run x.waker r0 (still_here s.world) refl so)) in
+          lands_so s reached p there open_still others q counted below inside nested (end.Polled answer.Pending) Pends pends
+          (PollOwn x.run x.waker) at e rests lands
+  from_own_poll x is at follows u ok = absurd cc
+
+  -- a run has gone: what others have taken stays
+  gone_count : (r : ℕ) → weigh (running_of r) below ≡ 0 → ((k : ℕ) → Taken (some_op (lasts k) below) (taken_in k q.runs))
+      → ((k : ℕ) → (k == r) ≡ false → some_op (leaves k) below ≡ true → over_in k q.runs ≡ false)
+      → Counted below (plain_calls.gone wakes c1 r r0).runs
+  gone_count r unused taken going = record {
+    taken = λ k. subst (Taken (some_op (lasts k) below)) (sym (gone_taken c1 k r r0)) (taken k);
+    going = λ k is_left. goes k (k == r) refl is_left;
+  }
+    where
+      goes : (k : ℕ) (b : Bool) → (k == r) ≡ b → some_op (leaves k) below ≡ true
+          → over_in k (plain_calls.gone wakes c1 r r0).runs ≡ false
+      goes k true here is_left =
+          absurd (clash (ap (λ k. some_op (leaves k) below) (same_of k r here) ∙ none_left r below unused) is_left)
+      goes k false apart is_left =
+          ap (λ o. or o (λ run. run.is_over) true) (gone_spares c1 k r r0 apart) ∙ going k apart is_left
+
+  -- and its drop
+  pub from_own_drop : (r : ℕ)
+      → reverse (stack s p) ≡ op.User (user_op.DropOwn r) ∷ op.List (list_op.LockWrite (section.Unregister r reply.Ready)) ∷ below
+      → q.inside ≡ DropOwn r Ready ∷ inside → Follows s.world q → (u : UserEnd) → accepts (op.User (user_op.DropOwn r)) u ≡ true
+      → Leads u (op.User (user_op.DropOwn r)) (op.List (list_op.LockWrite (section.Unregister r reply.Ready)) ∷ below)
+  from_own_drop r is at follows end.Done ok = λ hints all rests.
+      let xs = op.User (user_op.DropOwn r) ∷ op.List (list_op.LockWrite (section.Unregister r reply.Ready)) ∷ below in
+      let e = alone p hints (done s.world (op.List (list_op.LockWrite (section.Unregister r reply.Ready)) ∷ below)) in
+      let counted0 : Counted xs q.runs = subst (λ os. Counted os q.runs) is counted in
+      let so =
+      own_goes p below under s.world r0 (follows0 s reached p there open_still others q counted below inside nested (DropOwn r Ready) at
+      refl s.world follows) c1 many r hints all rests in
+      back s reached p there open_still others q counted below inside nested end.Done Ends ends (DropOwn r Ready) at e
+      (none_so s.world e.world Ends (r1 (DropOwn r Ready)) c1 refl
+      (alone_counts p hints s.world (op.List (list_op.LockWrite (section.Unregister r reply.Ready)) ∷ below)
+      (omega (arith, due_resting counts below under)))) so.0 so.2
+      (gone_count r (omega (arith, used_once s reached p there xs is r, same_self r)) counted0.taken
+      (λ k apart is_left. counted0.going k (ap (λ b. b || some_op (leaves k) below) apart ∙ is_left))) so.1
+  from_own_drop r is at follows u ok = absurd cc
+
+  -- so is that of a run that goes
+  pub from_going : (r : ℕ) (rest : Op) → IsLeaving r rest → reverse (stack s p) ≡ op.User (user_op.DropOwn r) ∷ rest ∷ below
+      → q.inside ≡ DropOwn r DoneAnswer ∷ inside → Follows s.world (plain.runs ended_run r q)
+      → (u : UserEnd) → accepts (op.User (user_op.DropOwn r)) u ≡ true → Leads u (op.User (user_op.DropOwn r)) (rest ∷ below)
+  from_going r rest leaving is at follows end.Done ok = λ hints all rests.
+      let e = alone p hints (done s.world (rest ∷ below)) in
+      let so =
+      own_went p below under s.world r0 r rest leaving
+      (stands_in inside s.world (record q { runs = changed ended_run r q.runs }) (subst (Follows s.world) (runs_is ended_run r q) follows)
+      (sym (ap (λ codes. waking_in codes) at))) c1 many hints all rests in
+      back s reached p there open_still others q counted below inside nested end.Done Ends ends (DropOwn r DoneAnswer) at e
+      (none_so s.world e.world Ends (r1 (DropOwn r DoneAnswer)) c1 refl (counts_on rest leaving hints)) so.0 so.2 (by rest leaving is)
+      so.1
+    where
+      counts_on : (rest : Op) → IsLeaving r rest → (hints : List Hint)
+          → CountsSo s.world (alone p hints (done s.world (rest ∷ below))).world
+      counts_on rest unlisted hints =
+          alone_counts p hints s.world (op.Run (run_op.Reschedule r reply.Done) ∷ below)
+          (omega (arith, due_resting counts below under))
+      counts_on rest listed hints =
+          alone_counts p hints s.world (op.List (list_op.LockWrite (section.Unregister r reply.Done)) ∷ below)
+          (omega (arith, due_resting counts below under))
+
+      by : (rest : Op) → IsLeaving r rest → reverse (stack s p) ≡ op.User (user_op.DropOwn r) ∷ rest ∷ below
+          → Counted below (plain_calls.gone wakes c1 r r0).runs
+      by rest unlisted is =
+          let xs = op.User (user_op.DropOwn r) ∷ op.Run (run_op.Reschedule r reply.Done) ∷ below in
+          let counted0 : Counted xs q.runs = subst (λ os. Counted os q.runs) is counted in
+          gone_count r (omega (arith, used_once s reached p there xs is r, same_self r)) counted0.taken
+          (λ k apart is_left. counted0.going k is_left)
+      by rest listed is =
+          let xs = op.User (user_op.DropOwn r) ∷ op.List (list_op.LockWrite (section.Unregister r reply.Done)) ∷ below in
+          let counted0 : Counted xs q.runs = subst (λ os. Counted os q.runs) is counted in
+          gone_count r (omega (arith, used_once s reached p there xs is r, same_self r)) counted0.taken
+          (λ k apart is_left. counted0.going k (ap (λ b. b || some_op (leaves k) below) apart ∙ is_left))
+  from_going r rest leaving is at follows u ok = absurd cc

@@ -1,0 +1,82 @@
+-- What a call chooses as it searches: from what the search tells of the world at it, which is in this as the one that the call began in.
+use Rattle.std.proofs.Common.{◌≡◌, ◌==◌, ◌&&◌, ℕ, nat_lt, true, false, if◌then◌else◌, Option, Some, None, is_some, slice_get, sym, ap}
+use Rattle.std.proofs.Common.{subst, ◌∙◌}
+use Rattle.executor_parts.specs.Marks.{first_of}
+use Rattle.executor_parts.specs.declared.mark.Mark.{Mark}
+use Rattle.executor_model.specs.declared.op.Waker.{Waker}
+use Rattle.executor_model.specs.World.{World}
+use Rattle.plain_scheduler.specs.State.{Choice, Later, Plain, Run, Taker}
+use Rattle.plain_scheduler.specs.Lists.{any, or}
+use Rattle.plain_scheduler.specs.Moves.{is_due}
+use Rattle.plain_scheduler.specs.Calls.{Call}
+use Rattle.plain_scheduler.specs.Searches.{Search, finds, searches, searches_of}
+use Rattle.plain_scheduler.specs.Usual.{RobsAsUsual, TakesAsUsual, one_counted, run_turns, turned}
+use Rattle.machine_roads.specs.View.{Output, wakes}
+use Rattle.machine_roads.specs.Choosing.{Chooses, has_counted}
+use Rattle.machine_roads.specs.Refused.{OneMoreLies}
+use Rattle.machine_roads.proofs.Lists.{clash}
+use Rattle.machine_roads.proofs.RunsOn.{Searched, search_at}
+use Rattle.machine_roads.proofs.Still.{Still}
+
+abbrev the : Search Output Waker → Option (Search Output Waker) → Search Output Waker
+the x o = or o (λ y. y) x
+
+-- a run that has taken fewer than 200 searches
+pub searches_so : (c : Choice) (r : ℕ) (a : Waker) (b : Plain Output Waker) (taker : Taker Waker) → taker ≡ Run r a
+    → nat_lt (or (slice_get b.runs r) (λ run. run.taken) 0) 200 ≡ true → searches_of wakes c taker b ≡ Some (search_at r a b)
+searches_so c r a b taker is few =
+    ap (λ t. searches_of wakes c t b) is ∙ ap (λ b0. if b0 then Some (search_at r a b) else None) few
+
+module _ (w v : World) (call : Call Output Waker) (q : Plain Output Waker) (d : Choice) where
+  pub found_so : (u : World) (r : ℕ) (a : Waker) (b z : Plain Output Waker) → Still w u
+      → searches wakes d call q ≡ Some (search_at r a b) → Searched r a u b d v z → Chooses w v d call q
+  found_so u r a b z still is so = record {
+    usual = λ x its due.
+        subst (λ x. TakesAsUsual wakes d (first_of w.urgent_turns) (has_counted w x.run) x) (same x its)
+        (subst (λ n. TakesAsUsual wakes d (first_of n) (has_counted w r) (search_at r a b)) still.turn
+        (subst (λ n. TakesAsUsual wakes d (first_of u.urgent_turns) n (search_at r a b)) (still.counted r)
+        (so.usual (ap finds (same x its) ∙ due))));
+    start = so.start;
+    robs = λ x its due.
+        subst (λ x. RobsAsUsual wakes d w.listed so.start x) (same x its)
+        (subst (λ ks. RobsAsUsual wakes d ks so.start (search_at r a b)) still.listed (so.robs (ap finds (same x its) ∙ due)));
+    counted = λ k.
+        so.counted k
+        ∙ (ap (λ n. if (k == r) && any is_due b.due then one_counted n else n) (still.counted k)
+        ∙ sym (ap
+        (λ (o : Option (Search Output Waker)). or o (λ x. if (k == x.run) && finds x then one_counted (has_counted w k) else has_counted w
+        k)
+        (has_counted w k)) is));
+    turns = λ x its.
+        so.turns
+        ∙ (ap (λ n. turned (run_turns d.refusal (search_at r a b)) n) still.turn
+        ∙ ap (λ x. turned (run_turns d.refusal x) w.urgent_turns) (same x its));
+  }
+    where
+      same : (x : Search Output Waker) → searches wakes d call q ≡ Some x → search_at r a b ≡ x
+      same x its = ap (the x) (sym is ∙ its)
+
+  -- one more lies behind a search in vain that is refused memory so
+  pub later_so : (u : World) (r : ℕ) (a : Waker) (b z : Plain Output Waker) → searches wakes d call q ≡ Some (search_at r a b)
+      → Searched r a u b d v z → (y : Search Output Waker) → searches wakes d call q ≡ Some y → finds y ≡ false → d.refusal ≡ Later
+      → OneMoreLies y.at z
+  later_so u r a b z is so y its vain later =
+      let same : search_at r a b ≡ y = ap (the y) (sym is ∙ its) in
+      subst (λ (y : Search Output Waker). OneMoreLies y.at z) same (so.later (ap finds same ∙ vain) later)
+
+  pub none_so : searches wakes d call q ≡ None → ((k : ℕ) → has_counted v k ≡ has_counted w k) → Chooses w v d call q
+  none_so none stays = record {
+    usual = λ x its due. absurd (no_search x its);
+    start = 0;
+    robs = λ x its due. absurd (no_search x its);
+    counted = λ k.
+        stays k
+        ∙ sym (ap
+        (λ (o : Option (Search Output Waker)). or o (λ x. if (k == x.run) && finds x then one_counted (has_counted w k) else has_counted w
+        k)
+        (has_counted w k)) none);
+    turns = λ x its. absurd (no_search x its);
+  }
+    where
+      no_search : (x : Search Output Waker) → searches wakes d call q ≡ Some x → ⊥
+      no_search x its = clash (ap is_some none) (ap is_some its)

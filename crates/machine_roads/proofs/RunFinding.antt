@@ -234,7 +234,8 @@ module _ (p : ℕ) (below : List Op) (under : is_resting below ≡ true) (end : 
 
   -- one without a keeper
   pub takes_common : (start : ℕ) (m : Mark) (f : ℕ) (rest : List ℕ) (w : World) (q : Plain Output Waker) → r < length w.runs
-      → Follows w q → fits q → CanTake q r → (queue_of w m).items ≡ f ∷ rest → ((e : Due) → any (is_common m) q.due ≡ true → its_test 0 q.due e ≡ is_common m e)
+      → Follows w q → fits q → CanTake q r → (queue_of w m).items ≡ f ∷ rest
+      → ((e : Due) → any (is_common m) q.due ≡ true → its_test 0 q.due e ≡ is_common m e)
       → Way p end (put_queue w m (taken (queue_of w m)))
       (op.Steal (steal_op.Length (record { poll = x; from = Common m; then = then.Found f })) ∷ below)
       → Found start w.urgent_turns w q

@@ -1,3 +1,6 @@
+pub mod ActsOrder
+pub mod OrderedEnds
+pub mod StandsHere
 pub mod Rescheduling
 pub mod BehindTake
 pub mod Enlisting

@@ -1,6 +1,6 @@
 -- In each machine to which steps lead the own queue of a run that schedules what is left in it isn't in the list.
 use Rattle.std.proofs.Common.{◌≡◌, ◌≢◌, ◌+◌, ◌%◌, ◌≤◌, ◌<◌, ◌++◌, ℕ, zero, suc, List, [], ◌∷◌, Bool, true, false, length, get_or, set, eqb}
-use Rattle.std.proofs.Common.{refl, sym, ap, ◌∙◌, subst, arith, ◌⊎◌, inl, inr, ⊎_elim, get_or-set_same, get_or-set_other}
+use Rattle.std.proofs.Common.{refl, sym, ap, ◌∙◌, subst, arith, ◌⊎◌, inl, inr, ⊎_elim, get_or-set_other}
 use Rattle.std.specs.Prelude.{Option, Some, None, reverse}
 use Rattle.executor_laws.proofs.Types.{Call, Event, Hint, Hold, Kind, ListOp, Op, Reply, RunOp, RunPoll, Section, Steal, UserEnd, UserOp, Waker}
 use Rattle.executor_model.specs.declared.event.Answer.{Answer}
@@ -19,7 +19,7 @@ use Rattle.executor_model.specs.Doing.{act, list_act}
 use Rattle.executor_model.specs.Good.{Good}
 use Rattle.executor_model.specs.OwnQueues.{is_listed}
 use Rattle.executor_model.specs.Rows.{running_of}
-use Rattle.executor_model.specs.Steps.{Machine, accepts, begun, drop_run, future_of, kept, mine, poll_run, react, run, stack, start, top, waker_of, with_future}
+use Rattle.executor_model.specs.Steps.{Machine, accepts, begun, drop_run, future_of, kept, mine, poll_run, react, stack, start, top, waker_of, with_future}
 use Rattle.executor_model.specs.Weights.{same, weigh, weigh_all}
 use Rattle.executor_model.specs.World.{Done, Ended, Listed, New, Stage, World, done, log, no_run, own_of, put_own, run_of}
 

@@ -1,4 +1,3 @@
-use Rattle.machine_roads.proofs.Rescheduling.{off_here}
 use Rattle.machine_roads.proofs.Acts.{acts_alike}
 use Rattle.machine_roads.proofs.nested.lists_of_nested_calls_go_alike.Goals as goal
 

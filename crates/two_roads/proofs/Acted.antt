@@ -8,8 +8,6 @@ use Rattle.executor_model.specs.declared.step.Step.TheVariants.{Answer, Begin, G
 use Rattle.executor_model.specs.Steps.{Machine}
 use Rattle.executor_model.specs.World.{World}
 use Rattle.solo.specs.declared.names.SoloWaker.{SoloWaker}
-use Rattle.solo.specs.declared.owed.Lent.{Lent}
-use Rattle.solo.specs.declared.solo.Solo.{Solo}
 use Rattle.plain_scheduler.specs.State.{Answers, Choice, Event, Gives, Plain, Refusal}
 use Rattle.plain_scheduler.specs.Calls as calls
 use Rattle.plain_scheduler.specs.Calls.{Call, does}
@@ -23,8 +21,6 @@ use Rattle.machine_roads.specs.Seeing.{heard_in, shown as shown_alike}
 use Rattle.machine_roads.specs.View.{Output, wakes as wakes_in}
 use Rattle.machine_roads.specs.Within.{Act, ActsBy, IsChosenAt, IsMade}
 use Rattle.machine_roads.proofs.Lists.{clash}
-use Rattle.solo_laws.specs.Courses.{Leads, leads, stays}
-use Rattle.solo_laws.specs.Owner.{Owner}
 use Rattle.solo_laws.specs.Road.{wakes}
 use Rattle.two_roads.specs.Refusing.{asks_memory, ends_refused, refused_in, refused_so}
 use Rattle.two_roads.specs.Renaming.{CallsAlike, call_as, is_refusal, lying_as, renamed}
@@ -39,18 +35,6 @@ refusal_shown : (e : Event Output Waker) → is_refusal (shown_alike e) ≡ is_r
 refusal_shown (Answers (Gives v)) = refl
 refusal_shown e = refl
 
--- each call tells who lay down last
-module _ {T X : Type 0} where
-  abbrev pub AllTell : List (Choice × Call T (SoloWaker X)) → Plain T (SoloWaker X) → Type 0
-  AllTell [] p = Unit {0}
-  AllTell (x ∷ xs) p = (length p.lying ≤ x.0.tells) × AllTell xs (does wakes x.0 x.1 p)
-
-pub all_tell : {F T X : Type 0} (its : ℕ → Lent) (cs : List (Choice × Call T (SoloWaker X))) (before after : Owner) (s z : Solo F T X)
-    (p : Plain T (SoloWaker X)) (shown : List (Event T (SoloWaker X))) → Leads its cs before s p shown after z → AllTell cs p
-all_tell its cs before after s z p shown (stays owner t q) = tt
-all_tell its cs before after s z p shown (leads c call rest b now e t y u q shows others tells acts on) =
-    (tells, all_tell its rest now e y u (does wakes c call q) others on)
-
 -- what the machine's road says of what is chosen
 pub first_at : (w : World) (q : Plain Output Waker) (d : Choice) (t : Step) → is_begin t ≡ true → IsChosenAt t w q d
     → d.first ≡ first_of w.urgent_turns
@@ -62,6 +46,17 @@ pub tells_at : (w : World) (q : Plain Output Waker) (d : Choice) (t : Step) → 
 tells_at w q d (Begin p c) chosen = chosen.tells
 tells_at w q d (Go p h) chosen = chosen
 tells_at w q d (Answer p u) chosen = chosen
+
+-- what is refused in an act is seen in what its call makes
+pub seen_so : (s : Machine) (a : Act) (q r : Plain Output Waker) → Lie s.world q
+    → heard_in a.left.world.trace ≡ map shown_alike r.events → Lie a.left.world r
+    → refused_in s a ≡ refused_so (ends_refused r.events) (nat_lt (length (uncalled q.lying)) (length (uncalled r.lying)))
+seen_so s a q r lie seen lie_then =
+    ap
+    (λ b. refused_so b (nat_lt (length s.world.sleepers.wakers) (length a.left.world.sleepers.wakers)))
+    (ap (λ es. ends_refused es) seen ∙ map_last shown_alike refusal_shown r.events)
+    ∙ (ap (λ n. refused_so (ends_refused r.events) (nat_lt n (length a.left.world.sleepers.wakers))) lie
+    ∙ ap (λ n. refused_so (ends_refused r.events) (nat_lt (length (uncalled q.lying)) n)) lie_then)
 
 -- a call in which none looks for a future: it may choose of takes what it likes
 pub record IsAside {T A : Type 0} (wakes : A → Option ℕ) (c : Choice) (p : Plain T A) (call : Call T A) : Type 0 where
@@ -131,15 +126,6 @@ module _ {T X : Type 0} (number : X → ℕ) where
           less : (n m t : ℕ) → n ≡ m → m < t → n ≤ t
           less n m t same below = omega (arith, same, below)
 
-      -- what is refused in the act is seen in what the call makes
-      seen_so : refused_in s a ≡ refused_so (ends_refused r.events) (nat_lt (length (uncalled q.lying)) (length (uncalled r.lying)))
-      seen_so =
-          ap
-          (λ b. refused_so b (nat_lt (length s.world.sleepers.wakers) (length a.left.world.sleepers.wakers)))
-          (ap (λ es. ends_refused es) seen ∙ map_last shown_alike refusal_shown r.events)
-          ∙ (ap (λ n. refused_so (ends_refused r.events) (nat_lt n (length a.left.world.sleepers.wakers))) lie
-          ∙ ap (λ n. refused_so (ends_refused r.events) (nat_lt (length (uncalled q.lying)) n)) lie_then)
-
       -- with the machine's choice it asks where it does with this one
       asks_it : asks_memory wakes_in by.choice (renamed nothing (numbered number) p) same_call ≡ asks_memory wakes c p call
       asks_it =
@@ -177,7 +163,7 @@ module _ {T X : Type 0} (number : X → ℕ) where
           (subst
           (λ (z : Plain Output Waker). c.refusal
           ≡ refused_so (ends_refused z.events) (nat_lt (length (uncalled q.lying)) (length (uncalled z.lying))))
-          (sym so) (refused asks ∙ seen_so))
+          (sym so) (refused asks ∙ seen_so s a q r lie seen lie_then))
           ∙ so))
       whether false asks =
           let d : Choice = record c { refusal = by.choice.refusal } in

@@ -35,7 +35,7 @@ use Rattle.two_roads.specs.Acting.{AreOfSteps, acts_by, left_of}
 use Rattle.two_roads.specs.Renaming.{call_as, event_as, lying_as, renamed}
 use Rattle.two_roads.specs.Together.{as_heard, nothing, numbered}
 use Rattle.two_roads.proofs.Acted.{one_same, tells_at}
-use Rattle.two_roads.proofs.ActSays.{AllSay}
+use Rattle.two_roads.proofs.ActSays.{act_says}
 use Rattle.two_roads.proofs.Both.{map_twice}
 use Rattle.two_roads.proofs.CallSays.{call_says}
 use Rattle.two_roads.proofs.Inner.{acts_seen, seen_in}
@@ -57,7 +57,7 @@ OthersRest p s = (q : ℕ) → ¬ (q ≡ p) → stack s q ≡ []
 fewer : (n m t : ℕ) → n ≡ m → m < t → n ≤ t
 fewer n m t same below = omega (arith, same, below)
 
-module _ {F T X : Type 0} (its : ℕ → Lent) (number : X → ℕ) (act_says : AllSay) where
+module _ {F T X : Type 0} (its : ℕ → Lent) (number : X → ℕ) where
   in_step : (acts : List Act) (s : Machine) → Reached s → (before : ℕ) → OthersRest before s → (q : Plain Output Waker)
       → StandsAlike (standing s before) q → AreActs s acts → (go : ActAlike s q acts) → (p : Plain T (SoloWaker X))
       → renamed nothing (numbered number) p ≡ q → (cs : List (Choice × Call T (SoloWaker X))) (owner last : Owner) (y z : Solo F T X)

@@ -29,13 +29,12 @@ use Rattle.solo_laws.proofs.Showing.LastCalls.{last_calls_alike}
 use Rattle.two_roads.specs.Acting.{AreOfSteps, EndOfSteps, left_of}
 use Rattle.two_roads.specs.Renaming.{code_as, event_as, renamed}
 use Rattle.two_roads.specs.Together.{as_heard, nothing, numbered}
-use Rattle.two_roads.proofs.ActSays.{AllSay}
 use Rattle.two_roads.proofs.ActedToEnd.{ends_acted, last_aside}
 use Rattle.two_roads.proofs.Both.{course_of_both, map_twice}
 use Rattle.two_roads.proofs.InDrop.{acts_come}
 use Rattle.two_roads.proofs.InStep.{steps_same}
 
-module _ {F T X : Type 0} (its : ℕ → Lent) (number : X → ℕ) (act_says : AllSay) where
+module _ {F T X : Type 0} (its : ℕ → Lent) (number : X → ℕ) where
   pub steps_end_together : (limit : ℕ) (kind : MachineKind) (solo_kind : Kind) (parties : ℕ) (acts : List Act) (a : Act)
       (later : List Act) (cs ends : List (Choice × Call T (SoloWaker X))) (first middle last : Solo F T X)
       (shown others : List (Event T (SoloWaker X))) (before : Who → ℕ) (after : Owner) → AreActs (start limit kind parties) acts
@@ -65,7 +64,7 @@ module _ {F T X : Type 0} (its : ℕ → Lent) (number : X → ℕ) (act_says : 
       (none_lost its limit (is_static_kind kind) cs (new_owner before) after first middle shown led) then_so in
       let together = course_of_both wakes cs ends (new limit (is_static_kind kind)) in
       let comes : renamed nothing (numbered number) p ≡ r =
-      steps_same its number act_says limit kind solo_kind parties acts cs first middle shown before after they go.0 is_new counted led are
+      steps_same its number limit kind solo_kind parties acts cs first middle shown before after they go.0 is_new counted led are
       ∙ acts_come acts s q go.0 in
       let nowhere_there : r.inside ≡ [] =
       ap (λ (z : Plain Output Waker). z.inside) (sym comes) ∙ ap (map (code_as nothing (numbered number))) nowhere in

@@ -47,5 +47,5 @@ module _ (s : Machine) (reached : Reached s) (q : Plain Output Waker) (a : Act) 
     usual = by.chooses.usual;
     keeper = by.chooses.keeper;
     counted = by.chooses.counted;
-    turned = by.chooses.turned ∙ ap (λ n. turned n s.world.urgent_turns) (sym turns_by);
+    turned = by.chooses.turns ∙ ap (λ n. turned n s.world.urgent_turns) (sym turns_by);
   }

@@ -43,4 +43,3 @@ pub mod SearchesGo
 pub mod Choosing
 pub mod Counting
 pub mod Ordering
-pub mod Starting

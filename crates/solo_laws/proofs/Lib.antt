@@ -28,4 +28,5 @@ pub mod RoomFrames
 pub mod RoomCourses
 pub mod Following
 pub mod Showing
+pub mod Happening
 pub mod Stepping

@@ -6,6 +6,7 @@
 pub mod answers;
 pub mod laws;
 pub mod lying;
+pub mod making;
 pub mod roads;
 pub mod running;
 pub mod turns;

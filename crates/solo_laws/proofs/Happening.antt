@@ -2,3 +2,7 @@
 pub mod Choosing
 pub mod Ticks
 pub mod Searching
+pub mod Behind
+pub mod Ends
+pub mod Codes
+pub mod Each

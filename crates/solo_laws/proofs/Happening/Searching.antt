@@ -31,6 +31,12 @@ use Rattle.solo_laws.specs.Walking.{robbed, robs_more, searched_none}
 use Rattle.solo_laws.proofs.Happening.Choosing.{fewer}
 use Rattle.solo_laws.proofs.Happening.Ticks.{can_copy, granted_so, later_so, names}
 
+-- some choice that tells so, with which it is so
+pub record SomeChoice (tells : ℕ) (So : Choice → Type 0) : Type 0 where
+  pub choice : Choice
+  pub tells_so : choice.tells ≡ tells
+  pub so : So choice
+
 module _ {F T X : Type 0} (its : ℕ → Lent) (owner : Owner) (runner : Runner) (w : SoloWaker X) (s : Solo F T X) (refusal : Refusal)
     (first second : ℕ) where
   -- with this choice
@@ -52,12 +58,6 @@ module _ {F T X : Type 0} (its : ℕ → Lent) (owner : Owner) (runner : Runner)
 
   abbrev r : ℕ
   r = runner.number
-
-  -- some choice that tells so, with which it is so
-  pub record SomeChoice (tells : ℕ) (So : Choice → Type 0) : Type 0 where
-    pub choice : Choice
-    pub tells_so : choice.tells ≡ tells
-    pub so : So choice
 
   module _ (p : Plain T (SoloWaker X)) (tells : ℕ) (known : IsKnown its owner s p w) (few : suc (length p.lying) ≤ tells)
       (life : HasLife 5 s.lines) where

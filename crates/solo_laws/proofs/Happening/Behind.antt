@@ -6,8 +6,7 @@ use Rattle.task_moves.specs.AbstractTask as abstract
 use Rattle.task_moves.specs.AbstractTask.{Left}
 use Rattle.task_moves.specs.AbstractTask.PendingEnd.{Drops as EndDrops, Queues as EndQueues, Forgets as EndForgets, Rests as EndRests}
 use Rattle.solo.specs.declared.names.SoloWaker.{SoloWaker}
-use Rattle.plain_scheduler.specs.State.{Answers, Choice, Closed, Code, Drops, End, Event, Future, Gave, Granted, Lose, Loses, Plain, Try}
-use Rattle.plain_scheduler.specs.State.{Yes}
+use Rattle.plain_scheduler.specs.State.{Answers, Choice, Closed, Code, Drops, End, Event, Future, Gave, Granted, Lose, Loses, Plain, Try, Yes}
 use Rattle.plain_scheduler.specs.Lists.{on, or}
 use Rattle.plain_scheduler.specs.Moves.{becomes, called, changed, let_go, put, task, tell}
 use Rattle.plain_scheduler.specs.Takes as takes

@@ -18,8 +18,7 @@ use Rattle.solo.specs.OwnQueues.{count_of as count_of_own}
 use Rattle.solo.specs.Runs as runs
 use Rattle.solo.specs.Solo as solo
 use Rattle.solo.specs.Turns as turns
-use Rattle.plain_scheduler.specs.State.{Answer, Answers, AtOnce, Choice, Close, Closed, Code, Drop, DropOwn, Drops, End, Event, Gave}
-use Rattle.plain_scheduler.specs.State.{Granted, Later}
+use Rattle.plain_scheduler.specs.State.{Answer, Answers, AtOnce, Choice, Close, Closed, Code, Drop, DropOwn, Drops, End, Event, Gave, Granted, Later}
 use Rattle.plain_scheduler.specs.State.{Lose, Loses, Plain, Poll, PollOwn, Refusal, Run, Taker, Tick, Try, Yes}
 use Rattle.plain_scheduler.specs.Lists.{or}
 use Rattle.plain_scheduler.specs.Calls as plain
@@ -112,8 +111,7 @@ module _ {F T X : Type 0} (its : ℕ → Lent) (future : F) (owner : Owner) (s :
       let runner = runner_of its future owner s p known refusal first second name r in
       let out = record p { inside = rest } in
       let it =
-      search_happens its owner runner w s refusal first second out most
-      (known_as its future owner s p known refusal first second name s out w refl w_known) (omega arith)
+      search_happens its owner runner w s refusal first second out most (known_as its future owner s p known refusal first second name s out w refl w_known) (omega arith)
       (fewer 5 14 s.lines (omega arith) life) in
       record {
         choice = it.choice;

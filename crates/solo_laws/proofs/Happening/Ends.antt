@@ -18,8 +18,7 @@ use Rattle.solo.specs.OwnQueues.{count_of as count_of_own}
 use Rattle.solo.specs.Runs as runs
 use Rattle.solo.specs.Solo as solo
 use Rattle.solo.specs.Turns as turns
-use Rattle.plain_scheduler.specs.State.{Answer, Answers, AtOnce, Choice, Close, Closed, Code, Drop, DropOwn, Drops, End, Event, Gave}
-use Rattle.plain_scheduler.specs.State.{Granted, Later}
+use Rattle.plain_scheduler.specs.State.{Answer, Answers, AtOnce, Choice, Close, Closed, Code, Drop, DropOwn, Drops, End, Event, Gave, Granted, Later}
 use Rattle.plain_scheduler.specs.State.{Lose, Loses, Plain, Poll, PollOwn, Refusal, Run, Taker, Tick, Try, Yes}
 use Rattle.plain_scheduler.specs.Lists.{or}
 use Rattle.plain_scheduler.specs.Calls as plain
@@ -57,8 +56,7 @@ module _ {F T X : Type 0} where
   lets_go_lives n (Some (Outside w)) s life = three_fewer n s.lines life
   lets_go_lives n (Some (OfTask t)) s life = released_lives n t s life
 
-  pub left_lives : (n : ℕ) (place : EntryPlace) (s : Solo F T X) → HasLife (suc (suc (suc n))) s.lines → HasLife n
-      (turns.left place s).lines
+  pub left_lives : (n : ℕ) (place : EntryPlace) (s : Solo F T X) → HasLife (suc (suc (suc n))) s.lines → HasLife n (turns.left place s).lines
   left_lives n place s life = by (parts_of (entry_in place s.table.entries))
     where
       waker : (o : Option Task) → HasLife n (turns.let_go_if o (turns.without place s)).lines
@@ -160,3 +158,4 @@ module _ {F T X : Type 0} (its : ℕ → Lent) (future : F) (owner : Owner) (s :
     run_loses_it shown v how =
         is_acted its future owner s p known.stands refusal first second name refusal call (shown ++ Loses v ∷ []) owner y
         (run_loses stage r w rest call shown v y is ends (how base)) refl tt
+

@@ -288,3 +288,23 @@ module _ {F T X : Type 0} (its : ℕ → Lent) (owner : Owner) (c : Choice) (s :
             none_some : ◌≡◌ {A = Option (Search T (SoloWaker X))} None (Some x) → ⊥
             none_some so = absurd cc
         by (a_search y so at) = subst (λ x. SearchesAt its owner c s x now z) (ap (λ o. or o (λ x. x) x) (sym so ∙ is)) at
+
+    -- with the words at which its walks begin
+    pub walked_there : (one two : ℕ) (now : Owner) (z : Solo F T X) (call : Call T (SoloWaker X)) (shown : List (Event T (SoloWaker X)))
+        (acts : Acts its owner c s p call shown now z) → ActsFrom its c s p one two owner call shown now z acts
+        → (x : Search T (SoloWaker X)) → searches wakes c call p ≡ Some x
+        → (at : SearchesAt its owner c s x now z)
+        × WalksFrom its owner c at.before x.at at.runner x.waker one two at.shown now z at.searches
+    walked_there one two now z call shown acts from x is = by (acts_searched_from one two now z call shown acts from)
+      where
+        Walked : Search T (SoloWaker X) → Type 0
+        Walked x =
+            (at : SearchesAt its owner c s x now z)
+            × WalksFrom its owner c at.before x.at at.runner x.waker one two at.shown now z at.searches
+
+        by : SearchedFrom one two call now z → Walked x
+        by (none_from none still) = absurd (none_some (sym none ∙ is))
+          where
+            none_some : ◌≡◌ {A = Option (Search T (SoloWaker X))} None (Some x) → ⊥
+            none_some so = absurd cc
+        by (one_from y so at from) = subst Walked (ap (λ o. or o (λ x. x) x) (sym so ∙ is)) (at, from)

@@ -4,6 +4,7 @@ pub mod Shares
 pub mod Risen
 pub mod Usually
 pub mod Robbing
+pub mod Ordered
 pub mod AsUsual
 pub mod Seeking
 pub mod Searched

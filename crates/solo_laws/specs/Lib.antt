@@ -29,6 +29,7 @@ pub mod RunGoing
 pub mod RunCounting
 pub mod RunResting
 pub mod Led
+pub mod Making
 pub mod Going
 pub mod Seen
 pub mod Done
@@ -43,4 +44,3 @@ pub mod SearchesGo
 pub mod Choosing
 pub mod Counting
 pub mod Ordering
-pub mod Starting

@@ -1,5 +1,5 @@
 -- No more own queues are looked at by others than there are, once one is changed, comes, goes or is looked at.
-use Rattle.std.proofs.Common.{◌≡◌, ℕ, zero, suc, ◌+◌, ◌-◌, ◌<◌, ◌≤◌, ◌==◌, nat_lt, Bool, true, false, List, [], ◌∷◌, ◌++◌, length, remove}
+use Rattle.std.proofs.Common.{◌≡◌, ℕ, ◌+◌, ◌-◌, ◌<◌, ◌≤◌, ◌==◌, nat_lt, Bool, true, false, List, [], ◌∷◌, length, remove}
 use Rattle.std.proofs.Common.{Option, Some, None, length-append, refl, sym, ap, subst, ◌∙◌, arith}
 use Rattle.std.specs.List.{swap}
 use Rattle.std.proofs.lemmas.Bool.Decides.{nat_tests}
@@ -10,7 +10,7 @@ use Rattle.solo.specs.declared.own_queues.Own.{Own}
 use Rattle.solo.specs.Cells.{choose}
 use Rattle.solo.specs.OwnQueues as own
 use Rattle.solo_laws.proofs.Following.Lists.{length_map}
-use Rattle.solo_laws.proofs.Following.Owns.{changed_list, changed_now, list_numbers, numbers}
+use Rattle.solo_laws.proofs.Following.Owns.{changed_list, changed_now, list_numbers}
 
 abbrev pub Within : own.OwnQueuesValue → Type 0
 Within o = o.listed ≤ length o.queues

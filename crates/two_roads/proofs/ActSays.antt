@@ -1,15 +1,12 @@
 -- What an act of the machine says of what it chooses, counts and turns.
 use Rattle.std.proofs.Common.{◌≡◌, nat_lt, Bool, true, false, length, map, refl, sym, ap, subst, ◌∙◌}
 use Rattle.std.specs.Prelude.{reverse}
-use Rattle.executor_parts.specs.Marks.{first_of}
 use Rattle.executor_model.specs.declared.op.Waker.{Waker}
 use Rattle.executor_model.specs.Steps.{Machine, stack}
 use Rattle.executor_model.proofs.Steps.Reached.{Reached}
 use Rattle.plain_scheduler.specs.State.{Plain}
-use Rattle.plain_scheduler.specs.Calls.{does}
 use Rattle.plain_scheduler.specs.Turns.{turns_of}
 use Rattle.plain_scheduler.specs.Usual.{turned}
-use Rattle.plain_laws.specs.Searches.{looks_first}
 use Rattle.machine_roads.specs.Refused.{IsLaterAnew}
 use Rattle.machine_roads.specs.Road.{uncalled}
 use Rattle.machine_roads.specs.Seeing.{heard_in, shown as shown_alike}
@@ -22,7 +19,8 @@ use Rattle.two_roads.proofs.Meant.{takes_begin}
 use Rattle.two_roads.proofs.Refusing.{Lie, turns_seen}
 use Rattle.two_roads.proofs.Says.{ActSays}
 
-module _ (s : Machine) (reached : Reached s) (q : Plain Output Waker) (a : Act) (stands : StandsAlike (standing s a.party) q) (it : IsAct s a)
+module _ (s : Machine) (reached : Reached s) (q : Plain Output Waker) (a : Act) (stands : StandsAlike (standing s a.party) q)
+    (it : IsAct s a)
     (way : is_on_way (reverse (stack s a.party)) a.first ≡ true) (r : Plain Output Waker)
     (by : ActsBy s a.party a.first q r a.left.world) (lie : Lie s.world q) (seen : heard_in a.left.world.trace ≡ map shown_alike r.events)
     (lie_then : Lie a.left.world r) where

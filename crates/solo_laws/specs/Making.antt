@@ -20,7 +20,7 @@ use Rattle.plain_scheduler.specs.Calls.{Leak, NewRun, NewTick, Pends, PollHandle
 use Rattle.plain_scheduler.specs.Calls.{does, is_granted}
 use Rattle.solo_laws.specs.Busy.{busy_in}
 use Rattle.solo_laws.specs.Courses.{Acts, Leads, Makes, copies, makes, polls, run_goes_on, run_looks, tick_lies_refused, tick_refused}
-use Rattle.solo_laws.specs.Courses.{tick_rests}
+use Rattle.solo_laws.specs.Courses.{leads, stays, tick_rests}
 use Rattle.solo_laws.specs.Numbered.{ticker_of}
 use Rattle.solo_laws.specs.Owner.{Owner, has_tick}
 use Rattle.solo_laws.specs.Road.{HasLife, IsNamed, is_in, wakes}
@@ -225,3 +225,34 @@ module _ {F T X : Type 0} (its : ℕ → Lent) (owner : Owner) (s : Solo F T X) 
     pub number : (named its (length p.futures)).number ≡ length p.futures
     pub key : get s.cells.slab (named its (length p.futures)).key ≡ None
     pub place : entry_at (its (length p.futures)).place.key s.table.entries ≡ None
+
+-- each future's number is the key of its task, and of its place
+abbrev pub by_number : ℕ → Lent
+by_number f = record { task = record { key = f; number = f }; place = record { key = f; stamp = 0 } }
+
+module _ {F T X : Type 0} (its : ℕ → Lent) where
+  -- each of these calls may be made where those before it have led, whatever was chosen in them
+  abbrev pub MayGo : List (Wish T (SoloWaker X)) → Owner → Solo F T X → Plain T (SoloWaker X) → Type 0
+  MayGo [] owner s p = Unit {0}
+  MayGo (x ∷ xs) owner s p =
+      MayCall its owner s p x
+      × ((it : Happens its owner s p x) → MayGo xs it.now it.after (does wakes it.choice x.call p))
+
+  -- a list of calls is of those, each as it is decided
+  abbrev pub AsWished : List (Wish T (SoloWaker X)) → (calls : List (Choice × Call T (SoloWaker X))) (owner : Owner) (s : Solo F T X)
+      (p : Plain T (SoloWaker X)) (shown : List (Event T (SoloWaker X))) (now : Owner) (z : Solo F T X)
+      → Leads its calls owner s p shown now z → Type 0
+  AsWished [] calls owner s p shown now z (stays owner' s' p') = Unit {0}
+  AsWished (x ∷ xs) calls owner s p shown now z (leads c call rest before mid after s' y z' p' one others tells acts on) =
+      (call ≡ x.call) × (c.refusal ≡ acted_as its c s' p' before call one mid y x.refusal acts)
+      × ActsFrom its c s' p' x.first x.second before call one mid y acts
+      × AsWished xs rest mid y (does wakes c call p') others after z' on
+  AsWished xs calls owner s p shown now z how = ⊥
+
+  pub record Goes (xs : List (Wish T (SoloWaker X))) (owner : Owner) (s : Solo F T X) (p : Plain T (SoloWaker X)) : Type 0 where
+    pub calls : List (Choice × Call T (SoloWaker X))
+    pub shown : List (Event T (SoloWaker X))
+    pub now : Owner
+    pub after : Solo F T X
+    pub leads : Leads its calls owner s p shown now after
+    pub wished : AsWished xs calls owner s p shown now after leads

@@ -9,4 +9,5 @@ pub mod Codes
 pub mod Each
 pub mod Vacant
 pub mod Free
+pub mod Wakers
 pub mod Lists

@@ -133,34 +133,47 @@ module _ {F T X : Type 0} (its : ℕ → Lent) (c : Choice) (s : Solo F T X) (p 
       RunsFrom its owner c y (behind stage rest call' before) runner w one two others now' z' on
   ActsFrom one two owner call shown now z how = Unit {0}
 
+-- this is so of the waker by which a run is polled, in each user's code
+module _ {A : Type 0} (Is : A → Type 0) where
+  abbrev pub PolledBy : Taker A → Type 0
+  PolledBy (Run r w) = Is w
+  PolledBy by = Unit {0}
+
+  abbrev pub PolledIf : Option (Taker A) → Type 0
+  PolledIf (Some by) = PolledBy by
+  PolledIf None = Unit {0}
+
+module _ {T A : Type 0} (Is : A → Type 0) where
+  abbrev pub PolledIn : Code T A → Type 0
+  PolledIn (Poll f by) = PolledBy Is by
+  PolledIn (Drop f end by) = PolledBy Is by
+  PolledIn (Lose awaiter by) = PolledIf Is by
+  PolledIn (PollOwn r w) = Is w
+  PolledIn code = Unit {0}
+
+  abbrev pub EachPolledBy : List (Code T A) → Type 0
+  EachPolledBy [] = Unit {0}
+  EachPolledBy (code ∷ codes) = PolledIn code × EachPolledBy codes
+
 module _ {F T X : Type 0} (its : ℕ → Lent) (owner : Owner) (s : Solo F T X) (p : Plain T (SoloWaker X)) where
-  -- a task's waker is that of a future that came; so is that by which a run is polled
+  -- a task's waker is that of a future that came
   abbrev pub IsKnown : SoloWaker X → Type 0
   IsKnown (OfTask t) = IsNamed (named its) (length p.futures) t
   IsKnown (Outside w) = Unit {0}
 
-  abbrev pub IsKnownBy : Taker (SoloWaker X) → Type 0
-  IsKnownBy (Run r w) = IsKnown w
-  IsKnownBy by = Unit {0}
-
-  abbrev pub IsKnownIf : Option (Taker (SoloWaker X)) → Type 0
-  IsKnownIf (Some by) = IsKnownBy by
-  IsKnownIf None = Unit {0}
+  -- so are those by which runs are polled, in each user's code
+  abbrev pub WakersAreKnown : Type 0
+  WakersAreKnown = EachPolledBy IsKnown p.inside
 
   -- a user's code is there to end: the poll of a future, or of a run's own; or a drop
   abbrev pub MayPend : List (Code T (SoloWaker X)) → Type 0
-  MayPend (Poll f by ∷ rest) = IsKnownBy by
-  MayPend (PollOwn r w ∷ rest) = IsKnown w
+  MayPend (Poll f by ∷ rest) = Unit {0}
+  MayPend (PollOwn r w ∷ rest) = Unit {0}
   MayPend codes = ⊥
 
-  abbrev pub MayGive : List (Code T (SoloWaker X)) → Type 0
-  MayGive (Poll f by ∷ rest) = Unit {0}
-  MayGive (PollOwn r w ∷ rest) = Unit {0}
-  MayGive codes = ⊥
-
   abbrev pub MayEnd : List (Code T (SoloWaker X)) → Type 0
-  MayEnd (Drop f end by ∷ rest) = IsKnownBy by
-  MayEnd (Lose awaiter by ∷ rest) = IsKnownIf by
+  MayEnd (Drop f end by ∷ rest) = Unit {0}
+  MayEnd (Lose awaiter by ∷ rest) = Unit {0}
   MayEnd (DropOwn r answer ∷ rest) = Unit {0}
   MayEnd codes = ⊥
 
@@ -186,12 +199,12 @@ module _ {F T X : Type 0} (its : ℕ → Lent) (owner : Owner) (s : Solo F T X) 
   Allows refusal name (PollTick t w) = (has_tick t owner ≡ true) × IsKnown w
   Allows refusal name (DropTick t) = has_tick t owner ≡ true
   Allows refusal name NewRun = length p.runs < most_accepted
-  Allows refusal name (PollRun r w) = is_in r (busy_in p.inside) ≡ false
+  Allows refusal name (PollRun r w) = (is_in r (busy_in p.inside) ≡ false) × IsKnown w
   Allows refusal name (DropRun r) = is_in r (busy_in p.inside) ≡ false
   Allows refusal name Leak = p.is_static ≡ false
   Allows refusal name DropExecutor = ⊥
   Allows refusal name Pends = MayPend p.inside
-  Allows refusal name (EndsWith v) = MayGive p.inside
+  Allows refusal name (EndsWith v) = MayPend p.inside
   Allows refusal name Ends = MayEnd p.inside
 
   -- how many tasks a call may queue: a leak those of all entries, a run that goes those that it keeps

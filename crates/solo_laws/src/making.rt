@@ -8,14 +8,14 @@ ghost use Rattle.solo.specs.declared.solo.Solo.{Solo};
 ghost use Rattle.plain_scheduler.specs.Calls.{new};
 ghost use Rattle.plain_scheduler.specs.State.{Plain, Who};
 ghost use Rattle.solo_laws.specs.Led.{IsLed};
-ghost use Rattle.solo_laws.specs.Making.{Goes, Happens, MayCall, MayGo, NextIsFree, Wish, by_number};
+ghost use Rattle.solo_laws.specs.Making.{Goes, Happens, MayCall, MayGo, NextIsFree, WakersAreKnown, Wish, by_number};
 ghost use Rattle.solo_laws.specs.Owner.{Owner, new_owner};
 
-/// Wherever a list of calls leads both, and the next future's name is free, each call that the owner may make there happens, whatever
-/// memory refuses, and from whatever starting words runs walk.
+/// Wherever a list of calls leads both, the next future's name is free, and runs are polled by wakers of futures that came, each call that
+/// the owner may make there happens, whatever memory refuses, and from whatever starting words runs walk.
 pub fn each_call_happens<F, T, X>()
     ensures { (its : ℕ → Lent) (future : F) (owner : Owner) (s : Solo F T X) (p : Plain T (SoloWaker X)) (x : Wish T (SoloWaker X))
-        → IsLed its owner s p → NextIsFree its owner s p → MayCall its owner s p x → Happens its owner s p x }
+        → IsLed its owner s p → NextIsFree its owner s p → WakersAreKnown its owner s p → MayCall its owner s p x → Happens its owner s p x }
 {}
 
 /// So, from new ones on, each list of calls of which each may be made where those before it have led is one of the executor's: there is

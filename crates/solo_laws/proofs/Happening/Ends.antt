@@ -28,7 +28,7 @@ use Rattle.solo_laws.specs.Busy.{busy_in}
 use Rattle.solo_laws.specs.Courses.{Acts, Makes, ends_closed, ends_given, gives, loses, makes_no_run, makes_run, over_dropped, over_polled}
 use Rattle.solo_laws.specs.Courses.{own_ready, pends, run_dropped, run_drops, run_goes_on, run_leaves, run_looks, run_loses, run_polled}
 use Rattle.solo_laws.specs.Dropping.{after_drop}
-use Rattle.solo_laws.specs.Making.{Happens, IsKnown, IsKnownBy, IsKnownIf, MayEnd, MayGive, MayPend, behind, left_in}
+use Rattle.solo_laws.specs.Making.{Happens, IsKnown, behind}
 use Rattle.solo_laws.specs.Owner.{HasRunner, Owner}
 use Rattle.solo_laws.specs.Road.{HasLife, IsNamed, is_in, wakes}
 use Rattle.solo_laws.specs.RunGoing.{Dropping, IsEnding, Losing, Polling, Stage, code_at, drop_ends, in_try, loss_ends, poll_ends}

@@ -7,13 +7,14 @@ use Rattle.executor_parts.specs.Places.{Entry, entry_at}
 use Rattle.solo.specs.declared.names.Kind.{Kind}
 use Rattle.solo.specs.declared.names.Task.{Task}
 use Rattle.solo.specs.declared.names.SoloWaker.{SoloWaker}
+use Rattle.solo.specs.declared.names.SoloWaker.TheVariants.{Task as OfTask, Outside}
 use Rattle.solo.specs.declared.owed.Lent.{Lent}
 use Rattle.solo.specs.declared.solo.Solo.{Solo}
 use Rattle.solo.specs.Solo.{IsNew, counts}
 use Rattle.plain_scheduler.specs.State.{Choice, Event, Plain, Who}
-use Rattle.plain_scheduler.specs.Calls.{Call, does, living_from, new}
+use Rattle.plain_scheduler.specs.Calls.{Call, PollRun, does, living_from, new}
 use Rattle.solo_laws.specs.Courses.{Acts, Leads, leads, stays}
-use Rattle.solo_laws.specs.Making.{AsWished, Goes, Happens, MayGo, NextIsFree, Wish, by_number}
+use Rattle.solo_laws.specs.Making.{Allows, AsWished, Goes, Happens, IsKnown, MayCall, MayGo, NextIsFree, WakersAreKnown, Wish, by_number}
 use Rattle.solo_laws.specs.Owner.{Owner, new_owner}
 use Rattle.solo_laws.specs.Road.{is_in, wakes}
 use Rattle.solo_laws.specs.Tabled.{Row, row, row_of}
@@ -23,7 +24,9 @@ use Rattle.solo_laws.proofs.Following.Rows.{living_below}
 use Rattle.solo_laws.proofs.Showing.Courses.{Known, leads_alike, new_known}
 use Rattle.solo_laws.proofs.Happening.Each.{happens}
 use Rattle.solo_laws.proofs.Happening.Free.{acts_vacant}
+use Rattle.solo_laws.proofs.Happening.Long.{futures_grow}
 use Rattle.solo_laws.proofs.Happening.Vacant.{IsVacant}
+use Rattle.solo_laws.proofs.Happening.Wakers.{PollsBy, call_all, more_all}
 
 -- no entry has a key that no living future has as its number
 none_has : {F : Type 0} (n : ℕ) (es : List (Entry F (Option Task))) (held : Bool) (home : ℕ → Bool) (fs : List ℕ)
@@ -64,9 +67,28 @@ module _ {F T X : Type 0} where
         (λ f has. (let it = living_below p.futures 0 f has in omega (arith, it)));
   }
 
+  -- runs are polled by known wakers still
+  still_known : (owner : Owner) (s : Solo F T X) (p : Plain T (SoloWaker X)) (now : Owner) (z : Solo F T X) (c : Choice)
+      (x : Wish T (SoloWaker X)) → MayCall by_number owner s p x → WakersAreKnown by_number owner s p
+      → WakersAreKnown by_number now z (does wakes c x.call p)
+  still_known owner s p now z c x may all =
+      let q = does wakes c x.call p in
+      more_all (IsKnown by_number owner s p) (IsKnown by_number now z q) (still (futures_grow c x.call p)) q.inside
+      (call_all c (IsKnown by_number owner s p) x.call p (polls x.call may.allowed) all)
+    where
+      still : length p.futures ≤ length (does wakes c x.call p).futures → (w : SoloWaker X) → IsKnown by_number owner s p w
+          → IsKnown by_number now z (does wakes c x.call p) w
+      still more (Outside w) its = tt
+      still more (OfTask t) its = (let below = its.0 in omega (arith, below, more), its.1)
+
+      polls : (call : Call T (SoloWaker X)) → Allows by_number owner s p x.refusal x.name call
+          → PollsBy c (IsKnown by_number owner s p) call
+      polls (PollRun r w) its = its.1
+      polls call its = tt
+
   go : (future : F) (xs : List (Wish T (SoloWaker X))) (owner : Owner) (s : Solo F T X) (p : Plain T (SoloWaker X))
-      → Known by_number owner s p → IsVacant (length p.futures) s.cells → MayGo by_number xs owner s p → Goes by_number xs owner s p
-  go future [] owner s p known vacant may = record {
+      → Known by_number owner s p → IsVacant (length p.futures) s.cells → WakersAreKnown by_number owner s p → MayGo by_number xs owner s p → Goes by_number xs owner s p
+  go future [] owner s p known vacant all may = record {
     calls = [];
     shown = [];
     now = owner;
@@ -74,8 +96,8 @@ module _ {F T X : Type 0} where
     leads = stays owner s p;
     wished = tt;
   }
-  go future (x ∷ xs) owner s p known vacant may =
-      let it = happens by_number future owner s p known (next_free owner s p known vacant) x may.0 in
+  go future (x ∷ xs) owner s p known vacant all may =
+      let it = happens by_number future owner s p known (next_free owner s p known vacant) all x may.0 in
       let q = does wakes it.choice x.call p in
       let many : length p.lying ≤ it.choice.tells = (let more = it.tells in omega (arith, more)) in
       let one : Leads by_number ((it.choice, x.call) ∷ []) owner s p (it.shown ++ []) it.now it.after =
@@ -84,7 +106,7 @@ module _ {F T X : Type 0} where
       (leads_alike by_number ((it.choice, x.call) ∷ []) owner it.now s it.after p (it.shown ++ []) known one).0 in
       let rest =
       go future xs it.now it.after q known_on (acts_vacant owner it.choice s p it.now it.after x.call it.shown known many vacant it.acts)
-      (may.1 it) in
+      (still_known owner s p it.now it.after it.choice x may.0 all) (may.1 it) in
       record {
         calls = (it.choice, x.call) ∷ rest.calls;
         shown = it.shown ++ rest.shown;
@@ -101,4 +123,4 @@ module _ {F T X : Type 0} where
       → Goes by_number xs (new_owner number) first (new limit is_static)
   lists_happen future limit kind is_static first number xs is counted may =
       go future xs (new_owner number) first (new limit is_static) (new_known by_number number limit kind is_static first is counted)
-      (λ k above. ap (λ slots. slice_index_or slots k None) is.cells) may
+      (λ k above. ap (λ slots. slice_index_or slots k None) is.cells) tt may

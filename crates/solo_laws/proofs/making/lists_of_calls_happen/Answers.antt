@@ -1,5 +1,4 @@
 use Rattle.solo_laws.proofs.Happening.Lists.{lists_happen}
-use Rattle.solo_laws.proofs.Happening.Long as long
 use Rattle.solo_laws.proofs.making.lists_of_calls_happen.Goals as goal
 
 pub returns : goal.returns

@@ -1,5 +1,5 @@
 -- Which calls the owner of an executor may make where that and the plain scheduler stand alike, and that each of them happens.
-use Rattle.std.specs.Prelude.{◌≡◌, ℕ, suc, ◌+◌, ◌*◌, ◌<◌, ◌≤◌, Bool, true, false, if◌then◌else◌, List, [], ◌∷◌, length}
+use Rattle.std.specs.Prelude.{◌≡◌, ℕ, ◌+◌, ◌*◌, ◌<◌, Bool, true, false, if◌then◌else◌, List, [], ◌∷◌, length}
 use Rattle.std.specs.Prelude.{◌++◌, Option, Some, None}
 use Rattle.queue_steps.specs.ClosableQueue.{most_accepted}
 use Rattle.slab.specs.Slab.{get, HasRoomFor}
@@ -9,7 +9,6 @@ use Rattle.solo.specs.declared.names.SoloWaker.TheVariants.{Task as OfTask, Outs
 use Rattle.solo.specs.declared.owed.Lent.{Lent}
 use Rattle.solo.specs.declared.runs.Runner.{Runner}
 use Rattle.solo.specs.declared.solo.Solo.{Solo}
-use Rattle.solo.specs.declared.ticks.Ticker.{Ticker}
 use Rattle.solo.specs.OwnQueues.{count_of as count_of_own}
 use Rattle.solo.specs.Solo as solo
 use Rattle.plain_scheduler.specs.State.{ARun, ATick, AtOnce, Choice, Code, Drop, DropOwn, Event, Granted, Later, Lose, Plain, Poll, PollOwn}

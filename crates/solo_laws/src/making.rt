@@ -15,7 +15,8 @@ ghost use Rattle.solo_laws.specs.Owner.{Owner, new_owner};
 /// the owner may make there happens, whatever memory refuses, and from whatever starting words runs walk.
 pub fn each_call_happens<F, T, X>()
     ensures { (its : ℕ → Lent) (future : F) (owner : Owner) (s : Solo F T X) (p : Plain T (SoloWaker X)) (x : Wish T (SoloWaker X))
-        → IsLed its owner s p → NextIsFree its owner s p → WakersAreKnown its owner s p → MayCall its owner s p x → Happens its owner s p x }
+        → IsLed its owner s p → NextIsFree its owner s p → WakersAreKnown its owner s p → MayCall its owner s p x
+        → Happens its owner s p x }
 {}
 
 /// So, from new ones on, each list of calls of which each may be made where those before it have led is one of the executor's: there is

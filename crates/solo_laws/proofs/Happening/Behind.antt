@@ -1,17 +1,14 @@
 -- Behind a future that a run took: the end of its poll or drop is as in a try, whatever is chosen but whom it tells.
-use Rattle.std.proofs.Common.{◌≡◌, ℕ, suc, ◌+◌, ◌≤◌, if◌then◌else◌, Bool, true, false, List, [], ◌∷◌, ◌++◌, length, Option, Some, None}
-use Rattle.std.proofs.Common.{append_assoc, slice_get, slice_set, refl, sym, ap, subst, ◌∙◌, arith}
+use Rattle.std.proofs.Common.{◌≡◌, ℕ, List, [], length}
+use Rattle.std.proofs.Common.{refl, sym, ap, ◌∙◌}
 use Rattle.executor_parts.specs.declared.mark.Mark.TheVariants.{Plain as PlainMark}
 use Rattle.task_moves.specs.AbstractTask as abstract
-use Rattle.task_moves.specs.AbstractTask.{Left}
 use Rattle.task_moves.specs.AbstractTask.PendingEnd.{Drops as EndDrops, Queues as EndQueues, Forgets as EndForgets, Rests as EndRests}
 use Rattle.solo.specs.declared.names.SoloWaker.{SoloWaker}
-use Rattle.plain_scheduler.specs.State.{Answers, Choice, Closed, Code, Drops, End, Event, Future, Gave, Granted, Lose, Loses, Plain, Try, Yes}
-use Rattle.plain_scheduler.specs.Lists.{on, or}
-use Rattle.plain_scheduler.specs.Moves.{becomes, called, changed, let_go, put, task, tell}
-use Rattle.plain_scheduler.specs.Takes as takes
+use Rattle.plain_scheduler.specs.State.{Choice, Code, Granted, Plain, Try}
+use Rattle.plain_scheduler.specs.Moves.{task}
 use Rattle.plain_scheduler.specs.Calls as plain
-use Rattle.plain_scheduler.specs.Calls.{Call, Ends, Pends, does}
+use Rattle.plain_scheduler.specs.Calls.{Call, does}
 use Rattle.solo_laws.specs.Road.{wakes}
 use Rattle.solo_laws.specs.RunGoing.{Dropping, IsEnding, Losing, Polling, Stage, drop_ends, in_try, loss_ends, poll_ends}
 use Rattle.solo_laws.proofs.Happening.Long.{ends_long, pends_long}

@@ -1,20 +1,18 @@
 -- So the next future's name is free wherever a list of calls leads.
-use Rattle.std.proofs.Common.{◌≡◌, ◌≢◌, ℕ, ◌+◌, ◌<◌, ◌≤◌, nat_lt, true, List, [], ◌∷◌, ◌++◌, length, Option, None, slice_index_or, refl, sym, ap, subst, ◌∙◌}
+use Rattle.std.proofs.Common.{◌≡◌, ℕ, ◌+◌, ◌<◌, ◌≤◌, nat_lt, true, List, [], ◌∷◌, ◌++◌, length, None, slice_index_or, sym, ap, subst, ◌∙◌}
 use Rattle.std.proofs.Common.{arith}
 use Rattle.std.proofs.lemmas.Bool.Decides.{nat_tests}
-use Rattle.slab.specs.Slab.{get}
 use Rattle.solo.specs.declared.names.SoloWaker.{SoloWaker}
 use Rattle.solo.specs.declared.owed.Lent.{Lent}
 use Rattle.solo.specs.declared.owed.SpawnError.TheVariants.{Full, NoMemory}
 use Rattle.solo.specs.declared.runs.Runner.{Runner}
 use Rattle.solo.specs.declared.solo.Solo.{Solo}
 use Rattle.solo.specs.Solo as solo
-use Rattle.solo.specs.Turns as turns
 use Rattle.plain_scheduler.specs.State.{ARun, ATick, Answers, Choice, Drops, Event, Loses, Plain, Yes}
-use Rattle.plain_scheduler.specs.Calls as plain
 use Rattle.plain_scheduler.specs.Calls.{Call, does, is_granted}
 use Rattle.solo_laws.specs.Alike as alike
-use Rattle.solo_laws.specs.Courses.{Acts, Makes, cancels, copies, detaches, drops_handle, ends_closed, ends_given, gives, leaks, looks, loses}
+use Rattle.solo_laws.specs.Courses.{Acts, Makes, cancels, copies, detaches, drops_handle, ends_closed, ends_given, gives, leaks, looks}
+use Rattle.solo_laws.specs.Courses.{loses}
 use Rattle.solo_laws.specs.Courses.{makes, makes_no_run, makes_no_tick, makes_run, makes_tick, over_dropped, over_polled, own_ready, pends}
 use Rattle.solo_laws.specs.Courses.{polls, refuses, releases, run_dropped, run_drops, run_goes_on, run_leaves, run_looks, run_loses}
 use Rattle.solo_laws.specs.Courses.{run_polled, spawns, takes, tick_leaves, tick_lies_refused, tick_refused, tick_rests, tick_takes, uses}
@@ -23,17 +21,19 @@ use Rattle.solo_laws.specs.Making.{by_number}
 use Rattle.solo_laws.specs.Numbered.{ticker_of}
 use Rattle.solo_laws.specs.Owner.{Owner}
 use Rattle.solo_laws.specs.Road.{wakes}
-use Rattle.solo_laws.specs.RunGoing.{RunsOn, Searches, gives_way, in_try, is_refused, lies_refused, looks_on, rests, robs_another, takes_common}
+use Rattle.solo_laws.specs.RunGoing.{RunsOn, Searches, gives_way, in_try, is_refused, lies_refused, looks_on, rests, robs_another}
+use Rattle.solo_laws.specs.RunGoing.{takes_common}
 use Rattle.solo_laws.specs.RunGoing.{takes_own}
 use Rattle.solo_laws.specs.RunResting.{slept_from}
 use Rattle.solo_laws.specs.Tabled.{Stands, named}
-use Rattle.solo_laws.specs.Ticking.{slept_once}
 use Rattle.solo_laws.proofs.Following.RunEnding.{tried_both}
 use Rattle.solo_laws.proofs.Following.Spawning.{room}
 use Rattle.solo_laws.proofs.Happening.Behind.{end_long}
 use Rattle.solo_laws.proofs.Happening.Long.{futures_grow, spawn_long}
-use Rattle.solo_laws.proofs.Happening.Vacant.{IsVacant, calls_v, cancelled_v, closed_v, detached_v, found_v, given_v, held_v, leaked_v, pends_v}
-use Rattle.solo_laws.proofs.Happening.Vacant.{polled_v, released_v, rested_v, run_left_v, run_rested_v, scheduled_v, searched_v, slept_from_v}
+use Rattle.solo_laws.proofs.Happening.Vacant.{IsVacant, calls_v, cancelled_v, closed_v, detached_v, found_v, given_v, held_v, leaked_v}
+use Rattle.solo_laws.proofs.Happening.Vacant.{pends_v}
+use Rattle.solo_laws.proofs.Happening.Vacant.{polled_v, released_v, rested_v, run_left_v, run_rested_v, scheduled_v, searched_v}
+use Rattle.solo_laws.proofs.Happening.Vacant.{slept_from_v}
 use Rattle.solo_laws.proofs.Happening.Vacant.{slept_v, sought_v, taken_v, tick_left_v, used_v, woken_by_v, woken_v}
 use Rattle.solo_laws.proofs.Showing.Courses.{Known}
 
@@ -134,7 +134,8 @@ module _ {F T X : Type 0} where
   acts_vacant owner c s p now z call shown known many v (run_looks runner w rest shown' now' z' its_runner is how) =
       later c s p known.stands v call z'
       (searches_vacant owner c runner w s (record p { inside = rest }) (length p.futures) v shown' now' z' how)
-  acts_vacant owner c s p now z call shown known many v (run_goes_on stage runner w rest call' before others now' y z' its_runner is ends made on) =
+  acts_vacant owner c s p now z call shown known many v (run_goes_on stage runner w rest call' before others now' y z' its_runner is ends
+      made on) =
       let tried = in_try stage rest p in
       let both = tried_both by_number owner c s p known.stands known.numbered many stage runner.number w rest call' is ends in
       let there =

@@ -1,20 +1,18 @@
 -- Lists of calls happen: each future's name is free as it comes.
-use Rattle.std.proofs.Common.{◌≡◌, ℕ, suc, ◌+◌, ◌<◌, ◌≤◌, ◌==◌, cond, not, Bool, true, false, List, [], ◌∷◌, ◌++◌, length, map, Option, Some}
-use Rattle.std.proofs.Common.{None, slice_index_or, append-nil, refl, sym, ap, subst, ◌∙◌, arith}
+use Rattle.std.proofs.Common.{◌≡◌, ℕ, ◌<◌, ◌≤◌, ◌==◌, cond, not, Bool, true, false, List, [], ◌∷◌, ◌++◌, length, map, Option, Some}
+use Rattle.std.proofs.Common.{None, slice_index_or, refl, sym, ap, subst, arith}
 use Rattle.std.proofs.lemmas.Bool.Decides.{nat_tests}
-use Rattle.slab.specs.Slab.{get}
 use Rattle.executor_parts.specs.Places.{Entry, entry_at}
 use Rattle.solo.specs.declared.names.Kind.{Kind}
 use Rattle.solo.specs.declared.names.Task.{Task}
 use Rattle.solo.specs.declared.names.SoloWaker.{SoloWaker}
 use Rattle.solo.specs.declared.names.SoloWaker.TheVariants.{Task as OfTask, Outside}
-use Rattle.solo.specs.declared.owed.Lent.{Lent}
 use Rattle.solo.specs.declared.solo.Solo.{Solo}
 use Rattle.solo.specs.Solo.{IsNew, counts}
-use Rattle.plain_scheduler.specs.State.{Choice, Event, Plain, Who}
+use Rattle.plain_scheduler.specs.State.{Choice, Plain, Who}
 use Rattle.plain_scheduler.specs.Calls.{Call, PollRun, does, living_from, new}
-use Rattle.solo_laws.specs.Courses.{Acts, Leads, leads, stays}
-use Rattle.solo_laws.specs.Making.{Allows, AsWished, Goes, Happens, IsKnown, MayCall, MayGo, NextIsFree, WakersAreKnown, Wish, by_number}
+use Rattle.solo_laws.specs.Courses.{Leads, leads, stays}
+use Rattle.solo_laws.specs.Making.{Allows, Goes, IsKnown, MayCall, MayGo, NextIsFree, WakersAreKnown, Wish, by_number}
 use Rattle.solo_laws.specs.Owner.{Owner, new_owner}
 use Rattle.solo_laws.specs.Road.{is_in, wakes}
 use Rattle.solo_laws.specs.Tabled.{Row, row, row_of}
@@ -39,7 +37,8 @@ none_has {F} n (e ∷ es) held home (f ∷ fs) rows below =
     (λ j has. below j (later j (j == f) has)))
   where
     key_is : e.key ≡ f
-    key_is = ap (λ (r : Row). r.0.key) (heads (row e) (row_of by_number held home f) (map row es) (map (row_of by_number held home) fs) rows)
+    key_is = ap (λ (r : Row). r.0.key) (heads (row e) (row_of by_number held home f) (map row es) (map (row_of by_number held home) fs)
+        rows)
 
     later : (j : ℕ) (b : Bool) → is_in j fs ≡ true → cond b true (is_in j fs) ≡ true
     later j true has = refl
@@ -87,7 +86,8 @@ module _ {F T X : Type 0} where
       polls call its = tt
 
   go : (future : F) (xs : List (Wish T (SoloWaker X))) (owner : Owner) (s : Solo F T X) (p : Plain T (SoloWaker X))
-      → Known by_number owner s p → IsVacant (length p.futures) s.cells → WakersAreKnown by_number owner s p → MayGo by_number xs owner s p → Goes by_number xs owner s p
+      → Known by_number owner s p → IsVacant (length p.futures) s.cells → WakersAreKnown by_number owner s p → MayGo by_number xs owner s
+      p → Goes by_number xs owner s p
   go future [] owner s p known vacant all may = record {
     calls = [];
     shown = [];

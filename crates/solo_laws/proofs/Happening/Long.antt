@@ -1,18 +1,21 @@
 -- How many futures came: a spawn lets one come, and no other call changes it.
 use Rattle.std.proofs.Common.{◌≡◌, ℕ, zero, suc, ◌+◌, ◌≤◌, ◌==◌, count_by, nat_lt, if◌then◌else◌, Bool, true, false, List, [], ◌∷◌, ◌++◌}
-use Rattle.std.proofs.Common.{filter, find, map, length, Option, Some, None, slice_get, slice_set, refl, sym, ap, ◌∙◌, arith}
+use Rattle.std.proofs.Common.{filter, find, map, length, Option, Some, None, slice_get, slice_set, refl, ap, ◌∙◌, arith}
 use Rattle.executor_parts.specs.declared.mark.Mark.{Mark}
 use Rattle.executor_parts.specs.declared.mark.Mark.TheVariants.{Plain as PlainMark, Urgent}
 use Rattle.task_moves.specs.AbstractTask as abstract
 use Rattle.task_moves.specs.AbstractTask.{AbstractTask, Left}
 use Rattle.task_moves.specs.AbstractTask.PendingEnd.{Drops as EndDrops, Queues as EndQueues, Forgets as EndForgets, Rests as EndRests}
 use Rattle.solo.specs.declared.names.SoloWaker.{SoloWaker}
-use Rattle.plain_scheduler.specs.State.{ARun, ATick, AtOnce, Calls, Choice, Close, Closed, Code, Done, Drop, DropOwn, Due, End, Finished, Full}
+use Rattle.plain_scheduler.specs.State.{ARun, ATick, AtOnce, Calls, Choice, Close, Closed, Code, Done, Drop, DropOwn, Due, End, Finished}
+use Rattle.plain_scheduler.specs.State.{Full}
 use Rattle.plain_scheduler.specs.State.{Future, Granted}
-use Rattle.plain_scheduler.specs.State.{Later, Lose, Loses, Lying, Made, NoMemory, Plain, Poll, PollOwn, Polls, Refusal, Run, Running, Taker}
+use Rattle.plain_scheduler.specs.State.{Later, Lose, Loses, Lying, Made, NoMemory, Plain, Poll, PollOwn, Polls, Refusal, Run, Running}
+use Rattle.plain_scheduler.specs.State.{Taker}
 use Rattle.plain_scheduler.specs.State.{Tick, Try, Who}
 use Rattle.plain_scheduler.specs.Lists.{each, on, or, repeat, without}
-use Rattle.plain_scheduler.specs.Moves.{answers, appended, becomes, called, changed, chosen, copied, enters, given_back, is_called, is_common}
+use Rattle.plain_scheduler.specs.Moves.{answers, appended, becomes, called, changed, chosen, copied, enters, given_back, is_called}
+use Rattle.plain_scheduler.specs.Moves.{is_common}
 use Rattle.plain_scheduler.specs.Moves.{is_kept, let_go, lies, looks, moved, put, release, see, task, tell, up, wake}
 use Rattle.plain_scheduler.specs.Moves as moves
 use Rattle.plain_scheduler.specs.Takes as takes
@@ -281,7 +284,8 @@ module _ {T X : Type 0} (c : Choice) where
   new_run_long p = by (is_granted c.refusal)
     where
       by : (g : Bool)
-          → Long p (if g then answers Made (record p { runs = p.runs ++ record { taken = 0; is_over = false } ∷ [] }) else answers NoMemory p)
+          → Long p (if g then answers Made (record p { runs = p.runs ++ record { taken = 0; is_over = false } ∷ [] }) else answers
+          NoMemory p)
       by true = refl
       by false = refl
 

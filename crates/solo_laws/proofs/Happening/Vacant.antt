@@ -1,6 +1,6 @@
 -- No task has a key from the next future's number on, where each future's number is its task's key: so all calls leave it.
-use Rattle.std.proofs.Common.{◌≡◌, ◌≢◌, ℕ, zero, suc, ◌+◌, ◌<◌, ◌≤◌, ◌==◌, nat_lt, Bool, true, false, List, [], ◌∷◌, length, map}
-use Rattle.std.proofs.Common.{Option, Some, None, is_some, slice_get, slice_set, slice_index_or, refl, sym, ap, subst, ◌∙◌, arith}
+use Rattle.std.proofs.Common.{◌≡◌, ℕ, zero, suc, ◌≤◌, ◌==◌, Bool, true, false, List, [], ◌∷◌}
+use Rattle.std.proofs.Common.{Option, Some, None, is_some, slice_get, slice_set, slice_index_or, refl, sym, ap, ◌∙◌, arith}
 use Rattle.std.proofs.lemmas.Bool.Decides.{nat_tests}
 use Rattle.slab.specs.Slab.{get}
 use Rattle.solo.specs.declared.names.Task.{Task}
@@ -13,7 +13,6 @@ use Rattle.solo.specs.declared.cells.Cells.{Cells}
 use Rattle.solo.specs.declared.owed.Lent.{Lent}
 use Rattle.solo.specs.declared.owed.Owed.{Owed}
 use Rattle.solo.specs.declared.runs.Leaving.{Leaving}
-use Rattle.solo.specs.declared.runs.RunLeft.{RunLeft}
 use Rattle.solo.specs.declared.runs.Runner.{Runner}
 use Rattle.solo.specs.declared.solo.Solo.{Solo}
 use Rattle.solo.specs.declared.ticks.Ticker.{Ticker}
@@ -34,11 +33,11 @@ use Rattle.solo_laws.specs.Running.{drains, more_left, run_left}
 use Rattle.solo_laws.specs.RunResting.{run_rested, sleep_answer, slept_from}
 use Rattle.solo_laws.specs.RunTaking.{woken_by}
 use Rattle.solo_laws.specs.Ticking.{looks_again, rested, slept_answer, slept_once}
-use Rattle.solo_laws.proofs.CellFrames.{left_at, let_go_at, loosed_at, run_drained_at, run_searched_at, scheduled_at, scheduled_if_at, slept_at}
+use Rattle.solo_laws.proofs.CellFrames.{left_at, let_go_at, loosed_at, run_drained_at, run_searched_at, scheduled_at, scheduled_if_at}
+use Rattle.solo_laws.proofs.CellFrames.{slept_at}
 use Rattle.solo_laws.proofs.CellFrames.{sought_at, taken_by_at, tick_left_at, tick_searched_at}
 use Rattle.solo_laws.proofs.Prompt.{chosen}
 use Rattle.solo_laws.proofs.Following.Cells.{same_number}
-use Rattle.solo_laws.proofs.Following.Due.{clash}
 
 module _ {A : Type 0} where
   set_else : (xs : List A) (i j : ℕ) (x d : A) → (j == i) ≡ false → slice_index_or (slice_set xs i x) j d ≡ slice_index_or xs j d
@@ -223,7 +222,8 @@ module _ {F T X : Type 0} (n : ℕ) where
       by None = v
       by (Some t) =
           let y = closing.first_left s in
-          swept_v t (turns.loosed t (solo.woken t y)) (loosed_at (IsVacant n) (woke n) (loose n) (tidy n) t (solo.woken t y) (woken_v t y v))
+          swept_v t (turns.loosed t (solo.woken t y)) (loosed_at (IsVacant n) (woke n) (loose n) (tidy n) t (solo.woken t y)
+          (woken_v t y v))
 
   leaks_v : (m : ℕ) (s : Solo F T X) → V s → V (repeat m closing.leak_woken s)
   leaks_v zero s v = v
@@ -237,7 +237,8 @@ module _ {F T X : Type 0} (n : ℕ) where
   found_v ticker t s v = tick_searched_at (IsVacant n) (woke n) (loose n) (tidy n) (start n) (Some t) ticker s v
 
   pub slept_v : (ticker : Ticker) (w : SoloWaker X) (s : Solo F T X) → V s → V (slept_once ticker w s)
-  slept_v ticker w s v = slept_at (IsVacant n) (woke n) (loose n) (tidy n) ticker w (alike.copies w (solo.popped s)) (copies_v w (solo.popped s) v)
+  slept_v ticker w s v = slept_at (IsVacant n) (woke n) (loose n) (tidy n) ticker w (alike.copies w (solo.popped s))
+      (copies_v w (solo.popped s) v)
 
   pub rested_v : (ticker : Ticker) (w : SoloWaker X) (s : Solo F T X) → V s → V (rested ticker w s)
   rested_v ticker w s v =
@@ -258,7 +259,8 @@ module _ {F T X : Type 0} (n : ℕ) where
 
   pub slept_from_v : (r at : ℕ) (ticker : Ticker) (w : SoloWaker X) (s : Solo F T X) → V s → V (slept_from r at ticker w s)
   slept_from_v r at ticker w s v =
-      slept_at (IsVacant n) (woke n) (loose n) (tidy n) ticker w (alike.copies w (steals.sought r at s)) (copies_v w (steals.sought r at s) (sought_v r at s v))
+      slept_at (IsVacant n) (woke n) (loose n) (tidy n) ticker w (alike.copies w (steals.sought r at s))
+      (copies_v w (steals.sought r at s) (sought_v r at s v))
 
   pub run_rested_v : (r one two : ℕ) (ticker : Ticker) (w : SoloWaker X) (s : Solo F T X) → V s → V (run_rested r one two ticker w s)
   run_rested_v r one two ticker w s v =

@@ -3,13 +3,14 @@ use Rattle.std.proofs.Common.{◌≡◌, ℕ, ◌+◌, nat_lt, if◌then◌else�
 use Rattle.std.proofs.Common.{None, slice_get, refl, sym, subst, ◌∙◌}
 use Rattle.executor_parts.specs.declared.mark.Mark.TheVariants.{Plain as PlainMark, Urgent}
 use Rattle.task_moves.specs.AbstractTask as abstract
-use Rattle.task_moves.specs.AbstractTask.{AbstractTask, Left}
+use Rattle.task_moves.specs.AbstractTask.{Left}
 use Rattle.task_moves.specs.AbstractTask.PendingEnd.{Drops as EndDrops, Queues as EndQueues, Forgets as EndForgets, Rests as EndRests}
 use Rattle.solo.specs.declared.names.SoloWaker.{SoloWaker}
-use Rattle.plain_scheduler.specs.State.{Answer, ARun, ATick, Choice, Close, Closed, Code, Done, Drop, DropOwn, Due, End, Finished, Future, Lose}
+use Rattle.plain_scheduler.specs.State.{ARun, ATick, Choice, Close, Closed, Code, Done, Drop, DropOwn, Due, End, Finished, Future, Lose}
 use Rattle.plain_scheduler.specs.State.{Loses, Made, Plain, Poll, PollOwn, Polls, Run, Taker, Tick, Try}
 use Rattle.plain_scheduler.specs.Lists.{each, on, or, without}
-use Rattle.plain_scheduler.specs.Moves.{answers, becomes, called, changed, chosen, enters, is_common, let_go, looks, put, see, task, tell, up}
+use Rattle.plain_scheduler.specs.Moves.{answers, becomes, called, changed, chosen, enters, is_common, let_go, looks, put, see, task, tell}
+use Rattle.plain_scheduler.specs.Moves.{up}
 use Rattle.plain_scheduler.specs.Takes as takes
 use Rattle.plain_scheduler.specs.Calls as calls
 use Rattle.plain_scheduler.specs.Calls.{Call}
@@ -18,7 +19,6 @@ use Rattle.solo_laws.specs.Road.{wakes}
 use Rattle.solo_laws.proofs.Following.CodesKept.{becomes_calm, calls_calm, cancel_calm, changed_calm, each_calm, freed_calm, gives_way_calm}
 use Rattle.solo_laws.proofs.Following.CodesKept.{gone_calm, granted_calm, handle_calm, kept_calm, leaves_calm, lets_go_calm, nothing_calm}
 use Rattle.solo_laws.proofs.Following.CodesKept.{robbed_calm, runs_calm, spawn_calm, tell_calm, up_calm}
-use Rattle.solo_laws.proofs.Following.Polled.{enters_run}
 use Rattle.solo_laws.proofs.Following.Using.{put_inside}
 
 module _ {T X : Type 0} (c : Choice) (Is : SoloWaker X → Type 0) where
@@ -141,7 +141,8 @@ module _ {T X : Type 0} (c : Choice) (Is : SoloWaker X → Type 0) where
       (tt, same_all p (changed h f p) (changed_calm c h f p) has)
 
   -- the innermost code ends
-  pends_all : (code : Code T (SoloWaker X)) (q : Plain T (SoloWaker X)) → PolledIn {T = T} Is code → All q → All (calls.pends wakes c code q)
+  pends_all : (code : Code T (SoloWaker X)) (q : Plain T (SoloWaker X)) → PolledIn {T = T} Is code → All q → All
+      (calls.pends wakes c code q)
   pends_all (Poll f by) q its all = pending_all (abstract.pending_end (task f q)) f by q its all
   pends_all (PollOwn r w) q its all = take_all (Run r w) q its all
   pends_all (Drop f end by) q its all = all

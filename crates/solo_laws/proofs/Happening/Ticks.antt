@@ -1,16 +1,14 @@
 -- Calls of ticks happen.
-use Rattle.std.proofs.Common.{◌≡◌, ℕ, suc, ◌≤◌, Bool, true, false, List, [], ◌∷◌, ◌++◌, length, Option, Some, None, refl, sym, ap, subst}
-use Rattle.std.proofs.Common.{◌∙◌, arith}
+use Rattle.std.proofs.Common.{◌≡◌, ℕ, Bool, true, false, List, length, Option, Some, None, refl, ap, subst}
+use Rattle.std.proofs.Common.{arith}
 use Rattle.solo.specs.declared.names.Task.{Task}
 use Rattle.solo.specs.declared.names.SoloWaker.{SoloWaker}
 use Rattle.solo.specs.declared.names.SoloWaker.TheVariants.{Task as OfTask, Outside}
 use Rattle.solo.specs.declared.owed.Lent.{Lent}
 use Rattle.solo.specs.declared.solo.Solo.{Solo}
-use Rattle.solo.specs.declared.ticks.Ticker.{Ticker}
-use Rattle.solo.specs.Lines.{mark_of_turn}
 use Rattle.solo.specs.Solo as solo
 use Rattle.solo.specs.Ticks as ticks
-use Rattle.plain_scheduler.specs.State.{Answers, ATick, AtOnce, Choice, Event, Granted, Later, Made, Plain, Refusal}
+use Rattle.plain_scheduler.specs.State.{ATick, AtOnce, Choice, Event, Granted, Later, Plain, Refusal}
 use Rattle.plain_scheduler.specs.Calls as plain
 use Rattle.plain_scheduler.specs.Calls.{Call, is_granted}
 use Rattle.solo_laws.specs.Courses.{Acts, makes_no_tick, makes_tick, tick_leaves, tick_lies_refused, tick_refused, tick_rests, tick_takes}

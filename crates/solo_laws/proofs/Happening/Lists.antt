@@ -114,7 +114,7 @@ module _ {F T X : Type 0} where
         after = rest.after;
         leads =
             leads it.choice x.call rest.calls owner it.now rest.now s it.after rest.after p it.shown rest.shown many it.acts rest.leads;
-        wished = (refl, it.refused, it.starts, rest.wished);
+        wished = (refl, it.refused, it.starts, it.named_so, rest.wished);
       }
 
   pub lists_happen : (future : F) (limit : ℕ) (kind : Kind) (is_static : Bool) (first : Solo F T X) (number : Who → ℕ)

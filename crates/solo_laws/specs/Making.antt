@@ -18,7 +18,7 @@ use Rattle.plain_scheduler.specs.Calls.{Call, Cancel, Copy, Detach, DropExecutor
 use Rattle.plain_scheduler.specs.Calls.{Leak, NewRun, NewTick, Pends, PollHandle, PollRun, PollTick, Release, Spawn, TryTick, Use, Wake}
 use Rattle.plain_scheduler.specs.Calls.{does, is_granted}
 use Rattle.solo_laws.specs.Busy.{busy_in}
-use Rattle.solo_laws.specs.Courses.{Acts, Leads, Makes, copies, makes, polls, run_goes_on, run_looks, tick_lies_refused, tick_refused}
+use Rattle.solo_laws.specs.Courses.{Acts, Leads, Makes, copies, makes, makes_tick, polls, run_goes_on, run_looks, tick_lies_refused, tick_refused}
 use Rattle.solo_laws.specs.Courses.{leads, stays, tick_rests}
 use Rattle.solo_laws.specs.Numbered.{ticker_of}
 use Rattle.solo_laws.specs.Owner.{Owner, has_tick}
@@ -132,6 +132,12 @@ module _ {F T X : Type 0} (its : ℕ → Lent) (c : Choice) (s : Solo F T X) (p 
       RunsFrom its owner c y (behind stage rest call' before) runner w one two others now' z' on
   ActsFrom one two owner call shown now z how = Unit {0}
 
+  -- a tick that is made has this name
+  abbrev pub NamesTick : ℕ → (owner : Owner) (call : Call T (SoloWaker X)) (shown : List (Event T (SoloWaker X))) (now : Owner)
+      (z : Solo F T X) → Acts its owner c s p call shown now z → Type 0
+  NamesTick name owner call shown now z (makes_tick t new granted) = t ≡ name
+  NamesTick name owner call shown now z how = Unit {0}
+
 -- this is so of the waker by which a run is polled, in each user's code
 module _ {A : Type 0} (Is : A → Type 0) where
   abbrev pub PolledBy : Taker A → Type 0
@@ -231,6 +237,7 @@ module _ {F T X : Type 0} (its : ℕ → Lent) (owner : Owner) (s : Solo F T X) 
     pub tells : length p.lying < choice.tells
     pub refused : choice.refusal ≡ acted_as its choice s p owner x.call shown now after x.refusal acts
     pub starts : ActsFrom its choice s p x.first x.second owner x.call shown now after acts
+    pub named_so : NamesTick its choice s p x.name owner x.call shown now after acts
 
   -- the next future's name is free: no task has its key, and no entry that of its place
   pub record NextIsFree : Type 0 where
@@ -257,7 +264,7 @@ module _ {F T X : Type 0} (its : ℕ → Lent) where
   AsWished [] calls owner s p shown now z (stays owner' s' p') = Unit {0}
   AsWished (x ∷ xs) calls owner s p shown now z (leads c call rest before mid after s' y z' p' one others tells acts on) =
       (call ≡ x.call) × (c.refusal ≡ acted_as its c s' p' before call one mid y x.refusal acts)
-      × ActsFrom its c s' p' x.first x.second before call one mid y acts
+      × ActsFrom its c s' p' x.first x.second before call one mid y acts × NamesTick its c s' p' x.name before call one mid y acts
       × AsWished xs rest mid y (does wakes c call p') others after z' on
   AsWished xs calls owner s p shown now z how = ⊥
 

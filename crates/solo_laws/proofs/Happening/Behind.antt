@@ -43,6 +43,6 @@ module _ {T X : Type 0} where
 pub end_long : {T X : Type 0} (c : Choice) (p : Plain T (SoloWaker X)) (rest : List (Code T (SoloWaker X)))
     (stage : Stage T (SoloWaker X)) (call : Call T (SoloWaker X)) → IsEnding stage call
     → length (does wakes c call (in_try stage rest p)).futures ≡ length p.futures
-end_long c p rest stage call (poll_ends f) = pends_long c (in_try (Polling f) rest p)
-end_long c p rest stage call (drop_ends f end) = ends_long c (in_try (Dropping f end) rest p)
-end_long c p rest stage call (loss_ends awaiter) = ends_long c (in_try (Losing awaiter) rest p)
+end_long c p rest stage call (poll_ends f) = (pends_long c (in_try (Polling f) rest p)).futures
+end_long c p rest stage call (drop_ends f end) = (ends_long c (in_try (Dropping f end) rest p)).futures
+end_long c p rest stage call (loss_ends awaiter) = (ends_long c (in_try (Losing awaiter) rest p)).futures

@@ -85,6 +85,7 @@ module _ {F T X : Type 0} (its : ℕ → Lent) (future : F) (owner : Owner) (s :
     tells = one_more (length p.lying);
     refused = heeds;
     starts = tt;
+    named_so = tt;
   }
 
   abbrev next : Lent

@@ -113,6 +113,7 @@ module _ {F T X : Type 0} (its : ℕ → Lent) (future : F) (owner : Owner) (s :
         tells = more its future owner s p known refusal first second name it.choice.tells it.tells_so;
         refused = it.so.heeds;
         starts = it.so.starts;
+        named_so = tt;
       }
 
   -- the innermost one has a waker that is known
@@ -143,7 +144,7 @@ module _ {F T X : Type 0} (its : ℕ → Lent) (future : F) (owner : Owner) (s :
       by (Lose awaiter taker ∷ rest) is may = absurd may
       by (PollOwn r w ∷ rest) is may =
           is_acted its future owner s p known.stands refusal first second name refusal (plain.EndsWith v) _ owner s
-          (own_ready r w v rest is) refl tt
+          (own_ready r w v rest is) refl tt tt
       by (DropOwn r answer ∷ rest) is may = absurd may
       by (Close fs all ∷ rest) is may = absurd may
 
@@ -228,7 +229,7 @@ module _ {F T X : Type 0} (its : ℕ → Lent) (future : F) (owner : Owner) (s :
       is_acted its future owner s p known.stands refusal first second name refusal plain.Ends _ owner _
       (run_leaves runner answer rest (is ∙ ap (λ k. DropOwn k answer ∷ rest) (sym (known.tallied.number r)))
       (subst (λ k. HasLife (3 * count_of_own k s.runs + 5) s.lines) (sym (known.tallied.number r))
-      (fewer (3 * count_of_own r s.runs + 5) (3 * count_of_own r s.runs + 14) s.lines (omega arith) life))) refl tt
+      (fewer (3 * count_of_own r s.runs + 5) (3 * count_of_own r s.runs + 14) s.lines (omega arith) life))) refl tt tt
 
   pub ends_happen : WakersAreKnown its owner s p → MayEnd its owner s p p.inside → HasLife (3 * left_in its owner s p p.inside + 14)
       s.lines → wished plain.Ends
@@ -254,12 +255,12 @@ module _ {F T X : Type 0} (its : ℕ → Lent) (future : F) (owner : Owner) (s :
     where
       no_run : is_granted refusal ≡ false → wished plain.NewRun
       no_run refused =
-          is_acted its future owner s p known.stands refusal first second name refusal plain.NewRun _ owner s (makes_no_run refused) refl tt
+          is_acted its future owner s p known.stands refusal first second name refusal plain.NewRun _ owner s (makes_no_run refused) refl tt tt
 
       by : (r : Refusal) → refusal ≡ r → wished plain.NewRun
       by Granted is =
           is_acted its future owner s p known.stands refusal first second name refusal plain.NewRun _ owner (runs.made s)
-          (makes_run is few) refl tt
+          (makes_run is few) refl tt tt
       by AtOnce is = no_run (ap (λ r. is_granted r) is)
       by Later is = no_run (ap (λ r. is_granted r) is)
 
@@ -269,10 +270,10 @@ module _ {F T X : Type 0} (its : ℕ → Lent) (future : F) (owner : Owner) (s :
       by : (b : Bool) → goes_on r p ≡ b → wished (plain.PollRun r w)
       by true going =
           is_acted its future owner s p known.stands refusal first second name refusal (plain.PollRun r w) _ owner _
-          (run_polled (runs.new_runner r) w going free) refl tt
+          (run_polled (runs.new_runner r) w going free) refl tt tt
       by false over =
           is_acted its future owner s p known.stands refusal first second name refusal (plain.PollRun r w) _ owner s
-          (over_polled r w over) refl tt
+          (over_polled r w over) refl tt tt
 
   pub drop_run_happens : (r : ℕ) → is_in r (busy_in p.inside) ≡ false → wished (plain.DropRun r)
   drop_run_happens r free = by (goes_on r p) refl
@@ -280,7 +281,7 @@ module _ {F T X : Type 0} (its : ℕ → Lent) (future : F) (owner : Owner) (s :
       by : (b : Bool) → goes_on r p ≡ b → wished (plain.DropRun r)
       by true going =
           is_acted its future owner s p known.stands refusal first second name refusal (plain.DropRun r) _ owner s
-          (run_dropped r going free) refl tt
+          (run_dropped r going free) refl tt tt
       by false over =
           is_acted its future owner s p known.stands refusal first second name refusal (plain.DropRun r) _ owner s
-          (over_dropped r over) refl tt
+          (over_dropped r over) refl tt tt

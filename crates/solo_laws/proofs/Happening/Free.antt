@@ -29,7 +29,7 @@ use Rattle.solo_laws.specs.Tabled.{Stands, named}
 use Rattle.solo_laws.proofs.Following.RunEnding.{tried_both}
 use Rattle.solo_laws.proofs.Following.Spawning.{room}
 use Rattle.solo_laws.proofs.Happening.Behind.{end_long}
-use Rattle.solo_laws.proofs.Happening.Long.{futures_grow, spawn_long}
+use Rattle.solo_laws.proofs.Happening.Growing.{call_grows, spawn_long}
 use Rattle.solo_laws.proofs.Happening.Vacant.{IsVacant, calls_v, cancelled_v, closed_v, detached_v, found_v, given_v, held_v, leaked_v}
 use Rattle.solo_laws.proofs.Happening.Vacant.{pends_v}
 use Rattle.solo_laws.proofs.Happening.Vacant.{polled_v, released_v, rested_v, run_left_v, run_rested_v, scheduled_v, searched_v}
@@ -48,7 +48,7 @@ module _ {F T X : Type 0} (c : Choice) (s : Solo F T X) (p : Plain T (SoloWaker 
   -- no other call puts a task anywhere
   later : (call : Call T (SoloWaker X)) (z : Solo F T X) → IsVacant n z.cells
       → IsVacant (length (does wakes c call p).futures) z.cells
-  later call z v = λ k above. (let more = futures_grow c call p in v k (omega (arith, more, above)))
+  later call z v = λ k above. (let more = (call_grows c call p).futures in v k (omega (arith, more, above)))
 
   pub makes_vacant : (call : Call T (SoloWaker X)) (shown : List (Event T (SoloWaker X))) (z : Solo F T X)
       → Makes by_number c s p call shown z → IsVacant (length (does wakes c call p).futures) z.cells

@@ -22,7 +22,7 @@ use Rattle.solo_laws.proofs.Following.Rows.{living_below}
 use Rattle.solo_laws.proofs.Showing.Courses.{Known, leads_alike, new_known}
 use Rattle.solo_laws.proofs.Happening.Each.{happens}
 use Rattle.solo_laws.proofs.Happening.Free.{acts_vacant}
-use Rattle.solo_laws.proofs.Happening.Long.{futures_grow}
+use Rattle.solo_laws.proofs.Happening.Growing.{call_grows}
 use Rattle.solo_laws.proofs.Happening.Vacant.{IsVacant}
 use Rattle.solo_laws.proofs.Happening.Wakers.{PollsBy, call_all, more_all}
 
@@ -72,7 +72,7 @@ module _ {F T X : Type 0} where
       → WakersAreKnown by_number now z (does wakes c x.call p)
   still_known owner s p now z c x may all =
       let q = does wakes c x.call p in
-      more_all (IsKnown by_number owner s p) (IsKnown by_number now z q) (still (futures_grow c x.call p)) q.inside
+      more_all (IsKnown by_number owner s p) (IsKnown by_number now z q) (still (call_grows c x.call p).futures) q.inside
       (call_all c (IsKnown by_number owner s p) x.call p (polls x.call may.allowed) all)
     where
       still : length p.futures ≤ length (does wakes c x.call p).futures → (w : SoloWaker X) → IsKnown by_number owner s p w
@@ -114,7 +114,7 @@ module _ {F T X : Type 0} where
         after = rest.after;
         leads =
             leads it.choice x.call rest.calls owner it.now rest.now s it.after rest.after p it.shown rest.shown many it.acts rest.leads;
-        wished = (refl, it.refused, it.starts, rest.wished);
+        wished = (refl, it.refused, it.starts, it.named_so, rest.wished);
       }
 
   pub lists_happen : (future : F) (limit : ℕ) (kind : Kind) (is_static : Bool) (first : Solo F T X) (number : Who → ℕ)

@@ -81,7 +81,7 @@ module _ {F T X : Type 0} (its : ℕ → Lent) (number : X → ℕ) where
       let call_is : go.1.made ≡ made = one_made s a.party a.first go.1.made made go.1.is of.0.made in
       let theirs : ActSays s a d made (renamed nothing (numbered number) p) =
       subst (λ m. ActSays s a d m (renamed nothing (numbered number) p)) call_is
-      (subst (λ q. ActSays s a d go.1.made q) (sym is) (act_says s reached q a here it are.1 go.0 go.1 lie seen lie_then)) in
+      (subst (λ q. ActSays s a d go.1.made q) (sym is) (act_says s q a go.0 go.1 lie seen lie_then)) in
       let tells_so : length p.lying ≤ d.tells =
       fewer (length p.lying) (length q.lying) d.tells
       (sym (length_map (lying_as (numbered number)) p.lying) ∙ ap (λ (z : Plain Output Waker). length z.lying) is)

@@ -1,16 +1,16 @@
 -- What a call chooses as it searches: from what the search tells of the world at it, which is in this as the one that the call began in.
-use Rattle.std.proofs.Common.{◌≡◌, ◌==◌, ◌&&◌, ℕ, nat_lt, Bool, true, false, List, [], ◌∷◌, refl, if◌then◌else◌, Option, Some, None, is_some, slice_get, sym, ap}
-use Rattle.std.proofs.Common.{subst, ◌∙◌}
+use Rattle.std.proofs.Common.{◌≡◌, ◌==◌, ◌&&◌, ℕ, nat_lt, Bool, true, false, List, [], ◌∷◌, if◌then◌else◌, Option, Some, None, is_some}
+use Rattle.std.proofs.Common.{slice_get, refl, sym, ap, subst, ◌∙◌}
 use Rattle.executor_parts.specs.Marks.{first_of}
 use Rattle.executor_model.specs.declared.op.Waker.{Waker}
 use Rattle.executor_model.specs.World.{World}
 use Rattle.plain_scheduler.specs.State.{Choice, Code, Later, Plain, Run, Taker}
 use Rattle.plain_scheduler.specs.Lists.{any, or}
-use Rattle.plain_scheduler.specs.Moves.{is_due}
+use Rattle.plain_scheduler.specs.Moves.{is_due, is_kept}
 use Rattle.plain_scheduler.specs.Calls.{Call, PollTick, TryTick}
 use Rattle.plain_scheduler.specs.Searches.{Search, finds, searches, searches_in, searches_inside, searches_of}
 use Rattle.plain_scheduler.specs.Turns.{turns_of}
-use Rattle.plain_scheduler.specs.Usual.{RobsAsUsual, TakesAsUsual, one_counted, run_turns, turned}
+use Rattle.plain_scheduler.specs.Usual.{IsKeptByOthers, RobsAsUsual, TakesAsUsual, one_counted, run_turns, turned}
 use Rattle.machine_roads.specs.View.{Output, wakes}
 use Rattle.machine_roads.specs.Choosing.{Chooses, has_counted}
 use Rattle.machine_roads.specs.Refused.{OneMoreLies}
@@ -67,6 +67,9 @@ module _ (w v : World) (call : Call Output Waker) (q : Plain Output Waker) (d : 
     robs = λ x its due.
         subst (λ x. RobsAsUsual wakes d w.listed so.start x) (same x its)
         (subst (λ ks. RobsAsUsual wakes d ks so.start (search_at r a b)) still.listed (so.robs (ap finds (same x its) ∙ due)));
+    keeper = λ x its due.
+        subst (λ (x : Search Output Waker). IsKeptByOthers x.run x.at.due → any (is_kept d.robs) x.at.due ≡ true) (same x its)
+        (so.keeper (ap finds (same x its) ∙ due));
     counted = λ k.
         so.counted k
         ∙ (ap (λ n. if (k == r) && any is_due b.due then one_counted n else n) (still.counted k)
@@ -97,6 +100,7 @@ module _ (w v : World) (call : Call Output Waker) (q : Plain Output Waker) (d : 
     usual = λ x its due. absurd (no_search x its);
     start = 0;
     robs = λ x its due. absurd (no_search x its);
+    keeper = λ x its due. absurd (no_search x its);
     counted = λ k.
         stays k
         ∙ sym (ap

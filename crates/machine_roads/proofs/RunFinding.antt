@@ -73,6 +73,7 @@ module _ (p : ℕ) (below : List Op) (under : is_resting below ≡ true) (end : 
     pub runs : (plain_takes.take wakes (pick ms k n) taker q).runs ≡ changed one_more r q.runs
     pub usual : TakesAsUsual wakes (pick ms k n) c.first (run_of w r).counted (search_of q)
     pub robs : RobsAsUsual wakes (pick ms k n) w.listed start (search_of q)
+    pub keeper : IsKeptByOthers r q.due → any (is_kept k) q.due ≡ true
     pub behind : CountsOne r turns w end.world
 
   abbrev pub Found : ℕ → ℕ → World → Plain Output Waker → Type 0
@@ -93,6 +94,7 @@ module _ (p : ℕ) (below : List Op) (under : is_resting below ≡ true) (end : 
           runs = g.4.runs;
           usual = subst (λ n. TakesAsUsual wakes d c.first n (search_of q)) (counted r) g.4.usual;
           robs = subst (λ order. RobsAsUsual wakes d order start (search_of q)) listed g.4.robs;
+          keeper = g.4.keeper;
           behind = record {
             counted = λ k. g.4.behind.counted k ∙ ap (λ n. if k == r then one_counted n else n) (counted k);
             listed = g.4.behind.listed ∙ listed;
@@ -132,6 +134,7 @@ module _ (p : ℕ) (below : List Op) (under : is_resting below ≡ true) (end : 
     beside_is : usual.beside wakes c r one.due_one (with_due (without test q.due) q) ≡ so_many many m
     moves : IsKeptByOthers r q.due → n ≡ share (count_by (is_kept k) q.due) (512 - count_by (is_kept r) q.due) - 1
     whom : IsKeptByOthers r q.due → k ≡ first_keeper (from_start start w.listed) q.due
+    keeper : IsKeptByOthers r q.due → any (is_kept k) q.due ≡ true
     inside : qr.inside ≡ q.inside
     still : qr.runs ≡ q.runs
 
@@ -190,6 +193,7 @@ module _ (p : ℕ) (below : List Op) (under : is_resting below ≡ true) (end : 
             moves_so = it.moves;
           };
           robs = it.whom;
+          keeper = it.keeper;
           behind = counts;
         },
       )
@@ -213,6 +217,7 @@ module _ (p : ℕ) (below : List Op) (under : is_resting below ≡ true) (end : 
         beside_is = keeps_none t.0.due_one.keeper t.0.due_one.mark t.0.passes;
         moves = λ others. absurd (clash others.mine t.0.some);
         whom = λ others. absurd (clash others.mine t.0.some);
+        keeper = λ others. absurd (clash others.mine t.0.some);
         inside = refl;
         still = refl;
       })
@@ -256,6 +261,7 @@ module _ (p : ℕ) (below : List Op) (under : is_resting below ≡ true) (end : 
         beside_is = keeps_next t.0.due_one.keeper t.0.due_one.mark t.0.passes;
         moves = λ others. none_common m others t.0.some;
         whom = λ others. none_common m others t.0.some;
+        keeper = λ others. none_common m others t.0.some;
         inside = refl;
         still = refl;
       })
@@ -358,6 +364,7 @@ module _ (p : ℕ) (below : List Op) (under : is_resting below ≡ true) (end : 
         robbed_is = λ ms. robs one.due_one.keeper one.passes;
         beside_is = keeps_none one.due_one.keeper one.due_one.mark one.passes;
         whom = λ others. whom;
+        keeper = λ others. one.some;
         moves = λ others. fewer n (share (count_by (is_kept k) q.due) (512 - count_by (is_kept r) q.due)) shares;
         inside = refl;
         still = refl;

@@ -22,3 +22,4 @@ pub mod InLoss
 pub mod Refused
 pub mod Within
 pub mod DropActs
+pub mod Ordering

@@ -218,7 +218,8 @@ module _ (s : Machine) (reached : Reached s) (p : ℕ) (q : Plain Output Waker) 
       let below = reverse (stack s p) in
       began c ts there rests made 0
       (λ hints over. alone_turn p hints (begun p w here c).world ((begun p w here c).next ++ below)
-      (due_push seeks (begun p w here c).next below (begins_none p w here c quiet) (due_resting seeks below (rests_alike (standing s p) q stands)))
+      (due_push seeks (begun p w here c).next below (begins_none p w here c quiet)
+      (due_resting seeks below (rests_alike (standing s p) q stands)))
       ∙ begins_turn p w here c)
 
   -- a tick is polled

@@ -15,7 +15,7 @@ use Rattle.executor_model.specs.Acts.{copied}
 use Rattle.executor_model.specs.ActsOfSleepers.{pend_as, sleeper_goes}
 use Rattle.executor_model.specs.Weights.{weigh}
 use Rattle.executor_model.specs.World.{Done, Run, Ticker, World, no_run, run_of, runs_with}
-use Rattle.plain_scheduler.specs.State.{AtOnce, Granted, Later, Lying, Refusal, Who}
+use Rattle.plain_scheduler.specs.State.{AtOnce, Lying, Refusal, Who}
 use Rattle.plain_scheduler.specs.Usual.{lies_uncalled, searches_by, turned, vain_turns}
 use Rattle.machine_roads.specs.Alone.{is_resting}
 use Rattle.machine_roads.proofs.AloneKeeps.{due_push, due_resting}

@@ -7,10 +7,10 @@ use Rattle.executor_model.specs.declared.op.Waker.{Waker}
 use Rattle.executor_model.specs.World.{World}
 use Rattle.plain_scheduler.specs.State.{Choice, Later, Plain, Run, Taker}
 use Rattle.plain_scheduler.specs.Lists.{any, or}
-use Rattle.plain_scheduler.specs.Moves.{is_due}
+use Rattle.plain_scheduler.specs.Moves.{is_due, is_kept}
 use Rattle.plain_scheduler.specs.Calls.{Call}
 use Rattle.plain_scheduler.specs.Searches.{Search, finds, searches, searches_of}
-use Rattle.plain_scheduler.specs.Usual.{RobsAsUsual, TakesAsUsual, one_counted, run_turns, turned}
+use Rattle.plain_scheduler.specs.Usual.{IsKeptByOthers, RobsAsUsual, TakesAsUsual, one_counted, run_turns, turned}
 use Rattle.machine_roads.specs.View.{Output, wakes}
 use Rattle.machine_roads.specs.Choosing.{Chooses, has_counted}
 use Rattle.machine_roads.specs.Refused.{OneMoreLies}
@@ -40,6 +40,9 @@ module _ (w v : World) (call : Call Output Waker) (q : Plain Output Waker) (d : 
     robs = λ x its due.
         subst (λ x. RobsAsUsual wakes d w.listed so.start x) (same x its)
         (subst (λ ks. RobsAsUsual wakes d ks so.start (search_at r a b)) still.listed (so.robs (ap finds (same x its) ∙ due)));
+    keeper = λ x its due.
+        subst (λ (x : Search Output Waker). IsKeptByOthers x.run x.at.due → any (is_kept d.robs) x.at.due ≡ true) (same x its)
+        (so.keeper (ap finds (same x its) ∙ due));
     counted = λ k.
         so.counted k
         ∙ (ap (λ n. if (k == r) && any is_due b.due then one_counted n else n) (still.counted k)
@@ -69,6 +72,7 @@ module _ (w v : World) (call : Call Output Waker) (q : Plain Output Waker) (d : 
     usual = λ x its due. absurd (no_search x its);
     start = 0;
     robs = λ x its due. absurd (no_search x its);
+    keeper = λ x its due. absurd (no_search x its);
     counted = λ k.
         stays k
         ∙ sym (ap

@@ -202,7 +202,9 @@ module _ (s : Machine) (p : ℕ) (reached : Reached s) (there : p < length s.par
 
   in_use : (r : ℕ) (o : Op) → top (stack s p) ≡ Some o → 1 ≤ used_of (tick_or_run.Run r) o
       → (r < length s.world.runs) × (r < length s.world.own)
-  in_use r o is uses = (made (nat_lt r (length s.world.runs)) refl, subst (λ n. r < n) (sym enrolled.even) (made (nat_lt r (length s.world.runs)) refl))
+  in_use r o is uses =
+      let there = made (nat_lt r (length s.world.runs)) refl in
+      (there, subst (λ n. r < n) (sym enrolled.even) there)
     where
       below : (n m : ℕ) → nat_lt n m ≡ true → n < m
       below n m is = grind (arith, nat_tests)

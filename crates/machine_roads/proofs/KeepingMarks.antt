@@ -1,59 +1,24 @@
 -- So many futures of a mark that a run keeps beside what it has taken, one after the other.
-use Rattle.std.proofs.Common.{◌≡◌, ℕ, zero, suc, ◌+◌, ◌-◌, ◌≤◌, ◌<◌, ◌==◌, ◌++◌, nat_lt, not, Bool, true, false, List, [], ◌∷◌, length}
-use Rattle.std.proofs.Common.{slice_get, slice_set, drop, take, if◌then◌else◌, append-nil, refl, sym}
+use Rattle.std.proofs.Common.{◌≡◌, ℕ, zero, suc, ◌+◌, ◌-◌, ◌≤◌, ◌==◌, ◌++◌, Bool, true, false, List, [], ◌∷◌, length}
+use Rattle.std.proofs.Common.{drop, take, append-nil, refl, sym}
 use Rattle.std.proofs.Common.{ap, subst, count_by, ◌∙◌, arith}
-use Rattle.std.proofs.lemmas.List.{get_or-set_other, get_or-set_same}
-use Rattle.std.specs.Prelude.{slice_index_or}
 use Rattle.executor_parts.specs.declared.mark.Mark.{Mark}
 use Rattle.executor_parts.specs.declared.mark.Mark.TheVariants.{Plain as PlainMark, Urgent}
 use Rattle.executor_parts.specs.Marks.{other}
-use Rattle.task_moves.specs.declared.moves.owed.Move.TheVariants as move
-use Rattle.task_moves.specs.AbstractTask as abstract
-use Rattle.executor_model.specs.declared.op.Op.{Op}
-use Rattle.executor_model.specs.declared.op.Op.TheVariants as op
-use Rattle.executor_model.specs.declared.op.RunOp.TheVariants as run_op
-use Rattle.executor_model.specs.declared.op.RunPoll.{RunPoll}
-use Rattle.executor_model.specs.declared.op.SleeperOp.TheVariants as sleeper_op
-use Rattle.executor_model.specs.declared.op.Source.TheVariants.{Common}
-use Rattle.executor_model.specs.declared.op.Then.TheVariants as then
-use Rattle.executor_model.specs.declared.op.TickOp.TheVariants as tick_op
-use Rattle.executor_model.specs.declared.op.TickOrRun.{TickOrRun}
-use Rattle.executor_model.specs.declared.op.TickOrRun.TheVariants as tick_or_run
 use Rattle.executor_model.specs.declared.op.Waker.{Waker}
-use Rattle.executor_model.specs.ActsOfRuns.{asleep, counted_by, counted_to, found, run_by, run_found}
-use Rattle.executor_model.specs.ActsOfSleepers.{found_by}
-use Rattle.executor_model.specs.SleepersAgree.{sleeps}
-use Rattle.executor_model.specs.World.{Asleep, Awake, Done, Left, Run, Ticker, World, no_run, place_of, put_run, run_of}
-use Rattle.plain_scheduler.specs.State.{ARun, Choice, Closed, Due, Plain, Poll, Polls, Running, Run as ByRun, Taker}
-use Rattle.plain_scheduler.specs.Lists.{each, or, repeat}
-use Rattle.plain_scheduler.specs.Moves.{enters, is_common, is_kept, keeps, put, see, task, tell, up}
-use Rattle.plain_scheduler.specs.Moves as plain
-use Rattle.plain_scheduler.specs.Takes as plain_takes
+use Rattle.plain_scheduler.specs.State.{Choice, Due, Plain}
+use Rattle.plain_scheduler.specs.Lists.{each, repeat}
+use Rattle.plain_scheduler.specs.Moves.{is_common, is_kept, keeps}
 use Rattle.plain_scheduler.specs.Usual.{is_64th, one_counted, share, so_many}
 use Rattle.plain_scheduler.specs.Usual as usual
 use Rattle.machine_roads.specs.View.{Output, wakes}
-use Rattle.machine_roads.specs.Road.{Follows, futures_in}
-use Rattle.machine_roads.specs.Alone.{is_resting}
-use Rattle.machine_roads.specs.Searching.{CountsOne, IsLast}
-use Rattle.machine_roads.proofs.Adding.{Adds, AreBare, bare_none, risen_adds, with_both, with_due}
-use Rattle.machine_roads.proofs.Aside.{tell_inside, up_inside}
-use Rattle.machine_roads.proofs.BehindTake.{counted_due, found_due, taken_still, taking_resting}
+use Rattle.machine_roads.specs.Road.{futures_in}
+use Rattle.machine_roads.proofs.Adding.{AreBare, bare_none, with_due}
 use Rattle.machine_roads.proofs.Changing.{futures_append}
 use Rattle.machine_roads.proofs.Due.{marks_apart}
-use Rattle.machine_roads.proofs.Exchanging.{loudly}
 use Rattle.machine_roads.proofs.Keeping.{HasPlaces, IsBeside, Kept, Lined}
-use Rattle.machine_roads.proofs.Keeping.{common_away, common_beside, count_is, kept_due, keeps_is, lined_so, many_kept}
-use Rattle.machine_roads.proofs.Leaving.{gets_up}
-use Rattle.machine_roads.proofs.Lists.{apart_of, length_set, same_of}
-use Rattle.machine_roads.proofs.Moved.{Then}
-use Rattle.machine_roads.proofs.Numbers.{put_view}
-use Rattle.machine_roads.proofs.Puts.{put_by}
-use Rattle.machine_roads.proofs.Runs.{changed, counted_alike, counted_last, one_more, runs_is, same_place}
-use Rattle.machine_roads.proofs.Standing.{Stands, StandsSo}
-use Rattle.machine_roads.proofs.Stealing.{steals}
-use Rattle.machine_roads.proofs.Stepping.{Way}
-use Rattle.machine_roads.proofs.Trying.{runs}
-use Rattle.machine_roads.proofs.Unseen.{ran}
+use Rattle.machine_roads.proofs.Keeping.{common_away, common_beside, count_is, kept_due, keeps_is, many_kept}
+use Rattle.machine_roads.proofs.Lists.{same_of}
 
 -- a run keeps what is common of this mark
 abbrev pub keeping : ℕ → Mark → List Due → List Due

@@ -1,3 +1,7 @@
+pub mod ActsOrder
+pub mod OrderedEnds
+pub mod StandsHere
+pub mod Rescheduling
 pub mod BehindTake
 pub mod Enlisting
 pub mod Still

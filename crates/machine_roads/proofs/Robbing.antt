@@ -1,58 +1,20 @@
 -- What a run robs another of: one, and so many more.
-use Rattle.std.proofs.Common.{◌≡◌, ℕ, zero, suc, ◌+◌, ◌-◌, ◌%◌, ◌≤◌, ◌<◌, ◌==◌, ◌++◌, ◌&&◌, not, Bool, true, false, List, []}
-use Rattle.std.proofs.Common.{◌∷◌, length, map, cond, Option, Some, None, is_some, drop, take, if◌then◌else◌, ⊎_elim, refl, sym, ap, subst}
+use Rattle.std.proofs.Common.{◌≡◌, ℕ, suc, ◌≤◌, ◌==◌, ◌++◌, ◌&&◌, not, Bool, true, false, List, []}
+use Rattle.std.proofs.Common.{◌∷◌, length, map, cond, Option, Some, None, is_some, drop, take, refl, sym, ap, subst}
 use Rattle.std.proofs.Common.{◌∙◌, arith}
 use Rattle.std.specs.Prelude.{filter}
-use Rattle.std.proofs.Math.Nat.{mod-lt}
 use Rattle.executor_parts.specs.declared.mark.Mark.{Mark}
 use Rattle.executor_parts.specs.declared.mark.Mark.TheVariants.{Plain as PlainMark, Urgent}
-use Rattle.executor_parts.specs.Marks.{first_of, other, same_mark}
-use Rattle.queue_steps.specs.ClosableQueue.{taken}
-use Rattle.executor_model.specs.declared.event.Event.TheVariants as event
-use Rattle.executor_model.specs.declared.op.ListOp.TheVariants as list_op
-use Rattle.executor_model.specs.declared.op.Look.TheVariants as look
-use Rattle.executor_model.specs.declared.op.Op.{Op}
-use Rattle.executor_model.specs.declared.op.Op.TheVariants as op
-use Rattle.executor_model.specs.declared.op.RunOp.TheVariants as run_op
-use Rattle.executor_model.specs.declared.op.RunPoll.{RunPoll}
-use Rattle.executor_model.specs.declared.op.Source.TheVariants.{Common, Own}
-use Rattle.executor_model.specs.declared.op.SleeperOp.TheVariants as sleeper_op
-use Rattle.executor_model.specs.declared.op.StealOp.TheVariants as steal_op
-use Rattle.executor_model.specs.declared.op.Then.TheVariants as then
-use Rattle.executor_model.specs.declared.op.TickOp.TheVariants as tick_op
-use Rattle.executor_model.specs.declared.op.TickOrRun.TheVariants as tick_or_run
-use Rattle.executor_model.specs.declared.op.Waker.{Waker}
-use Rattle.executor_model.specs.Acts.{turned}
-use Rattle.executor_model.specs.ActsOfSleepers.{found_by}
-use Rattle.executor_model.specs.ActsOfRuns.{asleep, behind, counted_by, counted_to, found, look_own_by, next_place, queue_at, run_by}
-use Rattle.executor_model.specs.ActsOfRuns.{search_common_by, search_own_by, walk}
-use Rattle.executor_model.specs.Sound.{times}
-use Rattle.executor_model.specs.World.{Done, Lock, World, done, own_of, put_own, put_queue, queue_of, run_of}
-use Rattle.executor_model.proofs.WalksRound.Ahead.{Ahead, all-ahead, in-list}
-use Rattle.plain_scheduler.specs.State.{ARun, Choice, Due, Plain, Granted, Run as ByRun, Running, Taker}
-use Rattle.plain_scheduler.specs.Lists.{any, each, on, or, repeat, without}
-use Rattle.plain_scheduler.specs.Moves.{is_common, is_due, is_kept, is_run, keeps, looks, tell, up}
-use Rattle.plain_scheduler.specs.Moves as plain
-use Rattle.plain_scheduler.specs.Takes as plain_takes
-use Rattle.machine_roads.specs.View.{Output, wakes}
-use Rattle.machine_roads.specs.Road.{Follows, futures_in, run_view}
-use Rattle.machine_roads.specs.Alone.{alone, is_resting}
-use Rattle.machine_roads.specs.Searching.{CanTake, IsLast, RunTakesAlike, goes_on_by, unready}
-use Rattle.machine_roads.proofs.Adding.{with_due}
-use Rattle.machine_roads.proofs.Changing.{logs}
-use Rattle.machine_roads.proofs.Due.{First, find_same, first, nothing, others, without_same}
-use Rattle.machine_roads.proofs.Keeping.{HasPlaces, IsAway, IsBeside, Kept, Lined, common_away, kept_away, kept_due, lined_so}
-use Rattle.machine_roads.proofs.Keeping.{many_kept, repeat_is}
-use Rattle.machine_roads.proofs.Lists.{cons_is, equal, same_of, turned as turned_apart}
-use Rattle.machine_roads.proofs.RunTaking.{Begun, finds, takes_so}
-use Rattle.machine_roads.proofs.Runs.{changed, one_more, over_is}
-use Rattle.machine_roads.proofs.RunsGone.{kept_uncommon, runs_apart, takes_own}
-use Rattle.machine_roads.proofs.Standing.{Stands, StandsSo, stops_so}
-use Rattle.machine_roads.proofs.Stealing.{steals}
-use Rattle.machine_roads.proofs.Stepping.{Way, next}
-use Rattle.machine_roads.proofs.TickPolls.{both_marks, none_in}
-use Rattle.machine_roads.proofs.Trying.{takes_first}
-use Rattle.machine_roads.proofs.Unseen.{locked, turns}
+use Rattle.executor_parts.specs.Marks.{same_mark}
+use Rattle.plain_scheduler.specs.State.{Due}
+use Rattle.plain_scheduler.specs.Lists.{any, repeat, without}
+use Rattle.plain_scheduler.specs.Moves.{is_common, is_due, is_kept, is_run}
+use Rattle.machine_roads.specs.Road.{futures_in}
+use Rattle.machine_roads.proofs.Due.{First, first, others}
+use Rattle.machine_roads.proofs.Keeping.{HasPlaces, IsAway, IsBeside, Kept, Lined, kept_away, kept_due}
+use Rattle.machine_roads.proofs.Keeping.{many_kept}
+use Rattle.machine_roads.proofs.Lists.{equal, same_of, turned as turned_apart}
+use Rattle.machine_roads.proofs.RunsGone.{kept_uncommon, runs_apart}
 
 -- of what another run keeps one is robbed, and so many more: first the robbed one comes too, and goes then, or it goes first
 module _ (r k : ℕ) (apart : (k == r) ≡ false) (ds : List Due) (f : ℕ) (rest : List ℕ) (n : ℕ)

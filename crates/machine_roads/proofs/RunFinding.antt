@@ -1,60 +1,50 @@
 -- A run has found one that is due: of its own, one that nobody keeps, or one that another run keeps; and it takes it as usual.
-use Rattle.std.proofs.Common.{◌≡◌, ℕ, zero, suc, ◌+◌, ◌-◌, ◌%◌, ◌≤◌, ◌<◌, ◌==◌, ◌++◌, ◌&&◌, not, Bool, true, false, List, []}
-use Rattle.std.proofs.Common.{◌∷◌, length, map, cond, Option, Some, None, is_some, drop, take, if◌then◌else◌, ⊎_elim, refl, sym, ap, subst}
+use Rattle.std.proofs.Common.{◌≡◌, ℕ, suc, ◌+◌, ◌-◌, ◌≤◌, ◌<◌, ◌==◌, ◌++◌, ◌&&◌, not, Bool, true, false, List, []}
+use Rattle.std.proofs.Common.{◌∷◌, length, Option, Some, None, is_some, take, if◌then◌else◌, refl, sym, ap, subst}
 use Rattle.std.proofs.Common.{◌∙◌, arith}
-use Rattle.std.specs.Prelude.{count_by, filter, find, slice_index_or}
-use Rattle.std.proofs.Math.Nat.{mod-lt}
+use Rattle.std.specs.Prelude.{count_by, find, slice_index_or}
 use Rattle.executor_parts.specs.declared.mark.Mark.{Mark}
 use Rattle.executor_parts.specs.declared.mark.Mark.TheVariants.{Plain as PlainMark, Urgent}
-use Rattle.executor_parts.specs.Marks.{first_of, other, same_mark}
+use Rattle.executor_parts.specs.Marks.{other, same_mark}
 use Rattle.queue_steps.specs.ClosableQueue.{taken}
-use Rattle.executor_model.specs.declared.event.Event.TheVariants as event
 use Rattle.executor_model.specs.declared.op.ListOp.TheVariants as list_op
-use Rattle.executor_model.specs.declared.op.Look.TheVariants as look
 use Rattle.executor_model.specs.declared.op.Op.{Op}
 use Rattle.executor_model.specs.declared.op.Op.TheVariants as op
-use Rattle.executor_model.specs.declared.op.RunOp.TheVariants as run_op
 use Rattle.executor_model.specs.declared.op.RunPoll.{RunPoll}
-use Rattle.executor_model.specs.declared.op.Source.TheVariants.{Common, Own}
+use Rattle.executor_model.specs.declared.op.Source.TheVariants.{Common}
 use Rattle.executor_model.specs.declared.op.SleeperOp.TheVariants as sleeper_op
 use Rattle.executor_model.specs.declared.op.StealOp.TheVariants as steal_op
 use Rattle.executor_model.specs.declared.op.Then.TheVariants as then
-use Rattle.executor_model.specs.declared.op.TickOp.TheVariants as tick_op
 use Rattle.executor_model.specs.declared.op.TickOrRun.TheVariants as tick_or_run
 use Rattle.executor_model.specs.declared.op.Waker.{Waker}
-use Rattle.executor_model.specs.Acts.{turned}
 use Rattle.executor_model.specs.ActsOfSleepers.{found_by}
-use Rattle.executor_model.specs.ActsOfRuns.{asleep, behind, counted_by, counted_to, found, look_own_by, next_place, queue_at, run_by}
-use Rattle.executor_model.specs.ActsOfRuns.{search_common_by, search_own_by, walk}
-use Rattle.executor_model.specs.Sound.{times}
+use Rattle.executor_model.specs.ActsOfRuns.{behind, counted_by, counted_to, found, run_by}
 use Rattle.executor_model.specs.World.{Done, Lock, Run, World, done, no_run, own_of, put_own, put_queue, queue_of, run_of}
-use Rattle.executor_model.proofs.WalksRound.Ahead.{Ahead, all-ahead, in-list}
 use Rattle.plain_scheduler.specs.State.{ARun, Choice, Due, Plain, Granted, Run as ByRun, Running, Taker}
 use Rattle.plain_scheduler.specs.Lists.{any, each, on, or, repeat, without}
 use Rattle.plain_scheduler.specs.Moves.{is_common, is_due, is_kept, is_run, keeps, looks, tell, up}
 use Rattle.plain_scheduler.specs.Moves as plain
 use Rattle.plain_scheduler.specs.Takes as plain_takes
 use Rattle.plain_scheduler.specs.Searches.{Search}
-use Rattle.plain_scheduler.specs.Usual.{IsKeptByOthers, RobsAsUsual, TakesAsUsual, first_keeper, from_start, is_64th, one_counted, share, so_many}
+use Rattle.plain_scheduler.specs.Usual.{IsKeptByOthers, RobsAsUsual, TakesAsUsual, first_keeper, from_start, is_64th, one_counted, share}
+use Rattle.plain_scheduler.specs.Usual.{so_many}
 use Rattle.plain_scheduler.specs.Usual as usual
 use Rattle.machine_roads.specs.View.{Output, wakes}
-use Rattle.machine_roads.specs.Road.{Follows, futures_in, run_view}
-use Rattle.machine_roads.specs.Alone.{alone, is_resting}
-use Rattle.machine_roads.specs.Searching.{CountsOne, CanTake, IsLast, RunTakesAlike, goes_on_by, unready}
+use Rattle.machine_roads.specs.Road.{Follows, futures_in}
+use Rattle.machine_roads.specs.Alone.{is_resting}
+use Rattle.machine_roads.specs.Searching.{CountsOne, CanTake, IsLast, goes_on_by}
 use Rattle.machine_roads.proofs.Adding.{with_due}
-use Rattle.machine_roads.proofs.Changing.{logs}
-use Rattle.machine_roads.proofs.Due.{First, find_same, first, nothing, others, without_same}
-use Rattle.machine_roads.proofs.Keeping.{HasPlaces, IsAway, IsBeside, Kept, Lined, common_away, kept_away, kept_due, lined_so}
-use Rattle.machine_roads.proofs.Keeping.{many_kept, repeat_is}
-use Rattle.machine_roads.proofs.Lists.{clash, cons_is, equal, same_of, turned as turned_apart}
+use Rattle.machine_roads.proofs.Due.{First, find_same, first, others, without_same}
+use Rattle.machine_roads.proofs.Keeping.{HasPlaces, common_away, kept_due, lined_so}
+use Rattle.machine_roads.proofs.Keeping.{repeat_is}
+use Rattle.machine_roads.proofs.Lists.{clash, cons_is, same_of, turned as turned_apart}
 use Rattle.machine_roads.proofs.Robbing.{come_is, robbed_lined}
 use Rattle.machine_roads.proofs.RunTaking.{Begun, finds, takes_so}
-use Rattle.machine_roads.proofs.Runs.{changed, one_more, over_is}
-use Rattle.machine_roads.proofs.RunsGone.{kept_uncommon, runs_apart, takes_own}
-use Rattle.machine_roads.proofs.Standing.{Stands, StandsSo, stops_so}
+use Rattle.machine_roads.proofs.Runs.{changed, one_more}
+use Rattle.machine_roads.proofs.RunsGone.{takes_own}
+use Rattle.machine_roads.proofs.Standing.{Stands, StandsSo}
 use Rattle.machine_roads.proofs.Stealing.{steals}
 use Rattle.machine_roads.proofs.Stepping.{Way, next}
-use Rattle.machine_roads.proofs.TickPolls.{both_marks, none_in}
 use Rattle.machine_roads.proofs.Trying.{takes_first}
 use Rattle.machine_roads.proofs.Unseen.{locked, turns}
 
@@ -83,6 +73,7 @@ module _ (p : ℕ) (below : List Op) (under : is_resting below ≡ true) (end : 
     pub runs : (plain_takes.take wakes (pick ms k n) taker q).runs ≡ changed one_more r q.runs
     pub usual : TakesAsUsual wakes (pick ms k n) c.first (run_of w r).counted (search_of q)
     pub robs : RobsAsUsual wakes (pick ms k n) w.listed start (search_of q)
+    pub keeper : IsKeptByOthers r q.due → any (is_kept k) q.due ≡ true
     pub behind : CountsOne r turns w end.world
 
   abbrev pub Found : ℕ → ℕ → World → Plain Output Waker → Type 0
@@ -103,6 +94,7 @@ module _ (p : ℕ) (below : List Op) (under : is_resting below ≡ true) (end : 
           runs = g.4.runs;
           usual = subst (λ n. TakesAsUsual wakes d c.first n (search_of q)) (counted r) g.4.usual;
           robs = subst (λ order. RobsAsUsual wakes d order start (search_of q)) listed g.4.robs;
+          keeper = g.4.keeper;
           behind = record {
             counted = λ k. g.4.behind.counted k ∙ ap (λ n. if k == r then one_counted n else n) (counted k);
             listed = g.4.behind.listed ∙ listed;
@@ -132,7 +124,8 @@ module _ (p : ℕ) (below : List Op) (under : is_resting below ≡ true) (end : 
   up_and_told q = tell wakes c (up wakes c (ARun x.run) q)
 
   -- one is found, and so many of its mark are kept beside
-  record FindsOne (start : ℕ) (w : World) (k n many f : ℕ) (rest : List ℕ) (m : Mark) (test : Due → Bool) (q qr : Plain Output Waker) : Type 0 where
+  record FindsOne (start : ℕ) (w : World) (k n many f : ℕ) (rest : List ℕ) (m : Mark) (test : Due → Bool)
+      (q qr : Plain Output Waker) : Type 0 where
     fit : fits qr
     one : First test q.due f rest
     same : (e : Due) → its_test k q.due e ≡ test e
@@ -141,6 +134,7 @@ module _ (p : ℕ) (below : List Op) (under : is_resting below ≡ true) (end : 
     beside_is : usual.beside wakes c r one.due_one (with_due (without test q.due) q) ≡ so_many many m
     moves : IsKeptByOthers r q.due → n ≡ share (count_by (is_kept k) q.due) (512 - count_by (is_kept r) q.due) - 1
     whom : IsKeptByOthers r q.due → k ≡ first_keeper (from_start start w.listed) q.due
+    keeper : IsKeptByOthers r q.due → any (is_kept k) q.due ≡ true
     inside : qr.inside ≡ q.inside
     still : qr.runs ≡ q.runs
 
@@ -182,7 +176,9 @@ module _ (p : ℕ) (below : List Op) (under : is_resting below ≡ true) (end : 
           stood =
               subst (StandsSo taker (goes_on_by x last) below q end) (sym is)
               (record {
-                stands = subst (λ codes. Stands taker (goes_on_by x last) below codes end.world end.next new.inside) it.inside so.stood.stands;
+                stands =
+                    subst (λ codes. Stands taker (goes_on_by x last) below codes end.world end.next new.inside) it.inside
+                    so.stood.stands;
                 follows = so.stood.follows;
               });
           early = subst (IsLast r last) (sym is) so.early;
@@ -197,13 +193,14 @@ module _ (p : ℕ) (below : List Op) (under : is_resting below ≡ true) (end : 
             moves_so = it.moves;
           };
           robs = it.whom;
+          keeper = it.keeper;
           behind = counts;
         },
       )
 
   -- one of its own
-  pub takes_its : (start f : ℕ) (rest : List ℕ) (w : World) (q : Plain Output Waker) → r < length w.runs → Follows w q → fits q → CanTake q r
-      → own_of w r ≡ f ∷ rest → Way p end (found (put_own w r rest) x f).world ((found (put_own w r rest) x f).next ++ below)
+  pub takes_its : (start f : ℕ) (rest : List ℕ) (w : World) (q : Plain Output Waker) → r < length w.runs → Follows w q → fits q
+      → CanTake q r → own_of w r ≡ f ∷ rest → Way p end (found (put_own w r rest) x f).world ((found (put_own w r rest) x f).next ++ below)
       → Found start w.urgent_turns w q
   takes_its start f rest w q at follows fit can is way =
       let t = takes_own r w q f rest follows is in
@@ -220,6 +217,7 @@ module _ (p : ℕ) (below : List Op) (under : is_resting below ≡ true) (end : 
         beside_is = keeps_none t.0.due_one.keeper t.0.due_one.mark t.0.passes;
         moves = λ others. absurd (clash others.mine t.0.some);
         whom = λ others. absurd (clash others.mine t.0.some);
+        keeper = λ others. absurd (clash others.mine t.0.some);
         inside = refl;
         still = refl;
       })
@@ -240,8 +238,9 @@ module _ (p : ℕ) (below : List Op) (under : is_resting below ≡ true) (end : 
       keeps_none (Some k) m is = refl
 
   -- one without a keeper
-  pub takes_common : (start : ℕ) (m : Mark) (f : ℕ) (rest : List ℕ) (w : World) (q : Plain Output Waker) → r < length w.runs → Follows w q → fits q → CanTake q r
-      → (queue_of w m).items ≡ f ∷ rest → ((e : Due) → any (is_common m) q.due ≡ true → its_test 0 q.due e ≡ is_common m e)
+  pub takes_common : (start : ℕ) (m : Mark) (f : ℕ) (rest : List ℕ) (w : World) (q : Plain Output Waker) → r < length w.runs
+      → Follows w q → fits q → CanTake q r → (queue_of w m).items ≡ f ∷ rest
+      → ((e : Due) → any (is_common m) q.due ≡ true → its_test 0 q.due e ≡ is_common m e)
       → Way p end (put_queue w m (taken (queue_of w m)))
       (op.Steal (steal_op.Length (record { poll = x; from = Common m; then = then.Found f })) ∷ below)
       → Found start w.urgent_turns w q
@@ -262,6 +261,7 @@ module _ (p : ℕ) (below : List Op) (under : is_resting below ≡ true) (end : 
         beside_is = keeps_next t.0.due_one.keeper t.0.due_one.mark t.0.passes;
         moves = λ others. none_common m others t.0.some;
         whom = λ others. none_common m others t.0.some;
+        keeper = λ others. none_common m others t.0.some;
         inside = refl;
         still = refl;
       })
@@ -364,6 +364,7 @@ module _ (p : ℕ) (below : List Op) (under : is_resting below ≡ true) (end : 
         robbed_is = λ ms. robs one.due_one.keeper one.passes;
         beside_is = keeps_none one.due_one.keeper one.due_one.mark one.passes;
         whom = λ others. whom;
+        keeper = λ others. one.some;
         moves = λ others. fewer n (share (count_by (is_kept k) q.due) (512 - count_by (is_kept r) q.due)) shares;
         inside = refl;
         still = refl;

@@ -1,13 +1,11 @@
 -- A run's search: its own queue, the executor's as the turn names them, and then round the queues of the other runs.
-use Rattle.std.proofs.Common.{◌≡◌, ℕ, zero, suc, ◌+◌, ◌-◌, ◌%◌, ◌≤◌, ◌<◌, ◌==◌, ◌++◌, ◌&&◌, not, Bool, true, false, List, []}
-use Rattle.std.proofs.Common.{◌∷◌, length, map, cond, Option, Some, None, is_some, drop, take, if◌then◌else◌, ⊎_elim, refl, sym, ap, subst}
+use Rattle.std.proofs.Common.{◌≡◌, ℕ, zero, suc, ◌+◌, ◌-◌, ◌%◌, ◌≤◌, ◌<◌, ◌==◌, ◌++◌, Bool, true, false, List, []}
+use Rattle.std.proofs.Common.{◌∷◌, length, Option, if◌then◌else◌, ⊎_elim, refl, sym, ap, subst}
 use Rattle.std.proofs.Common.{◌∙◌, arith}
-use Rattle.std.specs.Prelude.{count_by, filter, slice_index_or}
+use Rattle.std.specs.Prelude.{count_by, slice_index_or}
 use Rattle.std.proofs.Math.Nat.{mod-lt}
 use Rattle.executor_parts.specs.declared.mark.Mark.{Mark}
-use Rattle.executor_parts.specs.declared.mark.Mark.TheVariants.{Plain as PlainMark, Urgent}
-use Rattle.executor_parts.specs.Marks.{first_of, other, same_mark, turn_after}
-use Rattle.queue_steps.specs.ClosableQueue.{taken}
+use Rattle.executor_parts.specs.Marks.{first_of, other, turn_after}
 use Rattle.executor_model.specs.declared.event.Event.TheVariants as event
 use Rattle.executor_model.specs.declared.op.ListOp.TheVariants as list_op
 use Rattle.executor_model.specs.declared.op.Look.TheVariants as look
@@ -15,46 +13,40 @@ use Rattle.executor_model.specs.declared.op.Op.{Op}
 use Rattle.executor_model.specs.declared.op.Op.TheVariants as op
 use Rattle.executor_model.specs.declared.op.RunOp.TheVariants as run_op
 use Rattle.executor_model.specs.declared.op.RunPoll.{RunPoll}
-use Rattle.executor_model.specs.declared.op.Source.TheVariants.{Common, Own}
-use Rattle.executor_model.specs.declared.op.SleeperOp.TheVariants as sleeper_op
+use Rattle.executor_model.specs.declared.op.Source.TheVariants.{Own}
 use Rattle.executor_model.specs.declared.op.StealOp.TheVariants as steal_op
 use Rattle.executor_model.specs.declared.op.Then.TheVariants as then
 use Rattle.executor_model.specs.declared.op.TickOp.TheVariants as tick_op
-use Rattle.executor_model.specs.declared.op.TickOrRun.TheVariants as tick_or_run
 use Rattle.executor_model.specs.declared.op.Waker.{Waker}
 use Rattle.executor_model.specs.Acts.{turned}
-use Rattle.executor_model.specs.ActsOfSleepers.{found_by}
-use Rattle.executor_model.specs.ActsOfRuns.{asleep, behind, counted_by, counted_to, found, look_own_by, next_place, queue_at, run_by}
+use Rattle.executor_model.specs.ActsOfRuns.{asleep, look_own_by, next_place, queue_at}
 use Rattle.executor_model.specs.ActsOfRuns.{search_common_by, search_own_by, walk}
 use Rattle.executor_model.specs.Sound.{times}
-use Rattle.executor_model.specs.World.{Done, Lock, Run, World, done, no_run, own_of, put_own, put_queue, queue_of, run_of}
+use Rattle.executor_model.specs.World.{Done, Lock, Run, World, no_run, own_of, queue_of, run_of}
 use Rattle.executor_model.proofs.WalksRound.Ahead.{Ahead, all-ahead, in-list}
-use Rattle.plain_scheduler.specs.State.{ARun, Choice, Due, Plain, Granted, Run as ByRun, Running, Taker}
-use Rattle.plain_scheduler.specs.Lists.{any, each, on, or, repeat, without}
-use Rattle.plain_scheduler.specs.Moves.{is_common, is_due, is_kept, is_run, keeps, looks, tell, up}
-use Rattle.plain_scheduler.specs.Moves as plain
+use Rattle.plain_scheduler.specs.State.{Choice, Due, Plain, Granted, Run as ByRun}
+use Rattle.plain_scheduler.specs.Lists.{any, repeat}
+use Rattle.plain_scheduler.specs.Moves.{is_common, is_due, is_kept}
 use Rattle.plain_scheduler.specs.Takes as plain_takes
 use Rattle.plain_scheduler.specs.Usual.{first_keeper, from_start, share}
 use Rattle.machine_roads.specs.View.{Output, wakes}
 use Rattle.machine_roads.specs.Road.{Follows, futures_in, run_view}
 use Rattle.machine_roads.specs.Alone.{alone, is_resting}
-use Rattle.machine_roads.specs.Searching.{CanTake, IsLast, RunTakesAlike, goes_on_by, start_of, turn_behind, unready}
+use Rattle.machine_roads.specs.Searching.{CanTake, RunTakesAlike, goes_on_by, start_of, turn_behind, unready}
 use Rattle.machine_roads.proofs.Adding.{with_due}
 use Rattle.machine_roads.proofs.Changing.{logs}
-use Rattle.machine_roads.proofs.Due.{First, find_same, first, nothing, others, without_same}
-use Rattle.machine_roads.proofs.Keeping.{count_is, HasPlaces, IsAway, IsBeside, Kept, Lined, common_away, kept_away, kept_due, lined_so}
-use Rattle.machine_roads.proofs.Keeping.{many_kept, repeat_is}
-use Rattle.machine_roads.proofs.Lists.{cons_is, equal, same_of, turned as turned_apart}
+use Rattle.machine_roads.proofs.Due.{first, nothing}
+use Rattle.machine_roads.proofs.Keeping.{count_is, HasPlaces, kept_away, kept_due}
+use Rattle.machine_roads.proofs.Lists.{same_of}
 use Rattle.machine_roads.proofs.Robbing.{come_is, some_kept}
 use Rattle.machine_roads.proofs.RunFinding.{Found, found_from, fourth, its_test, pick, second, takes_common, takes_its, takes_robbed, third}
-use Rattle.machine_roads.proofs.Runs.{changed, one_more, over_is}
-use Rattle.machine_roads.proofs.RunsGone.{kept_uncommon, runs_apart, takes_own}
-use Rattle.machine_roads.proofs.Standing.{Stands, StandsSo, stops_so}
+use Rattle.machine_roads.proofs.Runs.{over_is}
+use Rattle.machine_roads.proofs.RunsGone.{takes_own}
+use Rattle.machine_roads.proofs.Standing.{stops_so}
 use Rattle.machine_roads.proofs.Starting.{From, next_from, reads_from}
 use Rattle.machine_roads.proofs.Stealing.{share_some, steals}
 use Rattle.machine_roads.proofs.Stepping.{Way, next}
 use Rattle.machine_roads.proofs.TickPolls.{both_marks, none_in}
-use Rattle.machine_roads.proofs.Trying.{takes_first}
 use Rattle.machine_roads.proofs.Unseen.{locked, turns}
 use Rattle.machine_roads.proofs.WalkOrder.{all_round, keeps_first, keeps_later, round}
 
@@ -106,13 +98,14 @@ module _ (p : ℕ) (below : List Op) (under : is_resting below ≡ true) (end : 
         → Way p end w (walk x qs at left ++ below) → Finds start w q
     walks zero at w known follows listed ahead whom way = absurd ahead
     walks (suc left) at w known follows listed ahead whom way =
-        by (λ v known follows same more whom way. walks left (next_place qs at) v known follows same more whom way) (queue_at qs at == r) refl way
+        by (λ v known follows same more whom way. walks left (next_place qs at) v known follows same more whom way) (queue_at qs at == r)
+        refl way
       where
         passed : futures_in (is_kept (queue_at qs at)) q.due ≡ [] → IsFirst (next_place qs at) left
         passed none = sym (keeps_later (queue_at qs at) (round qs (next_place qs at) left) q.due (none_kept (queue_at qs at) none)) ∙ whom
 
-        by : ((v : World) → r < length v.runs → Follows v q → v.listed ≡ qs → Ahead Full qs (next_place qs at) left → IsFirst (next_place qs at) left
-            → Way p end v (walk x qs (next_place qs at) left ++ below) → Finds start v q)
+        by : ((v : World) → r < length v.runs → Follows v q → v.listed ≡ qs → Ahead Full qs (next_place qs at) left
+            → IsFirst (next_place qs at) left → Way p end v (walk x qs (next_place qs at) left ++ below) → Finds start v q)
             → (b : Bool) → (queue_at qs at == r) ≡ b
             → Way p end w (elim b [
               | true ↦ walk x qs (next_place qs at) left
@@ -136,7 +129,8 @@ module _ (p : ℕ) (below : List Op) (under : is_resting below ≡ true) (end : 
             let s = steals p end rests x below (Own (queue_at qs at)) away (then.Walk (next_place qs at) left) w q follows way in
             let step = next p end rests (op.Run (run_op.LookOwn x (next_place qs at) left)) s.world below refl s.way in
             from_there start s.world w q s.turn s.runs s.listed
-            (looks many refl s.world (subst (λ (rs : List Run). r < length rs) (sym s.runs) known) s.follows s.most s.few (s.listed ∙ listed) (own_of s.world r) refl step.way)
+            (looks many refl s.world (subst (λ (rs : List Run). r < length rs) (sym s.runs) known) s.follows s.most s.few
+            (s.listed ∙ listed) (own_of s.world r) refl step.way)
           where
             many : ℕ
             many = share (count_by (is_kept (queue_at qs at)) q.due) (512 - count_by (is_kept r) q.due)
@@ -253,7 +247,8 @@ module _ (p : ℕ) (below : List Op) (under : is_resting below ≡ true) (end : 
           (λ e some. ap (λ b. if b then is_kept r e else second p below under end rests c x 0 q.due e) (nothing (is_kept r) q.due mine).none
           ∙ ap (λ b. if b then is_common c.first e else third p below under end rests c x 0 q.due e) some) way.way
 
-      by : r < length w.runs → (fs : List ℕ) → own_of w r ≡ fs → From start p end (search_own_by fs w x).world ((search_own_by fs w x).next ++ below)
+      by : r < length w.runs → (fs : List ℕ) → own_of w r ≡ fs
+          → From start p end (search_own_by fs w x).world ((search_own_by fs w x).next ++ below)
           → Found p below under end rests c x start (turn_behind r q.due w) w q
       by known [] is way =
           let turn = next_from start p end rests (op.Run (run_op.TakeTurn x)) w below refl refl way in

@@ -1,12 +1,9 @@
 -- What a run does with a future that it has found: it gets up, tells, steals more at every 64th, counts, and the future's run begins.
-use Rattle.std.proofs.Common.{◌≡◌, ℕ, zero, suc, ◌+◌, ◌-◌, ◌≤◌, ◌<◌, ◌==◌, ◌++◌, nat_lt, not, Bool, true, false, List, [], ◌∷◌, length}
-use Rattle.std.proofs.Common.{slice_get, slice_set, drop, take, if◌then◌else◌, append-nil, refl, sym}
-use Rattle.std.proofs.Common.{ap, subst, count_by, ◌∙◌, arith}
-use Rattle.std.proofs.lemmas.List.{get_or-set_other, get_or-set_same}
-use Rattle.std.specs.Prelude.{slice_index_or}
+use Rattle.std.proofs.Common.{◌≡◌, ℕ, ◌+◌, ◌≤◌, ◌<◌, ◌==◌, ◌++◌, nat_lt, not, Bool, true, false, List, [], ◌∷◌, length}
+use Rattle.std.proofs.Common.{slice_get, slice_set, if◌then◌else◌, refl, sym}
+use Rattle.std.proofs.Common.{ap, subst, ◌∙◌}
 use Rattle.executor_parts.specs.declared.mark.Mark.{Mark}
 use Rattle.executor_parts.specs.declared.mark.Mark.TheVariants.{Plain as PlainMark, Urgent}
-use Rattle.executor_parts.specs.Marks.{other}
 use Rattle.task_moves.specs.declared.moves.owed.Move.TheVariants as move
 use Rattle.task_moves.specs.AbstractTask as abstract
 use Rattle.executor_model.specs.declared.op.Op.{Op}
@@ -23,7 +20,7 @@ use Rattle.executor_model.specs.declared.op.Waker.{Waker}
 use Rattle.executor_model.specs.ActsOfRuns.{asleep, counted_by, counted_to, found, run_by, run_found}
 use Rattle.executor_model.specs.ActsOfSleepers.{found_by}
 use Rattle.executor_model.specs.SleepersAgree.{sleeps}
-use Rattle.executor_model.specs.World.{Asleep, Awake, Done, Left, Run, Ticker, World, no_run, place_of, put_run, run_of}
+use Rattle.executor_model.specs.World.{Asleep, Awake, Done, Left, Run, Ticker, World, place_of, put_run, run_of}
 use Rattle.plain_scheduler.specs.State.{ARun, Choice, Closed, Due, Plain, Poll, Polls, Running, Run as ByRun, Taker}
 use Rattle.plain_scheduler.specs.Lists.{each, or, repeat}
 use Rattle.plain_scheduler.specs.Moves.{enters, is_common, is_kept, keeps, put, see, task, tell, up}
@@ -35,17 +32,15 @@ use Rattle.machine_roads.specs.View.{Output, wakes}
 use Rattle.machine_roads.specs.Road.{Follows, futures_in}
 use Rattle.machine_roads.specs.Alone.{is_resting}
 use Rattle.machine_roads.specs.Searching.{CountsOne, IsLast}
-use Rattle.machine_roads.proofs.Adding.{Adds, AreBare, bare_none, risen_adds, with_both, with_due}
+use Rattle.machine_roads.proofs.Adding.{Adds, risen_adds, with_both, with_due}
 use Rattle.machine_roads.proofs.Aside.{tell_inside, up_inside}
 use Rattle.machine_roads.proofs.BehindTake.{counted_due, found_due, taken_still, taking_resting}
-use Rattle.machine_roads.proofs.Changing.{futures_append}
-use Rattle.machine_roads.proofs.Due.{marks_apart}
 use Rattle.machine_roads.proofs.Exchanging.{loudly}
-use Rattle.machine_roads.proofs.Keeping.{HasPlaces, IsBeside, Kept, Lined}
-use Rattle.machine_roads.proofs.Keeping.{common_away, common_beside, count_is, kept_due, keeps_is, lined_so, many_kept}
-use Rattle.machine_roads.proofs.KeepingMarks.{both_is, both_of, each_many, each_marks, keeping, lined_added, lined_more, share_of, share_same}
+use Rattle.machine_roads.proofs.Keeping.{HasPlaces, Lined}
+use Rattle.machine_roads.proofs.Keeping.{common_away, lined_so}
+use Rattle.machine_roads.proofs.KeepingMarks.{both_is, both_of, each_many, each_marks, keeping, lined_added, lined_more, share_of}
+use Rattle.machine_roads.proofs.KeepingMarks.{share_same}
 use Rattle.machine_roads.proofs.Leaving.{gets_up}
-use Rattle.machine_roads.proofs.Lists.{apart_of, length_set, same_of}
 use Rattle.machine_roads.proofs.Moved.{Then}
 use Rattle.machine_roads.proofs.Numbers.{put_view}
 use Rattle.machine_roads.proofs.Puts.{put_by}
@@ -232,7 +227,8 @@ module _ (p : ℕ) (below : List Op) (under : is_resting below ≡ true) (end : 
           let resting = taking_resting below under in
           let still =
           taken_still p end (counted_by b w x f).world
-          ((found_by (run_of w r).place (tick_or_run.Run x.run) (op.Sleeper sleeper_op.ExchangeFlag ∷ []) ++ (counted_by b w x f).next) ++ below)
+          ((found_by (run_of w r).place (tick_or_run.Run x.run) (op.Sleeper sleeper_op.ExchangeFlag ∷ [])
+          ++ (counted_by b w x f).next) ++ below)
           (found_due below resting (run_of w r).place (tick_or_run.Run x.run) (counted_by b w x f).next (counted_due below resting b w x f))
           way in
           record {
@@ -355,7 +351,8 @@ module _ (p : ℕ) (below : List Op) (under : is_resting below ≡ true) (end : 
           }
 
       -- it has found one, and so many more of this mark came to its own queue
-      pub finds : (w : World) → r < length w.runs → Follows w (with_due D q0) → Way p end (found w x f).world ((found w x f).next ++ below) → Runs w
+      pub finds : (w : World) → r < length w.runs → Follows w (with_due D q0)
+          → Way p end (found w x f).world ((found w x f).next ++ below) → Runs w
       finds w at follows way = by (is_64th (run_of w r).counted) refl way
         where
           by : (b : Bool) → is_64th (run_of w r).counted ≡ b

@@ -13,7 +13,7 @@ use Rattle.plain_scheduler.specs.Lists.{any, or}
 use Rattle.plain_scheduler.specs.Moves.{is_due, is_kept}
 use Rattle.plain_scheduler.specs.Searches.{Search, searches_of}
 use Rattle.plain_scheduler.specs.Takes as plain_takes
-use Rattle.plain_scheduler.specs.Usual.{RobsAsUsual, TakesAsUsual, one_counted, run_turns, turned, vain_turns}
+use Rattle.plain_scheduler.specs.Usual.{IsKeptByOthers, RobsAsUsual, TakesAsUsual, one_counted, run_turns, turned, vain_turns}
 use Rattle.machine_roads.specs.View.{Output, wakes}
 use Rattle.machine_roads.specs.Road.{Follows, futures_in}
 use Rattle.machine_roads.specs.Alone.{is_resting}
@@ -67,17 +67,20 @@ more_of t few = grind (arith, nat_tests)
 abbrev pub anyhow : Choice → Type 0
 anyhow d = Unit {0}
 
--- where a run searched in this world, in which the plain scheduler stood so: how it chose, and what it left of that world
+-- a search by this run, where the plain scheduler stands so
 abbrev pub search_at : ℕ → Waker → Plain Output Waker → Search Output Waker
 search_at r a b = record { run = r; waker = a; at = b }
 
+-- how it chose that searched there in this world, and what it left of that world
 pub record Searched (r : ℕ) (a : Waker) (w : World) (b : Plain Output Waker) (d : Choice) (v : World) (z : Plain Output Waker) : Type 0
   where
     pub few : nat_lt (taken_by r b) 200 ≡ true
     pub usual : any is_due b.due ≡ true → TakesAsUsual wakes d (first_of w.urgent_turns) (has_counted w r) (search_at r a b)
     pub start : ℕ
     pub robs : any is_due b.due ≡ true → RobsAsUsual wakes d w.listed start (search_at r a b)
-    pub counted : (k : ℕ) → has_counted v k ≡ (if (k == r) && any is_due b.due then one_counted (has_counted w k) else has_counted w k)
+    pub keeper : any is_due b.due ≡ true → IsKeptByOthers r b.due → any (is_kept d.robs) b.due ≡ true
+    pub counted : (k : ℕ)
+        → has_counted v k ≡ (if (k == r) && any is_due b.due then one_counted (has_counted w k) else has_counted w k)
     pub turns : v.urgent_turns ≡ turned (run_turns d.refusal (search_at r a b)) w.urgent_turns
     pub listed : v.listed ≡ w.listed
     pub later : any is_due b.due ≡ false → d.refusal ≡ Later → OneMoreLies b z
@@ -139,6 +142,7 @@ module _ (p : ℕ) (x : RunPoll) (below : List Op) (q : Plain Output Waker) (n t
           usual = λ due. subst (λ m. TakesAsUsual wakes d m (has_counted w x.run) (search_at x.run x.waker b)) turn it.usual;
           start = start;
           robs = λ due. it.robs;
+          keeper = λ due. it.keeper;
           counted = λ k. it.behind.counted k ∙ one_more k (k == x.run) (any is_due b.due) some;
           turns = it.behind.turn ∙ by_turn d.refusal (any (is_kept x.run) b.due) (any is_due b.due) some;
           listed = it.behind.listed;
@@ -191,6 +195,7 @@ module _ (p : ℕ) (x : RunPoll) (below : List Op) (q : Plain Output Waker) (n t
               usual = λ some. absurd (clash none some);
               start = 0;
               robs = λ some. absurd (clash none some);
+              keeper = λ some. absurd (clash none some);
               counted = λ k. g.6.counted k
                   ∙ ap (λ b0. if b0 then one_counted (has_counted w k) else has_counted w k)
                   (sym (nowhere (k == x.run) (any is_due b.due) none));

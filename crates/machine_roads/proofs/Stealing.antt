@@ -293,6 +293,7 @@ module _ (p : ℕ) (end : Done) (rests : is_resting end.next ≡ true) (x : RunP
       by (suc n) is at way =
           let free : free_places w r ≡ 512 - count_by (is_kept r) q.due =
           free_few w r at ∙ ap (λ n. 512 - n) (ap length (follows.kept r) ∙ sym (count_is (is_kept r) q.due)) in
-          subst (λ n. Came n w q) (ap (λ free. share (suc n) free) free ∙ ap (λ n. share n (512 - count_by (is_kept r) q.due)) (sym is ∙ there))
+          subst (λ n. Came n w q)
+          (ap (λ free. share (suc n) free) free ∙ ap (λ n. share n (512 - count_by (is_kept r) q.due)) (sym is ∙ there))
           (came (share (suc n) (free_places w r)) n refl is
           (next p end rests (op.Steal (steal_op.OwnLength its (suc n))) w below refl way).way)

@@ -1,6 +1,6 @@
 -- In which order a walk comes to the queues of the list: from its place on, and round.
-use Rattle.std.proofs.Common.{◌≡◌, ℕ, zero, suc, ◌+◌, ◌-◌, ◌≤◌, ◌<◌, ◌++◌, cond, nat_lt, Bool, true, false, List, [], ◌∷◌, length}
-use Rattle.std.proofs.Common.{Option, Some, None, drop, take, if◌then◌else◌, append_assoc, refl, sym, ap, subst, ◌∙◌, arith}
+use Rattle.std.proofs.Common.{◌≡◌, ℕ, zero, suc, ◌+◌, ◌-◌, ◌≤◌, ◌<◌, ◌++◌, cond, nat_lt, true, false, List, [], ◌∷◌, length}
+use Rattle.std.proofs.Common.{Some, drop, take, if◌then◌else◌, refl, sym, ap, ◌∙◌, arith}
 use Rattle.std.proofs.lemmas.Bool.Decides.{nat_tests}
 use Rattle.std.specs.Prelude.{find}
 use Rattle.executor_model.specs.ActsOfRuns.{next_place, queue_at}

@@ -37,17 +37,14 @@ use Rattle.plain_scheduler.specs.State.{Code, Drop, Lose, Plain, Poll, PollOwn, 
 use Rattle.plain_scheduler.specs.Calls as plain
 use Rattle.machine_roads.specs.Alike.{begins as begins_alike, upon}
 use Rattle.machine_roads.specs.Alone.{SleepsAlone, alone, is_resting}
-use Rattle.machine_roads.specs.Road.{Follows}
 use Rattle.executor_model.specs.SleepersAgree.{SleepersAgree}
 use Rattle.executor_model.specs.declared.call.By.{By}
 use Rattle.executor_model.specs.declared.op.TickOrRun.{TickOrRun}
 use Rattle.executor_model.specs.declared.op.TickOrRun.TheVariants as tick_or_run
 use Rattle.executor_model.specs.Steps.{waker_of}
 use Rattle.executor_model.proofs.Sleepers.SleepersFollowingExecutions.{agree}
-use Rattle.std.specs.Prelude.{not, ◌||◌, ◌&&◌}
 use Rattle.machine_roads.specs.Within.{is_on_way, lets_begin, may_begin_in, may_stand_in, owes}
 use Rattle.machine_roads.proofs.Changing.{logs}
-use Rattle.machine_roads.proofs.Lists.{clash}
 use Rattle.machine_roads.proofs.LoneRuns.{both_true}
 use Rattle.machine_roads.proofs.LoneTicks.{can_poll, may_begin}
 use Rattle.machine_roads.specs.Dropped.{answered as drop_answered, loses, rest_of}
@@ -62,62 +59,17 @@ use Rattle.machine_roads.specs.Within.{forgotten, untaken}
 use Rattle.machine_roads.specs.Within.{polls_own, takes, unlisted}
 use Rattle.machine_roads.proofs.DropPlaces.{loss_rests}
 use Rattle.machine_roads.proofs.Inmost.{rests_in}
-use Rattle.machine_roads.proofs.LoneRuns.{Walks, passed, within as is_within}
+use Rattle.machine_roads.proofs.LoneRuns.{passed, within as is_within}
 use Rattle.machine_roads.proofs.Tying.{top_of}
 use Rattle.machine_roads.proofs.Walked.{answer_leads_of, begun_leads_of, no_answer}
 use Rattle.machine_roads.proofs.AloneKeeps.{due, due_push, due_resting}
 use Rattle.machine_roads.proofs.Seeking.{alone_turn, begins_none, begins_turn, is_still, mild_seeks, reacts_turn, seeks, try_turned}
+use Rattle.machine_roads.proofs.StandsHere.{follows_here, owes_none, rests_alike, walks}
 use Rattle.two_roads.specs.Acting.{goes_on_in, is_runs, seeks_for_run}
 use Rattle.two_roads.specs.Refusing.{refused_in}
 use Rattle.plain_scheduler.specs.Usual.{turned}
 use Rattle.two_roads.specs.Turns.{ActsTakeTurns, tick_turns, turns_of}
 use Rattle.two_roads.proofs.TickTurns.{polled, refused_at}
-
--- nothing is asked of what is done
-walks : Walks (λ w o. Unit {0}) (λ s. Unit {0})
-walks = record {
-  easy = record { ends = λ w r held. tt; outside = λ w x. tt };
-  gives = λ s p reached there fine o is. tt;
-  back = λ ts s new reached made fine. tt;
-}
-
--- where both stand alike the party rests
-rests_alike : (e : Done) (q : Plain Output Waker) → StandsAlike e q → is_resting e.next ≡ true
-rests_alike e q (alike nested follows) = rests_in e.next q.inside nested
-rests_alike e q (losing f fs below codes nested stops) = ap (λ os. is_resting os) stops.left
-rests_alike e q (going r fs below codes nested stops) =
-    ap (λ os. is_resting os) stops.left ∙ loss_rests fs (op.User (user_op.DropOwn r) ∷ stops.rest ∷ below) refl
-rests_alike e q (dropping taker final below f b it nested (drop_answered next inside follows)) =
-    ap (λ os. is_resting os) next ∙ rests_in below b.inside nested
-rests_alike e q (dropping taker final below f b it nested (loses awaiter next inside ending)) = ap (λ os. is_resting os) next
-rests_alike e q (untaken taker final below f awaiter g gs codes it nested stops) = ap (λ os. is_resting os) stops.left
-rests_alike e q (forgetting taker final below f b it nested stops) = ap (λ os. is_resting os) stops.left
-rests_alike e q (forgotten taker final below f g gs codes it nested stops) = ap (λ os. is_resting os) stops.left
-
-owes_going : (r : ℕ) (rest : Op) → IsLeaving r rest → (below : List Op) → owes (op.User (user_op.DropOwn r) ∷ rest ∷ below) ≡ true
-owes_going r rest unlisted below = refl
-owes_going r rest listed below = refl
-
--- where a call on the executor may begin nothing is owed
-owes_none : (a b : Bool) → (not a || (b && false)) ≡ true → a ≡ false
-owes_none false b may = refl
-owes_none true true may = absurd cc
-owes_none true false may = absurd cc
-
-follows_here : (e : Done) (q : Plain Output Waker) → StandsAlike e q → owes e.next ≡ false → Follows e.world q
-follows_here e q (alike nested follows) even = follows
-follows_here e q (losing f fs below codes nested stops) even = absurd (clash even (ap (λ os. owes os) stops.left))
-follows_here e q (going r [] below codes nested stops) even =
-    absurd (clash even (ap (λ os. owes os) stops.left ∙ owes_going r stops.rest stops.leaving below))
-follows_here e q (going r (f ∷ fs) below codes nested stops) even = absurd (clash even (ap (λ os. owes os) stops.left))
-follows_here e q (dropping taker final below f b it nested (drop_answered next inside follows)) even = follows
-follows_here e q (dropping taker final below f b it nested (loses awaiter next inside ending)) even =
-    absurd (clash even (ap (λ os. owes os) next))
-follows_here e q (untaken taker final below f awaiter g gs codes it nested stops) even =
-    absurd (clash even (ap (λ os. owes os) stops.left))
-follows_here e q (forgetting taker final below f b it nested stops) even = absurd (clash even (ap (λ os. owes os) stops.left))
-follows_here e q (forgotten taker final below f g gs codes it nested stops) even =
-    absurd (clash even (ap (λ os. owes os) stops.left))
 
 -- numbers in use are distinct
 apart_here : (s : Machine) → Reached s → (x : TickOrRun) → SleepsAlone s.world x

@@ -11,6 +11,7 @@ pub mod Stopped
 pub mod Forgotten
 pub mod Losing
 pub mod Dropped
+pub mod Turning
 pub mod Ticking
 pub mod Searching
 pub mod GoingOn

@@ -56,7 +56,8 @@ use Rattle.machine_roads.proofs.Seeking.{alone_turn, seeks}
 use Rattle.two_roads.specs.Refusing.{ends_refused, refused_so}
 use Rattle.two_roads.specs.Renaming.{is_refusal}
 use Rattle.plain_scheduler.specs.Usual.{turned as turned_by}
-use Rattle.two_roads.specs.Turns.{lies_uncalled, searches_by, tick_turns}
+use Rattle.plain_scheduler.specs.Turns.{tick_turns}
+use Rattle.plain_scheduler.specs.Usual.{lies_uncalled, searches_by}
 use Rattle.two_roads.proofs.Refusing.{last_is, more_test, same_test}
 
 -- who rests stays

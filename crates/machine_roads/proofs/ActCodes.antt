@@ -1,29 +1,21 @@
 -- The ends of codes in which a party stands in calls one inside another, by kinds of code: where its call rests next, both stand alike.
 use Rattle.std.proofs.Common.{◌≡◌, ℕ, suc, ◌<◌, ◌≤◌, ◌++◌, Bool, true, false, List, [], ◌∷◌, length, Option, Some, None, is_some}
-use Rattle.std.proofs.Common.{◌==◌, ◌||◌, ◌&&◌, not, nat_lt, if◌then◌else◌, refl, sym, ap, subst, ◌∙◌, slice_get, arith}
+use Rattle.std.proofs.Common.{refl, sym, ap, subst, ◌∙◌, slice_get, arith}
 use Rattle.std.specs.Prelude.{reverse}
 use Rattle.task_moves.specs.declared.moves.owed.Move.{Move}
 use Rattle.task_moves.specs.declared.moves.owed.Move.TheVariants as move
 use Rattle.executor_model.specs.declared.event.Answer.TheVariants as answer
-use Rattle.executor_model.specs.declared.call.Reply.TheVariants as reply
 use Rattle.executor_model.specs.declared.op.HandleOp.TheVariants as handle_op
-use Rattle.executor_model.specs.declared.op.ListOp.TheVariants as list_op
 use Rattle.executor_model.specs.declared.op.Op.{Op}
 use Rattle.executor_model.specs.declared.op.Op.TheVariants as op
-use Rattle.executor_model.specs.declared.op.RunOp.TheVariants as run_op
-use Rattle.executor_model.specs.declared.op.RunPoll.{RunPoll}
-use Rattle.executor_model.specs.declared.op.Section.TheVariants as section
 use Rattle.executor_model.specs.declared.op.TableOp.TheVariants as table_op
-use Rattle.executor_model.specs.declared.op.TickOp.TheVariants as tick_op
 use Rattle.executor_model.specs.declared.op.UserOp.TheVariants as user_op
 use Rattle.executor_model.specs.declared.op.Waker.{Waker}
 use Rattle.executor_model.specs.declared.step.Step.TheVariants.{Answer}
-use Rattle.executor_model.specs.declared.step.Hint.{Hint}
 use Rattle.executor_model.specs.declared.step.StepError.TheVariants.{WrongAnswer}
 use Rattle.executor_model.specs.declared.step.UserEnd.{UserEnd}
 use Rattle.executor_model.specs.declared.step.UserEnd.TheVariants as end
 use Rattle.executor_model.specs.Acts.{is_last_waker}
-use Rattle.executor_model.specs.ActsOfRuns.{asleep}
 use Rattle.executor_model.specs.Rows.{running_of}
 use Rattle.executor_model.specs.Steps.{Machine, accepts, answer_refusal, react, refusal, stack}
 use Rattle.executor_model.specs.World.{Done, World, done, task}
@@ -32,18 +24,17 @@ use Rattle.executor_model.proofs.OwnQueues.Using.{emptying_of, polling_of}
 use Rattle.executor_model.proofs.Steps.Reached.{Reached}
 use Rattle.executor_model.proofs.Steps.Stepping.{refusal-there}
 use Rattle.executor_laws.proofs.Termination.LoneEnds.{OthersRest}
-use Rattle.plain_scheduler.specs.State.{Choice, Closed, Code, Drop, DropOwn, End, Future, Granted, Later, Lose, Plain, Poll, PollOwn, Ready}
-use Rattle.plain_scheduler.specs.State.{Done as DoneAnswer, Run, Taker}
-use Rattle.plain_scheduler.specs.Lists.{any, on, or}
+use Rattle.plain_scheduler.specs.State.{Choice, Closed, Code, Drop, End, Future, Granted, Lose, Plain, Poll}
+use Rattle.plain_scheduler.specs.State.{Taker}
+use Rattle.plain_scheduler.specs.Lists.{on}
 use Rattle.plain_scheduler.specs.Moves.{is_due, is_kept}
 use Rattle.plain_scheduler.specs.Searches.{searches, searches_behind}
-use Rattle.plain_scheduler.specs.Takes as plain_takes
 use Rattle.plain_scheduler.specs.Moves as plain
 use Rattle.plain_scheduler.specs.Calls as plain_calls
 use Rattle.plain_scheduler.specs.Calls.{does, Ends, EndsWith, Pends}
 use Rattle.machine_roads.specs.View.{Output, wakes}
 use Rattle.machine_roads.specs.Road.{Follows, futures_in, waking_in}
-use Rattle.machine_roads.specs.Alone.{HasAll, alone, is_resting}
+use Rattle.machine_roads.specs.Alone.{alone, is_resting}
 use Rattle.machine_roads.specs.Choosing.{Chooses}
 use Rattle.machine_roads.specs.Dropped.{Drops, IsEnding, rest_of, without_run}
 use Rattle.machine_roads.specs.Forgotten.{IsForgotten, IsLastPoll, StopsForgetting, unawaited, without_awaiter}
@@ -51,35 +42,29 @@ use Rattle.machine_roads.specs.Refused.{IsLaterAnew}
 use Rattle.machine_roads.specs.Searching.{goes_on_by}
 use Rattle.machine_roads.specs.Stopped.{Finally, IsInPoll, given, of_last, of_tick, of_try, pended}
 use Rattle.machine_roads.specs.Within.{ActsBy, IsMade, Nested, alike, ends, gives, pends}
-use Rattle.machine_roads.specs.Within.{GoesOnBy, IsLeaving, by_run, by_tick, by_try, drops_own, listed, unlisted}
+use Rattle.machine_roads.specs.Within.{GoesOnBy, by_run, by_tick, by_try}
 use Rattle.machine_roads.proofs.ActBegins.{choice_in, enough, more_by_one}
-use Rattle.machine_roads.proofs.ActLands.{Facts, FactsOf, Lands, Tells, after_lands, between, drops_lands, forgets_lands, goes_lands}
+use Rattle.machine_roads.proofs.ActLands.{FactsOf, Lands, Tells, drops_lands, forgets_lands, goes_lands}
 use Rattle.machine_roads.proofs.ActLands.{stays_lands}
-use Rattle.machine_roads.proofs.AloneKeeps.{due, due_resting}
-use Rattle.machine_roads.proofs.Calling.{idles}
-use Rattle.machine_roads.proofs.Chosen.{found_so, later_so, none_so, searches_so}
-use Rattle.machine_roads.proofs.Counted.{CountsSo, alone_counts, counts}
-use Rattle.machine_roads.proofs.Counting.{Alike, Counted, StandsSo, Taken, lasts, leaves, like, none_last, none_left, over_in, some_op}
-use Rattle.machine_roads.proofs.Counting.{taken_in}
+use Rattle.machine_roads.proofs.AloneKeeps.{due}
+use Rattle.machine_roads.proofs.Chosen.{found_so, later_so, looks_first, searches_so, still_so}
+use Rattle.machine_roads.proofs.Counting.{Alike, Counted, StandsSo, leaves, like, over_in, some_op}
 use Rattle.machine_roads.proofs.GoingStill.{behind_pended, dropped_still, forgets_still, forgotten_still, lost_still, pended_still}
 use Rattle.machine_roads.proofs.Having.{same_self}
 use Rattle.machine_roads.proofs.Inmost.{IsDropOf, is_going, is_taken, rests_in}
 use Rattle.machine_roads.proofs.LaterAnew.{LiesThere, ends_anew, granted_anew}
-use Rattle.machine_roads.proofs.Lists.{clash, same_of}
+use Rattle.machine_roads.proofs.Lists.{clash}
 use Rattle.machine_roads.proofs.LoneRuns.{passed}
-use Rattle.machine_roads.proofs.OwnGoes.{own_went}
-use Rattle.machine_roads.proofs.OwnPolls.{own_goes}
 use Rattle.machine_roads.proofs.Passing.{Passes, telling}
 use Rattle.machine_roads.proofs.Pending.{gives_so}
 use Rattle.machine_roads.proofs.Puts.{put_at, put_by}
-use Rattle.machine_roads.proofs.RunApart.{drop_ends, gives_ends, gone_spares, gone_taken, loss_ends, pends_ends, take_ends}
+use Rattle.machine_roads.proofs.RunApart.{drop_ends, gives_ends, loss_ends, pends_ends}
 use Rattle.machine_roads.proofs.RunEnding.{behind_dropped, behind_lost}
 use Rattle.machine_roads.proofs.RunHere.{Above, final_none, going_here, left_here, none_empty, off_left, used_once}
-use Rattle.machine_roads.proofs.Runs.{changed, ended_run, runs_is}
-use Rattle.machine_roads.proofs.RunsOn.{Searched, goes_from, search_at}
+use Rattle.machine_roads.proofs.RunsOn.{Searched, search_at}
 use Rattle.machine_roads.proofs.Standing.{IsGoing, IsTaken, StaysSo}
 use Rattle.machine_roads.proofs.Stepping.{Way}
-use Rattle.machine_roads.proofs.Still.{Still, still_here}
+use Rattle.machine_roads.proofs.Still.{Still, alone_still, due_resting, reacts_still, still_on, stirs}
 use Rattle.machine_roads.proofs.Tying.{LeadsSo, top_of}
 use Rattle.machine_roads.proofs.Unseen.{stands_in}
 
@@ -179,10 +164,12 @@ module _ (s : Machine) (reached : Reached s) (p : ℕ) (there : p < length s.par
         (subst (λ y. StandsSo e (does wakes d x y)) (same code at) lands.stands)
 
     -- of no search nothing is said
-    pub none_says : (x : plain_calls.Call Output Waker) (code : Code Output Waker) (e : Done) → searches wakes c1 x (r1 code) ≡ None
-        → CountsSo s.world e.world → Says x code e c1
-    none_says x code e none stays =
-        (none_so s.world e.world x (r1 code) c1 none stays, λ y is vain later. absurd (clash (ap is_some none) (ap is_some is)))
+    pub none_says : (x : plain_calls.Call Output Waker) (code : Code Output Waker) (e : Done) → looks_first x ≡ false
+        → searches wakes c1 x (r1 code) ≡ None → Still s.world e.world → Says x code e c1
+    none_says x code e other none still = (
+      still_so s.world e.world x (r1 code) c1 other none still.counted still.turn,
+      λ y is vain later. absurd (clash (ap is_some none) (ap is_some is)),
+    )
 
     -- of a search it is
     pub found_says : (x : plain_calls.Call Output Waker) (code : Code Output Waker) (e : Done) (d : Choice) (w : World) (r : ℕ) (a : Waker)
@@ -247,31 +234,31 @@ module _ (s : Machine) (reached : Reached s) (p : ℕ) (there : p < length s.par
 
       -- where a run searches behind, it chooses so; and where none does nothing is counted
       tells_so : (x : plain_calls.Call Output Waker) (code : Code Output Waker) (e : Done) (rests : is_resting e.next ≡ true)
-          (behind : Choice → Option (Plain Output Waker))
+          → looks_first x ≡ false → (behind : Choice → Option (Plain Output Waker))
           → ((d : Choice) → searches wakes (telling c1.tells d) x (r1 code)
           ≡ searches_behind wakes (telling c1.tells d) taker (behind (telling c1.tells d)))
           → (pass : Passes p taker final below r0 c1.tells e (λ d. does wakes d x (r1 code)) behind) → Still s.world pass.so.world
           → Tells p below r0 nested under c1 room e rests (λ d. does wakes d x (r1 code)) (Says x code e) taker final pass.so.world
           pass.before
-      tells_so x code e rests behind goes pass still = record {
+      tells_so x code e rests other behind goes pass still = record {
         searched = λ r a is d so.
             let c = telling c1.tells d in
             found_says x code e c pass.so.world r a pass.before still
             (goes d ∙ (ap (searches_behind wakes c taker) (pass.at d) ∙ searches_so c r a pass.before taker is so.few)) so;
         unsearched = λ it none.
-            none_says x code e (goes c1 ∙ (ap (searches_behind wakes c1 taker) (pass.at c1) ∙ none))
-            (λ k. on taker final it pass.so.way k ∙ still.counted k);
+            none_says x code e other (goes c1 ∙ (ap (searches_behind wakes c1 taker) (pass.at c1) ∙ none))
+            (still_on s.world pass.so.world e.world still (on taker final it pass.so.way));
       }
         where
-          counts_on : (final : Op) → due counts (final ∷ below) ≡ 0 → Way p e pass.so.world (final ∷ below) → CountsSo pass.so.world e.world
-          counts_on final none way =
-              subst (λ (d : Done). CountsSo pass.so.world d.world) way.is (alone_counts p way.hints pass.so.world (final ∷ below) none)
+          stays_on : (final : Op) → due stirs (final ∷ below) ≡ 0 → Way p e pass.so.world (final ∷ below) → Still pass.so.world e.world
+          stays_on final none way =
+              subst (λ (d : Done). Still pass.so.world d.world) way.is (alone_still p way.hints pass.so.world (final ∷ below) none)
 
           on : (taker : Taker Waker) (final : Op) → Finally r0 taker final → Way p e pass.so.world (final ∷ below)
-              → CountsSo pass.so.world e.world
-          on taker final of_try way = counts_on final (omega (arith, due_resting counts below under)) way
-          on taker final (of_tick t a) way = counts_on final (omega (arith, due_resting counts below under)) way
-          on taker final (of_last x last) way = counts_on final (omega (arith, due_resting counts below under)) way
+              → Still pass.so.world e.world
+          on taker final of_try way = stays_on final (omega (arith, due_resting below under)) way
+          on taker final (of_tick t a) way = stays_on final (omega (arith, due_resting below under)) way
+          on taker final (of_last x last) way = stays_on final (omega (arith, due_resting below under)) way
 
       -- a poll
       pub from_poll : (f : ℕ) → os ≡ op.User (user_op.Poll f) ∷ final ∷ below → q.inside ≡ Poll f taker ∷ inside
@@ -297,7 +284,7 @@ module _ (s : Machine) (reached : Reached s) (p : ℕ) (there : p < length s.par
 
           unsearched : (e : Done) → behind c1 ≡ None → Still s.world e.world → Says Pends (Poll f taker) e c1
           unsearched e none still =
-              none_says Pends (Poll f taker) e (ap (searches_behind wakes c1 taker) none) still.counted
+              none_says Pends (Poll f taker) e refl (ap (searches_behind wakes c1 taker) none) still
 
           by : (b : Bool) → is_last_waker move.EndPending (task s.world f) ≡ b
               → Leads (end.Polled answer.Pending) (op.User (user_op.Poll f)) (final ∷ below)
@@ -308,7 +295,7 @@ module _ (s : Machine) (reached : Reached s) (p : ℕ) (there : p < length s.par
               came (end.Polled answer.Pending) Pends pends (Poll f taker) at e rests
               (goes_lands p below r0 nested under c1 room e rests will (Says Pends (Poll f taker) e) taker final it count its
               (λ d. pends_ends d taker r0 f) (Still s.world) behind (StaysSo taker final below r0 e)
-              (tells_so Pends (Poll f taker) e rests behind (λ d. refl))
+              (tells_so Pends (Poll f taker) e rests refl behind (λ d. refl))
               (λ stays runs none still.
               stays_lands p below r0 nested under c1 room e rests will (Says Pends (Poll f taker) e) taker final it count its
               (λ d. pends_ends d taker r0 f) c1 refl stays runs.runs (unsearched e none still))
@@ -320,7 +307,7 @@ module _ (s : Machine) (reached : Reached s) (p : ℕ) (there : p < length s.par
               came (end.Polled answer.Pending) Pends pends (Poll f taker) at e rests
               (goes_lands p below r0 nested under c1 room e rests will (Says Pends (Poll f taker) e) taker final it count its
               (λ d. pends_ends d taker r0 f) (Still s.world) behind (StopsForgetting taker final below f r0 e)
-              (tells_so Pends (Poll f taker) e rests behind (λ d. refl))
+              (tells_so Pends (Poll f taker) e rests refl behind (λ d. refl))
               (λ stops runs none still.
               forgets_lands p below r0 nested under c1 room e rests will (Says Pends (Poll f taker) e) taker final it count its
               (λ d. pends_ends d taker r0 f) f c1 refl stops runs.runs (unsearched e none still))
@@ -334,8 +321,10 @@ module _ (s : Machine) (reached : Reached s) (p : ℕ) (there : p < length s.par
           (facts s.world follows refl refl) (λ d. gives_ends d taker r0 f tt) c1 refl
           ((gives_so p below s.world r0 under (follows0 (Poll f taker) at refl s.world follows) taker final f c1 hints all rests).0 taken)
           refl
-          (none_says (EndsWith tt) (Poll f taker) e refl
-          (alone_counts p hints (given p f final below s.world).world (given p f final below s.world).next refl)))
+          (none_says (EndsWith tt) (Poll f taker) e refl refl
+          (still_on s.world (given p f final below s.world).world e.world
+          (reacts_still p (op.User (user_op.Poll f)) (end.Polled answer.Ready) s.world)
+          (alone_still p hints (given p f final below s.world).world (given p f final below s.world).next refl))))
       from_poll f first at follows u ok = absurd cc
 
       -- the drop of a future
@@ -353,11 +342,11 @@ module _ (s : Machine) (reached : Reached s) (p : ℕ) (there : p < length s.par
           came end.Done Ends ends code at e rests
           (goes_lands p below r0 nested under c1 room e rests (λ d. does wakes d Ends (r1 code)) says taker final it count its
           (λ d. drop_ends d taker r0 f why) (Still s.world) behind (Drops taker final below f r0 e)
-          (tells_so Ends code e rests behind (λ d. refl))
+          (tells_so Ends code e rests refl behind (λ d. refl))
           (λ drops runs none still.
           drops_lands p below r0 nested under c1 room e rests (λ d. does wakes d Ends (r1 code)) says taker final it count its
           (λ d. drop_ends d taker r0 f why) f c1 refl drops runs.runs
-          (none_says Ends code e (ap (searches_behind wakes c1 taker) none) still.counted))
+          (none_says Ends code e refl (ap (searches_behind wakes c1 taker) none) still))
           (dropped_still p below under s.world taker final r0 c1 hints (follows0 code at refl s.world follows) f m why going.known
           going.entered going.ends many all rests))
       from_drop f m why how first at follows u ok = absurd cc
@@ -383,7 +372,7 @@ module _ (s : Machine) (reached : Reached s) (p : ℕ) (there : p < length s.par
           came end.Done Ends ends code at e rests
           (goes_lands p below r0 nested under c1 room e rests (λ d. does wakes d Ends (r1 code)) (Says Ends code e) taker final it
           count (facts (without_run f s.world) ending.follows refl refl) (λ d. loss_ends d taker r0 awaiter) (Still s.world) behind
-          (λ z. ⊥) (tells_so Ends code e rests behind (λ d. refl)) (λ stops runs none still. absurd stops)
+          (λ z. ⊥) (tells_so Ends code e rests refl behind (λ d. refl)) (λ stops runs none still. absurd stops)
           (lost_still p below under s.world taker final r0 c1 hints f awaiter ending0 many all rests))
       from_loss f awaiter at ending u ok = absurd cc
 
@@ -430,6 +419,6 @@ module _ (s : Machine) (reached : Reached s) (p : ℕ) (there : p < length s.par
           came end.Done Ends ends code at e rests
           (goes_lands p below r0 nested under c1 room e rests (λ d. does wakes d Ends (r1 code)) (Says Ends code e) taker final it count
           (facts_forgotten f it_is) (λ d. drop_ends d taker r0 f Closed) (Still s.world) behind
-          (λ z. ⊥) (tells_so Ends code e rests behind (λ d. refl)) (λ stops runs none still. absurd stops)
+          (λ z. ⊥) (tells_so Ends code e rests refl behind (λ d. refl)) (λ stops runs none still. absurd stops)
           (forgotten_still p below under s.world taker final r0 c1 hints f forgotten0 many all rests))
       from_forgotten f at it_is u ok = absurd cc

@@ -48,7 +48,7 @@ use Rattle.machine_roads.proofs.Runs.{changed, ended_run, runs_is}
 use Rattle.machine_roads.proofs.RunsAlone.{does_so}
 use Rattle.machine_roads.proofs.RunsBeside.{cancel_runs, copy_runs, detach_runs, handle_runs, poll_runs, release_runs, use_runs, wake_runs}
 use Rattle.machine_roads.proofs.Tying.{LeadsSo, top_of}
-use Rattle.machine_roads.proofs.Unsearched.{begun_so, loss_so}
+use Rattle.machine_roads.proofs.Unsearched.{loss_so, off_so}
 use Rattle.machine_roads.proofs.Unseen.{stands_in}
 
 -- the handles that go are in use
@@ -145,7 +145,7 @@ module _ (s : Machine) (p : ℕ) (q : Plain Output Waker) (others : List Running
       is = begins_by c n.made (subst (λ here. IsCallIn here s.world c n.made) (sym no_poll) n.within_none);
       so = refl;
       anew = off_anew q (does wakes (choice r) n.made q) None s.world c (choice r) n.made n.within_none off;
-      chooses = begun_so None s.world (choice r) q p hints c os (all_rest gs) n.made n.within_none None;
+      chooses = off_so None s.world (choice r) q p hints c off os (all_rest gs) n.made n.within_none None;
     }
 
     no_run : (r : Refusal) → (does wakes (choice r) n.made q).runs ≡ q.runs

@@ -1,87 +1,66 @@
 -- The ends of the code of a run's own future, of its poll and of its drop: where the call rests next, both stand alike.
-use Rattle.std.proofs.Common.{◌≡◌, ℕ, suc, ◌<◌, ◌≤◌, ◌++◌, Bool, true, false, List, [], ◌∷◌, length, Option, Some, None, is_some}
-use Rattle.std.proofs.Common.{◌==◌, ◌||◌, ◌&&◌, not, nat_lt, if◌then◌else◌, refl, sym, ap, subst, ◌∙◌, slice_get, arith}
+use Rattle.std.proofs.Common.{◌≡◌, ℕ, suc, ◌<◌, ◌≤◌, ◌++◌, Bool, true, false, List, ◌∷◌, length}
+use Rattle.std.proofs.Common.{◌==◌, ◌||◌, nat_lt, if◌then◌else◌, refl, sym, ap, subst, ◌∙◌, arith}
 use Rattle.std.specs.Prelude.{reverse}
-use Rattle.task_moves.specs.declared.moves.owed.Move.{Move}
-use Rattle.task_moves.specs.declared.moves.owed.Move.TheVariants as move
 use Rattle.executor_model.specs.declared.event.Answer.TheVariants as answer
 use Rattle.executor_model.specs.declared.call.Reply.TheVariants as reply
-use Rattle.executor_model.specs.declared.op.HandleOp.TheVariants as handle_op
 use Rattle.executor_model.specs.declared.op.ListOp.TheVariants as list_op
 use Rattle.executor_model.specs.declared.op.Op.{Op}
 use Rattle.executor_model.specs.declared.op.Op.TheVariants as op
 use Rattle.executor_model.specs.declared.op.RunOp.TheVariants as run_op
 use Rattle.executor_model.specs.declared.op.RunPoll.{RunPoll}
 use Rattle.executor_model.specs.declared.op.Section.TheVariants as section
-use Rattle.executor_model.specs.declared.op.TableOp.TheVariants as table_op
 use Rattle.executor_model.specs.declared.op.TickOp.TheVariants as tick_op
 use Rattle.executor_model.specs.declared.op.UserOp.TheVariants as user_op
 use Rattle.executor_model.specs.declared.op.Waker.{Waker}
 use Rattle.executor_model.specs.declared.step.Step.TheVariants.{Answer}
 use Rattle.executor_model.specs.declared.step.Hint.{Hint}
-use Rattle.executor_model.specs.declared.step.StepError.TheVariants.{WrongAnswer}
 use Rattle.executor_model.specs.declared.step.UserEnd.{UserEnd}
 use Rattle.executor_model.specs.declared.step.UserEnd.TheVariants as end
-use Rattle.executor_model.specs.Acts.{is_last_waker}
 use Rattle.executor_model.specs.ActsOfRuns.{asleep}
 use Rattle.executor_model.specs.Rows.{running_of}
-use Rattle.executor_model.specs.Steps.{Machine, accepts, answer_refusal, react, refusal, stack}
-use Rattle.executor_model.specs.World.{Done, World, done, task}
+use Rattle.executor_model.specs.Steps.{Machine, accepts, react, stack}
+use Rattle.executor_model.specs.World.{Done, done}
 use Rattle.executor_model.specs.Weights.{weigh}
-use Rattle.executor_model.proofs.OwnQueues.Using.{emptying_of, polling_of}
 use Rattle.executor_model.proofs.Steps.Reached.{Reached}
-use Rattle.executor_model.proofs.Steps.Stepping.{refusal-there}
 use Rattle.executor_laws.proofs.Termination.LoneEnds.{OthersRest}
-use Rattle.plain_scheduler.specs.State.{Choice, Closed, Code, Drop, DropOwn, End, Future, Granted, Later, Lose, Plain, Poll, PollOwn, Ready}
-use Rattle.plain_scheduler.specs.State.{Done as DoneAnswer, Run, Taker}
-use Rattle.plain_scheduler.specs.Lists.{any, on, or}
+use Rattle.plain_scheduler.specs.State.{Choice, Code, DropOwn, Granted, Plain, PollOwn, Ready}
+use Rattle.plain_scheduler.specs.State.{Done as DoneAnswer, Run}
+use Rattle.plain_scheduler.specs.Lists.{or}
 use Rattle.plain_scheduler.specs.Moves.{is_due, is_kept}
-use Rattle.plain_scheduler.specs.Searches.{searches, searches_behind}
 use Rattle.plain_scheduler.specs.Takes as plain_takes
 use Rattle.plain_scheduler.specs.Moves as plain
 use Rattle.plain_scheduler.specs.Calls as plain_calls
 use Rattle.plain_scheduler.specs.Calls.{does, Ends, EndsWith, Pends}
 use Rattle.machine_roads.specs.View.{Output, wakes}
-use Rattle.machine_roads.specs.Road.{Follows, futures_in, waking_in}
+use Rattle.machine_roads.specs.Road.{Follows, waking_in}
 use Rattle.machine_roads.specs.Alone.{HasAll, alone, is_resting}
 use Rattle.machine_roads.specs.Choosing.{Chooses}
-use Rattle.machine_roads.specs.Dropped.{Drops, IsEnding, rest_of, without_run}
-use Rattle.machine_roads.specs.Forgotten.{IsForgotten, IsLastPoll, StopsForgetting, unawaited, without_awaiter}
-use Rattle.machine_roads.specs.Refused.{IsLaterAnew}
 use Rattle.machine_roads.specs.Searching.{goes_on_by}
-use Rattle.machine_roads.specs.Stopped.{Finally, IsInPoll, given, of_last, of_tick, of_try, pended}
-use Rattle.machine_roads.specs.Within.{ActsBy, IsMade, Nested, alike, ends, gives, pends}
-use Rattle.machine_roads.specs.Within.{GoesOnBy, IsLeaving, by_run, by_tick, by_try, drops_own, listed, unlisted}
-use Rattle.machine_roads.proofs.ActBegins.{choice_in, enough, more_by_one}
-use Rattle.machine_roads.proofs.ActLands.{Facts, FactsOf, Lands, Tells, after_lands, between, drops_lands, forgets_lands, goes_lands}
-use Rattle.machine_roads.proofs.ActLands.{stays_lands}
+use Rattle.machine_roads.specs.Within.{ActsBy, Nested, alike, ends, gives, pends}
+use Rattle.machine_roads.specs.Within.{IsLeaving, drops_own, listed, unlisted}
+use Rattle.machine_roads.proofs.ActBegins.{choice_in, enough}
+use Rattle.machine_roads.proofs.ActLands.{Facts, after_lands, between}
 use Rattle.machine_roads.proofs.ActCodes.{back, came_by, count_at, follows0, found_says, lands_so, room as its_room, under as rests_under}
 use Rattle.machine_roads.proofs.AloneKeeps.{due, due_resting}
 use Rattle.machine_roads.proofs.Calling.{idles}
-use Rattle.machine_roads.proofs.Chosen.{found_so, later_so, none_so, searches_so}
+use Rattle.machine_roads.proofs.Chosen.{still_so}
 use Rattle.machine_roads.proofs.Counted.{CountsSo, alone_counts, counts}
-use Rattle.machine_roads.proofs.Counting.{Alike, Counted, StandsSo, Taken, lasts, leaves, like, none_last, none_left, over_in, some_op}
+use Rattle.machine_roads.proofs.Counting.{Counted, StandsSo, Taken, lasts, leaves, none_last, none_left, over_in, some_op}
 use Rattle.machine_roads.proofs.Counting.{taken_in}
-use Rattle.machine_roads.proofs.GoingStill.{behind_pended, dropped_still, forgets_still, forgotten_still, lost_still, pended_still}
 use Rattle.machine_roads.proofs.Having.{same_self}
-use Rattle.machine_roads.proofs.Inmost.{IsDropOf, is_going, is_taken, rests_in}
-use Rattle.machine_roads.proofs.LaterAnew.{LiesThere, ends_anew, granted_anew}
+use Rattle.machine_roads.proofs.LaterAnew.{LiesThere}
 use Rattle.machine_roads.proofs.Lists.{clash, same_of}
-use Rattle.machine_roads.proofs.LoneRuns.{passed}
 use Rattle.machine_roads.proofs.OwnGoes.{own_went}
 use Rattle.machine_roads.proofs.OwnPolls.{own_goes}
-use Rattle.machine_roads.proofs.Passing.{Passes, telling}
-use Rattle.machine_roads.proofs.Pending.{gives_so}
-use Rattle.machine_roads.proofs.Puts.{put_at, put_by}
-use Rattle.machine_roads.proofs.RunApart.{drop_ends, gives_ends, gone_spares, gone_taken, loss_ends, pends_ends, take_ends}
-use Rattle.machine_roads.proofs.RunEnding.{behind_dropped, behind_lost}
-use Rattle.machine_roads.proofs.RunHere.{Above, final_none, going_here, left_here, none_empty, off_left, used_once}
+use Rattle.machine_roads.proofs.Passing.{telling}
+use Rattle.machine_roads.proofs.RunApart.{gone_spares, gone_taken, take_ends}
+use Rattle.machine_roads.proofs.RunHere.{going_here, left_here, none_empty, used_once}
 use Rattle.machine_roads.proofs.Runs.{changed, ended_run, runs_is}
-use Rattle.machine_roads.proofs.RunsOn.{Searched, goes_from, search_at}
-use Rattle.machine_roads.proofs.Standing.{IsGoing, IsTaken, StaysSo}
-use Rattle.machine_roads.proofs.Stepping.{Way}
-use Rattle.machine_roads.proofs.Still.{Still, still_here}
-use Rattle.machine_roads.proofs.Tying.{LeadsSo, top_of}
+use Rattle.machine_roads.proofs.RunsOn.{goes_from}
+use Rattle.machine_roads.proofs.Seeking.{alone_turn, seeks}
+use Rattle.machine_roads.proofs.Still.{still_here}
+use Rattle.machine_roads.proofs.Tying.{LeadsSo}
 use Rattle.machine_roads.proofs.Unseen.{stands_in}
 
 module _ (s : Machine) (reached : Reached s) (p : ℕ) (there : p < length s.parties) (open_still : s.world.gone ≡ false)
@@ -129,8 +108,9 @@ module _ (s : Machine) (reached : Reached s) (p : ℕ) (there : p < length s.par
       let z : Plain Output Waker = r1 (DropOwn x.run Ready) in
       came_by s reached p there open_still others q counted (end.Polled answer.Ready) (EndsWith tt) gives e c1 refl tt
       (subst (λ y. Chooses s.world e.world c1 (EndsWith tt) y) (same (PollOwn x.run x.waker) at)
-      (none_so s.world e.world (EndsWith tt) (r1 (PollOwn x.run x.waker)) c1 refl
-      (subst (λ (d : Done). CountsSo s.world d.world) stays (λ k. refl))))
+      (still_so s.world e.world (EndsWith tt) (r1 (PollOwn x.run x.waker)) c1 refl refl
+      (subst (λ (d : Done). CountsSo s.world d.world) stays (λ k. refl))
+      (ap (λ (d : Done). d.world.urgent_turns) (sym stays))))
       (subst (λ y. StandsSo e (does wakes c1 (EndsWith tt) y)) (same (PollOwn x.run x.waker) at)
       (subst (λ (d : Done). StandsSo d z) stays
       (record {
@@ -236,9 +216,11 @@ module _ (s : Machine) (reached : Reached s) (p : ℕ) (there : p < length s.par
       own_goes p below under s.world r0 (follows0 s reached p there open_still others q counted below inside nested (DropOwn r Ready) at
       refl s.world follows) c1 many r hints all rests in
       back s reached p there open_still others q counted below inside nested end.Done Ends ends (DropOwn r Ready) at e
-      (none_so s.world e.world Ends (r1 (DropOwn r Ready)) c1 refl
+      (still_so s.world e.world Ends (r1 (DropOwn r Ready)) c1 refl refl
       (alone_counts p hints s.world (op.List (list_op.LockWrite (section.Unregister r reply.Ready)) ∷ below)
-      (omega (arith, due_resting counts below under)))) so.0 so.2
+      (omega (arith, due_resting counts below under)))
+      (alone_turn p hints s.world (op.List (list_op.LockWrite (section.Unregister r reply.Ready)) ∷ below)
+      (omega (arith, due_resting seeks below under)))) so.0 so.2
       (gone_count r (omega (arith, used_once s reached p there xs is r, same_self r)) counted0.taken
       (λ k apart is_left. counted0.going k (ap (λ b. b || some_op (leaves k) below) apart ∙ is_left))) so.1
   from_own_drop r is at follows u ok = absurd cc
@@ -254,8 +236,8 @@ module _ (s : Machine) (reached : Reached s) (p : ℕ) (there : p < length s.par
       (stands_in inside s.world (record q { runs = changed ended_run r q.runs }) (subst (Follows s.world) (runs_is ended_run r q) follows)
       (sym (ap (λ codes. waking_in codes) at))) c1 many hints all rests in
       back s reached p there open_still others q counted below inside nested end.Done Ends ends (DropOwn r DoneAnswer) at e
-      (none_so s.world e.world Ends (r1 (DropOwn r DoneAnswer)) c1 refl (counts_on rest leaving hints)) so.0 so.2 (by rest leaving is)
-      so.1
+      (still_so s.world e.world Ends (r1 (DropOwn r DoneAnswer)) c1 refl refl (counts_on rest leaving hints)
+      (alone_turn p hints s.world (rest ∷ below) (light_on rest leaving))) so.0 so.2 (by rest leaving is) so.1
     where
       counts_on : (rest : Op) → IsLeaving r rest → (hints : List Hint)
           → CountsSo s.world (alone p hints (done s.world (rest ∷ below))).world
@@ -265,6 +247,10 @@ module _ (s : Machine) (reached : Reached s) (p : ℕ) (there : p < length s.par
       counts_on rest listed hints =
           alone_counts p hints s.world (op.List (list_op.LockWrite (section.Unregister r reply.Done)) ∷ below)
           (omega (arith, due_resting counts below under))
+
+      light_on : (rest : Op) → IsLeaving r rest → due seeks (rest ∷ below) ≡ 0
+      light_on rest unlisted = omega (arith, due_resting seeks below under)
+      light_on rest listed = omega (arith, due_resting seeks below under)
 
       by : (rest : Op) → IsLeaving r rest → reverse (stack s p) ≡ op.User (user_op.DropOwn r) ∷ rest ∷ below
           → Counted below (plain_calls.gone wakes c1 r r0).runs

@@ -47,7 +47,7 @@ use Rattle.machine_roads.proofs.Owing.{Kept, is_aside}
 use Rattle.machine_roads.proofs.Untaken.{begins_does, calls_beside, loses_beside, loss_ends_beside, owing, resting_on}
 use Rattle.machine_roads.proofs.Unseen.{stands_in}
 use Rattle.machine_roads.proofs.WalkedWith.{HasAllBy, LeadsBy}
-use Rattle.machine_roads.proofs.Unsearched.{begun_so, loss_so}
+use Rattle.machine_roads.proofs.Unsearched.{loss_so, off_so}
 
 owed_below : (f : ℕ) (hs : List ℕ) (base : List Op) → 1 ≤ weigh (giving_of f) base → 1 ≤ weigh (giving_of f) (loss_ops hs base)
 owed_below f [] base owes = owes
@@ -110,7 +110,7 @@ module _ (s : Machine) (p : ℕ) (q : Plain Output Waker) (f : ℕ) (awaiter : O
       is = begins_by c n.made (subst (λ here. IsCallIn here s.world c n.made) (sym no_poll) n.within_none);
       so = refl;
       anew = off_anew q (does wakes (choice r) n.made q) None s.world c (choice r) n.made n.within_none off;
-      chooses = begun_so None s.world (choice r) q p hints c os (all_rest gs) n.made n.within_none None;
+      chooses = off_so None s.world (choice r) q p hints c off os (all_rest gs) n.made n.within_none None;
     }
 
     runs_so : (r : Refusal) → Counted os (does wakes (choice r) n.made q).runs

@@ -56,7 +56,7 @@ use Rattle.machine_roads.proofs.Lists.{clash, same_of}
 use Rattle.machine_roads.proofs.LoneRuns.{both_true}
 use Rattle.machine_roads.proofs.Puts.{put_at, put_by}
 use Rattle.machine_roads.proofs.Tying.{LeadsSo}
-use Rattle.machine_roads.proofs.Unsearched.{begun_so, loss_so}
+use Rattle.machine_roads.proofs.Unsearched.{loss_so, off_so}
 
 -- no call is of that one: nobody has a waker of it, nor its handle
 module _ (s : Machine) (reached : Reached s) (f : ℕ) (spent : (task s.world f).references ≡ 0) (unheld : (task s.world f).handle ≡ false)
@@ -156,7 +156,7 @@ module _ (s : Machine) (p : ℕ) (q : Plain Output Waker) (f : ℕ) (gs : List �
       is = begins_by c n.made (subst (λ here. IsCallIn here s.world c n.made) (sym no_poll) n.within_none);
       so = refl;
       anew = off_anew q (does wakes (choice r) n.made q) None s.world c (choice r) n.made n.within_none off;
-      chooses = begun_so None s.world (choice r) q p hints c os (all_rest gs) n.made n.within_none None;
+      chooses = off_so None s.world (choice r) q p hints c off os (all_rest gs) n.made n.within_none None;
     }
 
     runs_so : (r : Refusal) → Counted os (does wakes (choice r) n.made q).runs

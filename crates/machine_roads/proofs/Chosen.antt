@@ -1,15 +1,15 @@
 -- What a call chooses as it searches: from what the search tells of the world at it, which is in this as the one that the call began in.
-use Rattle.std.proofs.Common.{◌≡◌, ◌==◌, ◌&&◌, ℕ, nat_lt, true, false, if◌then◌else◌, Option, Some, None, is_some, slice_get, sym, ap}
-use Rattle.std.proofs.Common.{subst, ◌∙◌}
+use Rattle.std.proofs.Common.{◌≡◌, ◌==◌, ◌&&◌, ℕ, nat_lt, Bool, true, false, List, [], ◌∷◌, if◌then◌else◌, Option, Some, None, is_some}
+use Rattle.std.proofs.Common.{slice_get, refl, sym, ap, subst, ◌∙◌}
 use Rattle.executor_parts.specs.Marks.{first_of}
-use Rattle.executor_parts.specs.declared.mark.Mark.{Mark}
 use Rattle.executor_model.specs.declared.op.Waker.{Waker}
 use Rattle.executor_model.specs.World.{World}
-use Rattle.plain_scheduler.specs.State.{Choice, Later, Plain, Run, Taker}
+use Rattle.plain_scheduler.specs.State.{Choice, Code, Later, Plain, Run, Taker}
 use Rattle.plain_scheduler.specs.Lists.{any, or}
 use Rattle.plain_scheduler.specs.Moves.{is_due, is_kept}
-use Rattle.plain_scheduler.specs.Calls.{Call}
-use Rattle.plain_scheduler.specs.Searches.{Search, finds, searches, searches_of}
+use Rattle.plain_scheduler.specs.Calls.{Call, PollTick, TryTick}
+use Rattle.plain_scheduler.specs.Searches.{Search, finds, searches, searches_in, searches_inside, searches_of}
+use Rattle.plain_scheduler.specs.Turns.{turns_of}
 use Rattle.plain_scheduler.specs.Usual.{IsKeptByOthers, RobsAsUsual, TakesAsUsual, one_counted, run_turns, turned}
 use Rattle.machine_roads.specs.View.{Output, wakes}
 use Rattle.machine_roads.specs.Choosing.{Chooses, has_counted}
@@ -26,6 +26,33 @@ pub searches_so : (c : Choice) (r : ℕ) (a : Waker) (b : Plain Output Waker) (t
     → nat_lt (or (slice_get b.runs r) (λ run. run.taken) 0) 200 ≡ true → searches_of wakes c taker b ≡ Some (search_at r a b)
 searches_so c r a b taker is few =
     ap (λ t. searches_of wakes c t b) is ∙ ap (λ b0. if b0 then Some (search_at r a b) else None) few
+
+-- tries and polls of ticks
+abbrev pub looks_first : Call Output Waker → Bool
+looks_first TryTick = true
+looks_first (PollTick t a) = true
+looks_first call = false
+
+-- but for the ends of user code
+pub inside_none : (d : Choice) (x : Call Output Waker) (q : Plain Output Waker)
+    → ((code : Code Output Waker) (q : Plain Output Waker) → searches_in wakes d x code q ≡ None) → (codes : List (Code Output Waker))
+    → searches_inside wakes d x codes q ≡ None
+inside_none d x q none [] = refl
+inside_none d x q none (code ∷ codes) = none code (record q { inside = codes })
+
+-- a call in which a run searches takes the turns of that, and another none
+sought_turns : (d : Choice) (q : Plain Output Waker) (call : Call Output Waker) (x : Search Output Waker) → searches wakes d call q ≡ Some x
+    → turns_of wakes d call q ≡ run_turns d.refusal x
+sought_turns d q TryTick x is = absurd (clash (ap is_some (inside_none d TryTick q (λ code q. refl) q.inside)) (ap is_some is))
+sought_turns d q (PollTick t a) x is =
+    absurd (clash (ap is_some (inside_none d (PollTick t a) q (λ code q. refl) q.inside)) (ap is_some is))
+sought_turns d q call x is = ap (λ o. or o (run_turns d.refusal) 0) is
+
+pub unsought_turns : (d : Choice) (q : Plain Output Waker) (call : Call Output Waker) → looks_first call ≡ false
+    → searches wakes d call q ≡ None → turns_of wakes d call q ≡ 0
+unsought_turns d q TryTick none is = absurd cc
+unsought_turns d q (PollTick t a) none is = absurd cc
+unsought_turns d q call none is = ap (λ o. or o (run_turns d.refusal) 0) is
 
 module _ (w v : World) (call : Call Output Waker) (q : Plain Output Waker) (d : Choice) where
   pub found_so : (u : World) (r : ℕ) (a : Waker) (b z : Plain Output Waker) → Still w u
@@ -50,10 +77,10 @@ module _ (w v : World) (call : Call Output Waker) (q : Plain Output Waker) (d : 
         (λ (o : Option (Search Output Waker)). or o (λ x. if (k == x.run) && finds x then one_counted (has_counted w k) else has_counted w
         k)
         (has_counted w k)) is));
-    turns = λ x its.
+    turns =
         so.turns
         ∙ (ap (λ n. turned (run_turns d.refusal (search_at r a b)) n) still.turn
-        ∙ ap (λ x. turned (run_turns d.refusal x) w.urgent_turns) (same x its));
+        ∙ ap (λ n. turned n w.urgent_turns) (sym (sought_turns d q call (search_at r a b) is)));
   }
     where
       same : (x : Search Output Waker) → searches wakes d call q ≡ Some x → search_at r a b ≡ x
@@ -67,8 +94,9 @@ module _ (w v : World) (call : Call Output Waker) (q : Plain Output Waker) (d : 
       let same : search_at r a b ≡ y = ap (the y) (sym is ∙ its) in
       subst (λ (y : Search Output Waker). OneMoreLies y.at z) same (so.later (ap finds same ∙ vain) later)
 
-  pub none_so : searches wakes d call q ≡ None → ((k : ℕ) → has_counted v k ≡ has_counted w k) → Chooses w v d call q
-  none_so none stays = record {
+  pub none_so : searches wakes d call q ≡ None → ((k : ℕ) → has_counted v k ≡ has_counted w k)
+      → v.urgent_turns ≡ turned (turns_of wakes d call q) w.urgent_turns → Chooses w v d call q
+  none_so none stays turns = record {
     usual = λ x its due. absurd (no_search x its);
     start = 0;
     robs = λ x its due. absurd (no_search x its);
@@ -79,8 +107,14 @@ module _ (w v : World) (call : Call Output Waker) (q : Plain Output Waker) (d : 
         (λ (o : Option (Search Output Waker)). or o (λ x. if (k == x.run) && finds x then one_counted (has_counted w k) else has_counted w
         k)
         (has_counted w k)) none);
-    turns = λ x its. absurd (no_search x its);
+    turns = turns;
   }
     where
       no_search : (x : Search Output Waker) → searches wakes d call q ≡ Some x → ⊥
       no_search x its = clash (ap is_some none) (ap is_some its)
+
+  -- where none searches in it, and it leaves the turn and the counts
+  pub still_so : looks_first call ≡ false → searches wakes d call q ≡ None → ((k : ℕ) → has_counted v k ≡ has_counted w k)
+      → v.urgent_turns ≡ w.urgent_turns → Chooses w v d call q
+  still_so other none stays turn =
+      none_so none stays (turn ∙ ap (λ n. turned n w.urgent_turns) (sym (unsought_turns d q call other none)))

@@ -69,8 +69,9 @@ use Rattle.machine_roads.proofs.DropPlaces.{are_losses, handles_back, handles_th
 use Rattle.machine_roads.proofs.DropPlaces.{still_left}
 use Rattle.machine_roads.proofs.Named.{Named, named}
 use Rattle.machine_roads.proofs.OpenCalls.{AreOpen, HasOpen, of_calls, open_all}
+use Rattle.machine_roads.proofs.Seeking.{seeks}
 use Rattle.machine_roads.proofs.Tying.{LeadsSoOf, none_of as none_left, top_of}
-use Rattle.machine_roads.proofs.Unsearched.{begun_so, ended_so, loss_so}
+use Rattle.machine_roads.proofs.Unsearched.{ended_so, loss_so, off_so}
 use Rattle.machine_roads.proofs.Waits.{HasOfTasks, NoTaskWaits, are_append, begins_calmly}
 use Rattle.machine_roads.proofs.Walked.{answer_leads_of, begun_leads_of, no_answer}
 
@@ -98,7 +99,7 @@ module _ (s : Machine) (reached : Reached s) (p : ℕ) (there : p < length s.par
     is = begins_by c x is;
     so = refl;
     anew = off_anew q (does wakes (choice r) x q) (mine its) s.world c (choice r) x is off;
-    chooses = begun_so (mine its) s.world (choice r) q p hints c os under x is None;
+    chooses = off_so (mine its) s.world (choice r) q p hints c off os under x is None;
   }
 
   end_acts : (v : World) → Chooses s.world v granted plain.Ends q → ActsBy s p (Answer p IsDone) q (does wakes granted plain.Ends q) v
@@ -116,6 +117,11 @@ module _ (s : Machine) (reached : Reached s) (p : ℕ) (there : p < length s.par
   close_none (f ∷ fs) ws = refl
   close_none [] (f ∷ ws) = refl
   close_none [] [] = refl
+
+  close_light : (fs ws : List ℕ) → due seeks (closing_ops fs ws ++ op.End reply.Done hold.Nothing ∷ []) ≡ 0
+  close_light (f ∷ fs) ws = refl
+  close_light [] (f ∷ ws) = refl
+  close_light [] [] = refl
 
   -- the executor's calls are refused
   no_executors : (c : Call) → refusal s (Begin p c) ≡ None → is_on_executor c ≡ true → ⊥
@@ -220,7 +226,7 @@ module _ (s : Machine) (reached : Reached s) (p : ℕ) (there : p < length s.par
         (λ hints has rests. (
           does wakes granted plain.Ends q,
           end_acts (alone p hints (done s.world (left_to_close fs s.world))).world
-              (ended_so p hints s.world (left_to_close fs s.world) (close_none fs s.world.waking) granted q
+              (ended_so p hints s.world (left_to_close fs s.world) (close_none fs s.world.waking) (close_light fs s.world.waking) granted q
               (ap (λ codes. searches_inside wakes granted plain.Ends codes q) is.inside)),
           stands_on fs all (does wakes granted plain.Ends q) (alone p hints (done s.world (left_to_close fs s.world)))
               (drop_goes_on p s.world fs all [] q granted hints is has rests),

@@ -1,5 +1,5 @@
--- Behind the poll or the drop of a future that was taken turn, counts and list are as they were: until what takes goes on, or more user code
--- comes.
+-- Behind the poll or the drop of a future that was taken turn, counts and list are as they were: until what takes goes on, or more user
+-- code comes.
 use Rattle.std.proofs.Common.{◌≡◌, ℕ, ◌≤◌, ◌<◌, ◌++◌, ◌&&◌, not, Bool, true, false, List, [], ◌∷◌, length, Option, None, refl, ap, sym}
 use Rattle.std.proofs.Common.{subst, ◌∙◌}
 use Rattle.task_moves.specs.declared.moves.owed.Move.{Move}
@@ -17,7 +17,7 @@ use Rattle.executor_model.specs.declared.step.Hint.{Hint}
 use Rattle.executor_model.specs.Carried.{awaiter_ops}
 use Rattle.executor_model.specs.World.{Done, World, among, awaiter_of, done, log}
 use Rattle.executor_model.specs.World as world
-use Rattle.plain_scheduler.specs.State.{Choice, Closed, Drop, End, Lose, Plain, Poll, Taker}
+use Rattle.plain_scheduler.specs.State.{Choice, Closed, End, Plain, Poll, Taker}
 use Rattle.plain_scheduler.specs.Moves.{task}
 use Rattle.plain_scheduler.specs.Calls.{does, Pends}
 use Rattle.plain_scheduler.specs.Searches.{behind_pending}
@@ -31,7 +31,7 @@ use Rattle.machine_roads.specs.Stopped.{IsInPoll}
 use Rattle.machine_roads.proofs.AloneKeeps.{due}
 use Rattle.machine_roads.proofs.Forgetting.{forgets_by, forgets_with, forgotten_by}
 use Rattle.machine_roads.proofs.Passing.{GoesBy, passed, stood, telling}
-use Rattle.machine_roads.proofs.PassingStill.{GoesStill, drops_apart, forgets_apart, goes_still, stays_apart, stop}
+use Rattle.machine_roads.proofs.PassingStill.{GoesStill, drops_apart, forgets_apart, goes_still, stays_apart}
 use Rattle.machine_roads.proofs.Pending.{pends_by}
 use Rattle.machine_roads.proofs.RunEnding.{behind_dropped, behind_lost, dropped_by, drops_with, loses_with, lost_by}
 use Rattle.machine_roads.proofs.Running.{end_of, pending_is}

@@ -68,7 +68,7 @@ pub mod TickPolls
 pub mod Copying
 pub mod Replacing
 pub mod Silent
-pub mod Took
+pub mod Turning
 pub mod Bedding
 pub mod LyingDown
 pub mod RunIdle

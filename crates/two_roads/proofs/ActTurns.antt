@@ -68,7 +68,8 @@ use Rattle.machine_roads.proofs.StandsHere.{follows_here, owes_none, rests_alike
 use Rattle.two_roads.specs.Acting.{goes_on_in, is_runs, seeks_for_run}
 use Rattle.two_roads.specs.Refusing.{refused_in}
 use Rattle.plain_scheduler.specs.Usual.{turned}
-use Rattle.two_roads.specs.Turns.{ActsTakeTurns, tick_turns, turns_of}
+use Rattle.plain_scheduler.specs.Turns.{tick_turns}
+use Rattle.two_roads.specs.Turns.{ActsTakeTurns, turns_aside}
 use Rattle.two_roads.proofs.TickTurns.{polled, refused_at}
 
 -- numbers in use are distinct
@@ -218,7 +219,8 @@ module _ (s : Machine) (reached : Reached s) (p : ℕ) (q : Plain Output Waker) 
       let below = reverse (stack s p) in
       began c ts there rests made 0
       (λ hints over. alone_turn p hints (begun p w here c).world ((begun p w here c).next ++ below)
-      (due_push seeks (begun p w here c).next below (begins_none p w here c quiet) (due_resting seeks below (rests_alike (standing s p) q stands)))
+      (due_push seeks (begun p w here c).next below (begins_none p w here c quiet)
+      (due_resting seeks below (rests_alike (standing s p) q stands)))
       ∙ begins_turn p w here c)
 
   -- a tick is polled
@@ -240,7 +242,7 @@ module _ (s : Machine) (reached : Reached s) (p : ℕ) (q : Plain Output Waker) 
 
   by_call : (c : Call) (ts : List Step) (x : plain.Call Output Waker) → IsCallIn (mine (top (stack s p))) s.world c x
       → p < length s.parties → rests_after p ts (after s (Begin p c)) ≡ true → run_all (Begin p c ∷ ts) s ≡ Ok new
-      → may_begin_in (reverse (stack s p)) c ≡ true → Turns (turns_of refusal q x)
+      → may_begin_in (reverse (stack s p)) c ≡ true → Turns (turns_aside refusal q x)
   by_call c ts x within.try_tick there rests made none =
       began c ts there rests made 1
       (λ hints over. try_turned p hints (log s.world (event.CallBegun p call.TryTick)) (reverse (stack s p))
@@ -292,7 +294,7 @@ module _ (s : Machine) (reached : Reached s) (p : ℕ) (q : Plain Output Waker) 
       (run-first t ts s new made).0))
 
   one : (t : Step) (ts : List Step) (x : plain.Call Output Waker) → IsMade s p t x → rests_after p ts (after s t) ≡ true
-      → run_all (t ∷ ts) s ≡ Ok new → is_on_way (reverse (stack s p)) t ≡ true → seeks_for_run q x ≡ false → Turns (turns_of refusal q x)
+      → run_all (t ∷ ts) s ≡ Ok new → is_on_way (reverse (stack s p)) t ≡ true → seeks_for_run q x ≡ false → Turns (turns_aside refusal q x)
   one t ts x (within.begins c y is) rests made on alone =
       by_call c ts y is (there t ts refl made) rests made (both_true (may_stand_in c) (may_begin_in (reverse (stack s p)) c) on).1
   one t ts x within.pends rests made on alone = ended (Polled Pending) ts (there t ts refl made) rests made alone
@@ -301,7 +303,7 @@ module _ (s : Machine) (reached : Reached s) (p : ℕ) (q : Plain Output Waker) 
 
 pub act_turns : (s : Machine) → Reached s → (q : Plain Output Waker) (a : Act) (x : plain.Call Output Waker)
     → StandsAlike (standing s a.party) q → IsAct s a → is_on_way (reverse (stack s a.party)) a.first ≡ true → IsMade s a.party a.first x
-    → seeks_for_run q x ≡ false → a.left.world.urgent_turns ≡ turned (turns_of (refused_in s a) q x) s.world.urgent_turns
+    → seeks_for_run q x ≡ false → a.left.world.urgent_turns ≡ turned (turns_aside (refused_in s a) q x) s.world.urgent_turns
 act_turns s reached q a x stands is on made alone =
     one s reached a.party q stands a.left a.first a.steps x made is.rests is.made on alone
 

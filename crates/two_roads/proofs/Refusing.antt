@@ -1,5 +1,5 @@
 -- What memory refuses in a call is seen in what the call answers and in who lies behind it.
-use Rattle.std.proofs.Common.{◌≡◌, ℕ, ◌<◌, ◌&&◌, nat_lt, cond, not, Bool, true, false, List, [], ◌∷◌, ◌++◌, length, map, Option, Some, None}
+use Rattle.std.proofs.Common.{◌≡◌, ℕ, ◌<◌, nat_lt, cond, not, Bool, true, false, List, [], ◌∷◌, ◌++◌, length, map, Option, Some, None}
 use Rattle.std.proofs.Common.{find, is_some, slice_get, slice_set, refl, sym, ap, subst, ◌∙◌, arith}
 use Rattle.std.proofs.lemmas.Bool.Decides.{nat_tests}
 use Rattle.executor_parts.specs.declared.mark.Mark.{Mark}
@@ -34,7 +34,6 @@ use Rattle.machine_roads.specs.Road.{Follows, sleeper, uncalled}
 use Rattle.machine_roads.specs.View.{Output, wakes as wakes_in}
 use Rattle.machine_roads.specs.Within.{StandsAlike, alike, dropping, forgetting, forgotten, going, losing, untaken}
 use Rattle.machine_roads.proofs.InLoss.{sleepers_through}
-use Rattle.machine_roads.proofs.Lists.{clash}
 use Rattle.machine_roads.proofs.Puts.{put_by}
 use Rattle.machine_roads.proofs.RunLies.{none_due}
 use Rattle.machine_roads.proofs.Silent.{none_told, vain_at}
@@ -42,7 +41,7 @@ use Rattle.machine_roads.proofs.TickPolls.{nothing_is}
 use Rattle.plain_laws.proofs.Searching.{searching}
 use Rattle.plain_laws.proofs.TakesDue.{chosen_found}
 use Rattle.two_roads.specs.Refusing.{asks_memory, ends_refused, has_to_wait, refused_so}
-use Rattle.two_roads.specs.Renaming.{call_as, code_as, is_refusal}
+use Rattle.two_roads.specs.Renaming.{call_as, is_refusal}
 use Rattle.two_roads.proofs.Moving.{Few, Setting, now, task_alike}
 use Rattle.two_roads.proofs.Sought.{Sought, both_search, none_searches, sought_alike}
 use Rattle.two_roads.proofs.Tasks.{polled_as, asks_so as polled_so}
@@ -292,7 +291,7 @@ module _ (d : Choice) (x : Refusal) where
     where
       by : (codes : List (Code Output Waker))
           → or (searches_inside wakes_in e call codes q) (run_turns x) 0 ≡ or (searches_inside wakes_in d call codes q)
-              (run_turns d.refusal) 0
+          (run_turns d.refusal) 0
       by [] = refl
       by (code ∷ codes) = refl
 

@@ -56,7 +56,8 @@ use Rattle.machine_roads.proofs.Seeking.{alone_turn, seeks}
 use Rattle.two_roads.specs.Refusing.{ends_refused, refused_so}
 use Rattle.two_roads.specs.Renaming.{is_refusal}
 use Rattle.plain_scheduler.specs.Usual.{turned as turned_by}
-use Rattle.two_roads.specs.Turns.{lies_uncalled, searches_by, tick_turns}
+use Rattle.plain_scheduler.specs.Turns.{tick_turns}
+use Rattle.plain_scheduler.specs.Usual.{lies_uncalled, searches_by}
 use Rattle.two_roads.proofs.Refusing.{last_is, more_test, same_test}
 
 -- who rests stays
@@ -181,9 +182,11 @@ module _ (p : ℕ) (below : List Op) (under : is_resting below ≡ true) (t : �
       (sym (ap (λ (d : Done). refused_at many d.world) stays
       ∙ ap (λ b. refused_so b (nat_lt many (length w.sleepers.wakers))) (ended_heard p r w.trace))))
 
-  looks_light : (x : Ticker) (w : World) (l : Look) (f : ℕ) (rest : List ℕ) → due seeks ((look_tick_by x w l (f ∷ rest) s).next ++ below) ≡ 0
+  looks_light : (x : Ticker) (w : World) (l : Look) (f : ℕ) (rest : List ℕ) → due seeks ((look_tick_by x w l (f ∷ rest) s).next ++ below)
+      ≡ 0
   looks_light Awake w l f rest = due_push seeks (look_tick_by Awake w l (f ∷ rest) s).next below refl (due_resting seeks below under)
-  looks_light (Asleep n) w l f rest = due_push seeks (look_tick_by (Asleep n) w l (f ∷ rest) s).next below refl (due_resting seeks below under)
+  looks_light (Asleep n) w l f rest = due_push seeks (look_tick_by (Asleep n) w l (f ∷ rest) s).next below refl
+      (due_resting seeks below under)
   looks_light Left w l f rest = due_push seeks (look_tick_by Left w l (f ∷ rest) s).next below refl (due_resting seeks below under)
 
   -- it finds one
@@ -253,7 +256,8 @@ module _ (p : ℕ) (below : List Op) (under : is_resting below ≡ true) (t : �
       subst (λ x. Comes hs (fall_asleep_by x w s).world ((fall_asleep_by x w s).next ++ below) (λ r. w.urgent_turns)) (sym is)
       (subst (λ o. Comes hs (sleep_again_by o w n s).world ((sleep_again_by o w n s).next ++ below) (λ r. w.urgent_turns)) (sym place)
       (light hs (sleep_again_by (Some at) w n s).world ((sleep_again_by (Some at) w n s).next ++ below)
-      (due_push seeks (sleep_again_by (Some at) w n s).next below (gone (waker_at (Some at) w.sleepers.wakers)) (due_resting seeks below under))))
+      (due_push seeks (sleep_again_by (Some at) w n s).next below (gone (waker_at (Some at) w.sleepers.wakers))
+      (due_resting seeks below under))))
     where
       gone : (o : Option Sleeping) → weigh seeks (sleeper_goes o ++ pend_as (tick_or_run.Tick t)) ≡ 0
       gone None = refl

@@ -23,6 +23,7 @@ use Rattle.plain_scheduler.specs.Takes as plain_takes
 use Rattle.plain_scheduler.specs.Usual.{lies_uncalled, searches_by, vain_turns}
 use Rattle.machine_roads.specs.View.{Output, wakes}
 use Rattle.machine_roads.specs.Road.{AreNumbered, Follows, place_in, sleeper, uncalled, who_of}
+use Rattle.machine_roads.specs.Turning.{TakesTurns}
 use Rattle.machine_roads.proofs.Aside.{copied_inside, goes_inside}
 use Rattle.machine_roads.proofs.Copying.{copied_wakers, goes_back, lain_has}
 use Rattle.machine_roads.proofs.Lain.{Lies, all_called, all_uncalled, below_test, count_at, count_before, count_others, get_at}
@@ -38,8 +39,8 @@ use Rattle.machine_roads.proofs.PollCalls.{copied_lying}
 use Rattle.machine_roads.proofs.Polling.{copies_so}
 use Rattle.machine_roads.proofs.Still.{Still, still_on}
 use Rattle.machine_roads.proofs.Stepping.{Way, next}
-use Rattle.machine_roads.proofs.Took.{Took, answers_still, copied_still, ends_still, lay_called, lay_uncalled, placed_counted}
-use Rattle.machine_roads.proofs.Took.{refused_at_once, took_still, took_twice}
+use Rattle.machine_roads.proofs.Turning.{answers_still, copied_still, ends_still, lay_called, lay_uncalled, placed_counted}
+use Rattle.machine_roads.proofs.Turning.{refused_at_once, took_still, took_twice}
 use Rattle.executor_model.specs.declared.call.Reply.{Reply}
 use Rattle.executor_model.specs.declared.op.Waker.TheVariants.{Task, Outside}
 use Rattle.executor_model.specs.Acts.{copied, is_copy_refused}
@@ -110,14 +111,14 @@ module _ (p : ℕ) (below : List Op) (under : is_resting below ≡ true) (end : 
     pub follows : Follows world z
     pub place : place_of world it ≡ place_of w it
     pub wakers : world.sleepers.wakers ≡ w.sleepers.wakers
-    pub took : Took 1 w world
+    pub took : TakesTurns 1 w world
     pub way : Way p end world (op.Tick (tick_op.CopyWaker s) ∷ below)
 
   -- and it is refused memory once it lies only where it lies anew; from where it began to search it takes so many turns
   abbrev pub Result : World → Plain Output Waker → Type 0
   Result early q =
       (r : Refusal) × Goes q (plain_takes.rests wakes c r who a q) × (r ≡ Later → OneMoreLies q (plain_takes.rests wakes c r who a q))
-      × Took (vain_turns r who q.lying) early end.world
+      × TakesTurns (vain_turns r who q.lying) early end.world
 
   not_granted : Granted ≡ Later → ⊥
   not_granted is = cc
@@ -142,7 +143,7 @@ module _ (p : ℕ) (below : List Op) (under : is_resting below ≡ true) (end : 
     -- it searches once more, and its copy is replaced by another one
     again : (w : World) (q z : Plain Output Waker) → Follows w z → fits z → z.inside ≡ q.inside → (bed : IsBedded w)
         → map sleeper bed.before ≡ uncalled q.lying → HasOne a z → Quiet z.due → plain_takes.lies_down wakes c who a q ≡ z
-        → Took 1 early w → lies_uncalled who q.lying ≡ false → Way p end w (op.Tick (tick_op.Search s) ∷ below) → Result early q
+        → TakesTurns 1 early w → lies_uncalled who q.lying ≡ false → Way p end w (op.Tick (tick_op.Search s) ∷ below) → Result early q
     again w q z follows fit inside bed others one quiet lies_is took called way =
         let one_more = finds_none w z follows quiet way in
         let step = next p end rests (op.Tick (tick_op.CopyWaker s)) one_more.world below refl one_more.way in
@@ -158,11 +159,11 @@ module _ (p : ℕ) (below : List Op) (under : is_resting below ≡ true) (end : 
             ∙ (sym (length_map sleeper w.sleepers.wakers) ∙ ap (λ ls. length ls) follows.wakers)) in
             subst (λ (x : Plain Output Waker). OneMoreLies q x) (sym lies_is) (omega (arith, few, many))
 
-        twice : (r : Refusal) → searches_by r ≡ 2 → (i : Idles w z) → Still i.world end.world → Took (vain_turns r who q.lying) early
+        twice : (r : Refusal) → searches_by r ≡ 2 → (i : Idles w z) → Still i.world end.world → TakesTurns (vain_turns r who q.lying) early
             end.world
         twice r two i still =
             lay_called who q.lying early end.world r called
-            (subst (λ n. Took n early end.world) (sym two)
+            (subst (λ n. TakesTurns n early end.world) (sym two)
             (took_still 2 early i.world end.world (took_twice early w i.world took i.took) still))
 
         by : (i : Idles w z) (b : Bool) → CanCopy i.world a
@@ -217,7 +218,7 @@ module _ (p : ℕ) (below : List Op) (under : is_resting below ≡ true) (end : 
 
     -- with a copy of its waker, in a world that is this
     module _ (w : World) (q : Plain Output Waker) (follows : Follows w q) (fit : fits q) (can_copy : CanCopy w a)
-        (quiet : Quiet q.due) (took : Took 1 early w) where
+        (quiet : Quiet q.due) (took : TakesTurns 1 early w) where
       abbrev w1 : World
       w1 = copied w a
 
@@ -238,7 +239,7 @@ module _ (p : ℕ) (below : List Op) (under : is_resting below ≡ true) (end : 
           or o (λ l. or l.waker (λ old. plain_takes.lain_again wakes c who a old q1) (plain_takes.lain wakes c who a q1))
           (plain_takes.lain wakes c who a q1)
 
-      took1 : Took 1 early w1
+      took1 : TakesTurns 1 early w1
       took1 = took_still 1 early w w1 took (copied_still a w)
 
       -- whether it lay with a waker
@@ -459,7 +460,7 @@ module _ (p : ℕ) (below : List Op) (under : is_resting below ≡ true) (end : 
 
     -- it lies down, where it can once it has a copy, or that is refused
     pub lies_down_so : (w : World) (q : Plain Output Waker) → Follows w q → length q.lying < c.tells
-        → (RunCanLie (copied w a) it → CanLie (copied w a) it) → Quiet q.due → Took 1 early w
+        → (RunCanLie (copied w a) it → CanLie (copied w a) it) → Quiet q.due → TakesTurns 1 early w
         → Way p end w (op.Tick (tick_op.CopyWaker s) ∷ below) → Result early q
     lies_down_so w q follows room can quiet took way =
         let step = next p end rests (op.Tick (tick_op.CopyWaker s)) w below refl way in

@@ -50,6 +50,8 @@ pub mod GivingWay
 pub mod Trying
 pub mod RunsStay
 pub mod Passing
+pub mod StartsOn
+pub mod WalkedFrom
 pub mod PassingStill
 pub mod GoingStill
 pub mod Unseen
@@ -66,7 +68,7 @@ pub mod TickPolls
 pub mod Copying
 pub mod Replacing
 pub mod Silent
-pub mod Took
+pub mod Turning
 pub mod Bedding
 pub mod LyingDown
 pub mod RunIdle

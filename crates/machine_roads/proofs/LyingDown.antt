@@ -34,12 +34,12 @@ use Rattle.machine_roads.specs.Road.{Follows}
 use Rattle.machine_roads.specs.Alone.{alone, is_resting, HasAll}
 use Rattle.machine_roads.specs.Ticking.{CanPoll, TickIsPolledAlike, polling}
 use Rattle.machine_roads.specs.Refused.{OneMoreLies}
+use Rattle.machine_roads.specs.Turning.{TakesTurns}
 use Rattle.machine_roads.proofs.Bedding.{Goes, Idles, lies_down_so}
 use Rattle.machine_roads.proofs.Changing.{logs}
 use Rattle.machine_roads.proofs.Copying.{copied_can}
 use Rattle.machine_roads.proofs.Standing.{Answered, Behind, Stands, StandsSo, stops_so}
 use Rattle.machine_roads.proofs.Stepping.{Way, next}
-use Rattle.machine_roads.proofs.Took.{Took}
 use Rattle.machine_roads.proofs.TickPolls.{Comes, ComesTo, searches, searches_none, sleepy}
 use Rattle.machine_roads.proofs.Unseen.{turns}
 
@@ -81,7 +81,7 @@ module _ (p : ℕ) (below : List Op) (under : is_resting below ≡ true) (end : 
         follows = g.follows;
       }
 
-  lies_down : (early w : World) (q : Plain Output Waker) → Took 1 early w → Follows w q → length q.lying < c.tells → CanPoll w t
+  lies_down : (early w : World) (q : Plain Output Waker) → TakesTurns 1 early w → Follows w q → length q.lying < c.tells → CanPoll w t
       → IsQuiet q.due → Way p end w (op.Tick (tick_op.CopyWaker s) ∷ below)
       → ComesTo p below under end rests c t a early q (λ r. plain_takes.rests wakes c r (ATick t) a q)
   lies_down early w q took follows room can quiet way =
@@ -92,7 +92,7 @@ module _ (p : ℕ) (below : List Op) (under : is_resting below ≡ true) (end : 
         g.0,
         comes q (plain_takes.rests wakes c g.0 (ATick t) a q) g.1,
         g.2,
-        subst (λ n. Took n early end.world)
+        subst (λ n. TakesTurns n early end.world)
             (sym
             (ap (λ b. if b then 1 else (if any (is_common Urgent) q.due then 1 else vain_turns g.0 (ATick t) q.lying)) (quiet PlainMark)
             ∙ ap (λ b. if b then 1 else vain_turns g.0 (ATick t) q.lying) (quiet Urgent))) g.3,
@@ -105,7 +105,7 @@ pub polls_tick_so : (p : ℕ) (here : Option Waker) (below : List Op) (w : World
     → (r : Refusal) × StandsSo (Tick t (waker_of here b)) (op.End reply.Ready (hold.Tick t)) below q
     (alone p hints (polling p here below w q t b)) (does wakes (record c { refusal = r }) (PollTick t (waker_of here b)) q)
     × (r ≡ Later → OneMoreLies q (does wakes (record c { refusal = r }) (PollTick t (waker_of here b)) q))
-    × Took (tick_turns r t q) w (alone p hints (polling p here below w q t b)).world
+    × TakesTurns (tick_turns r t q) w (alone p hints (polling p here below w q t b)).world
 polls_tick_so p here below w q under follows c t b first room can hints has rests =
     let a = waker_of here b in
     let begun = event.CallBegun p (call.PollTick t b) in
@@ -121,7 +121,7 @@ polls_tick_so p here below w q under follows c t b first room can hints has rest
     let follows1 : Follows w1 q =
     logs (record w0 { urgent_turns = w1.urgent_turns }) q (turns w1.urgent_turns w0 q follows0)
     (event.Looked p (first_of w.urgent_turns)) refl in
-    let took : Took 1 w w1 = record { turn = refl; counted = λ k. refl; listed = refl } in
+    let took : TakesTurns 1 w w1 = record { turn = refl; counted = λ k. refl; listed = refl } in
     searches p below under end rests c t a k w w1 q took (omega (arith, room)) follows1
     (λ quiet way.
     lies_down p below under end rests c t a k w w1 q took follows1 room
@@ -134,6 +134,7 @@ polls_tick p here below w q under follows c t b first room can hints has rests =
     let so = polls_tick_so p here below w q under follows c t b first room can hints has rests in
     let a = waker_of here b in (
       so.0,
+      so.3,
       stops_so (Tick t a) (op.End reply.Ready (hold.Tick t)) below q (alone p hints (polling p here below w q t b))
           (does wakes (record c { refusal = so.0 }) (PollTick t a) q) so.1,
     )

@@ -1,5 +1,5 @@
 -- A run that goes on where nothing is due lies down, or is refused memory.
-use Rattle.std.proofs.Common.{◌≡◌, ℕ, ◌<◌, nat_lt, true, false, List, [], ◌∷◌, length, Option, if◌then◌else◌, refl, sym, ap, subst, ◌∙◌}
+use Rattle.std.proofs.Common.{◌≡◌, ℕ, ◌<◌, true, false, List, [], ◌∷◌, length, Option, if◌then◌else◌, refl, sym, ap, subst, ◌∙◌}
 use Rattle.std.specs.Prelude.{find}
 use Rattle.executor_model.specs.declared.op.Op.{Op}
 use Rattle.executor_model.specs.declared.op.Op.TheVariants as op
@@ -20,14 +20,12 @@ use Rattle.machine_roads.specs.Road.{Follows}
 use Rattle.machine_roads.specs.Alone.{alone, is_resting}
 use Rattle.machine_roads.specs.Refused.{OneMoreLies}
 use Rattle.machine_roads.specs.Searching.{RunLiesAlike, unready}
-use Rattle.machine_roads.specs.Stopped.{taken_by}
+use Rattle.machine_roads.specs.Turning.{TakesTurns}
 use Rattle.machine_roads.proofs.Bedding.{lies_down_so}
 use Rattle.machine_roads.proofs.Aside.{rests_keeps}
-use Rattle.machine_roads.proofs.Passing.{telling}
 use Rattle.machine_roads.proofs.RunIdle.{IsQuiet, run_finds_none}
 use Rattle.machine_roads.proofs.RunsStay.{runs_aside}
 use Rattle.machine_roads.proofs.Stepping.{Way}
-use Rattle.machine_roads.proofs.Took.{Took}
 
 pub none_due : (ds : List Due) → any is_due ds ≡ false → ds ≡ []
 none_due [] none = refl
@@ -64,7 +62,7 @@ module _ (p : ℕ) (x : RunPoll) (below : List Op) (end : Done) (under : is_rest
       × ((plain_takes.take wakes (record c { refusal = r }) taker b).inside ≡ b.inside)
       × ((plain_takes.take wakes (record c { refusal = r }) taker b).runs ≡ b.runs)
       × (r ≡ Later → OneMoreLies b (plain_takes.take wakes (record c { refusal = r }) taker b))
-      × Took (run_turns r (at b)) w end.world
+      × TakesTurns (run_turns r (at b)) w end.world
 
   pub lies_so : (c : Choice) (w : World) (b : Plain Output Waker) → Follows w b → length b.lying < c.tells → any is_due b.due ≡ false
       → Way p end w (op.Tick (tick_op.Search (asleep x)) ∷ below) → Lies c w b
@@ -83,29 +81,7 @@ module _ (p : ℕ) (x : RunPoll) (below : List Op) (end : Done) (under : is_rest
         ap (λ (q : Plain Output Waker). q.runs) same
             ∙ rests_keeps (λ (q : Plain Output Waker). q.runs) runs_aside c g.0 (ARun x.run) x.waker b,
         λ later. subst (OneMoreLies b) (sym same) (g.2 later),
-        subst (λ k. Took k w end.world) (none_there g.0 b quiet) g.3,
-      )
-
-  -- also behind a future that it took, where it has taken fewer than 200
-  pub lies : (n t : ℕ) (new : Choice → Plain Output Waker) (c : Choice) (w : World) (b : Plain Output Waker) → Follows w b
-      → length b.lying < n → taken_by x.run b ≡ t → nat_lt t 200 ≡ true → any is_due b.due ≡ false
-      → Way p end w (op.Tick (tick_op.Search (asleep x)) ∷ below)
-      → ((d : Choice) → new (telling n d) ≡ plain_takes.next wakes (telling n d) taker b)
-      → (d : Choice) × (end.next ≡ below) × Follows end.world (new (telling n d)) × ((new (telling n d)).inside ≡ b.inside)
-      × (d.refusal ≡ Later → OneMoreLies b (new (telling n d))) × Took (run_turns d.refusal (at b)) w end.world
-  lies n t new c w b follows room taken few none way is =
-      let g = lies_so (telling n c) w b follows room none way in
-      let d : Choice = record (telling n c) { refusal = g.0 } in
-      let same : new (telling n d) ≡ plain_takes.take wakes d taker b =
-      is d
-      ∙ ap (λ b0. if b0 then plain_takes.take wakes d taker b else plain_takes.gives_way wakes d x.run x.waker b)
-      (ap (λ k. nat_lt k 200) taken ∙ few) in (
-        d,
-        g.1,
-        subst (Follows end.world) (sym same) g.2,
-        ap (λ (q : Plain Output Waker). q.inside) same ∙ g.3,
-        λ later. subst (OneMoreLies b) (sym same) (g.5 later),
-        g.6,
+        subst (λ k. TakesTurns k w end.world) (none_there g.0 b quiet) g.3,
       )
 
 -- behind its own future's poll
@@ -114,5 +90,10 @@ pub run_lies : (p : ℕ) (here : Option Waker) (below : List Op) (w : World) (q 
 run_lies p here below w q under follows x c none room hints has rests =
     let g =
     lies_so p x below (alone p hints (unready p x below w)) under rests c w q follows room none
-    (record { hints = hints; has = has; is = refl }) in
-    (g.0, g.1, g.2)
+    (record { hints = hints; has = has; is = refl }) in (
+      g.0,
+      g.1,
+      subst (λ k. TakesTurns k w (alone p hints (unready p x below w)).world)
+          (sym (none_there p x below (alone p hints (unready p x below w)) under rests g.0 q (none_due q.due none))) g.6,
+      g.2,
+    )

@@ -32,6 +32,7 @@ use Rattle.machine_roads.specs.View.{Output, wakes}
 use Rattle.machine_roads.specs.Road.{Follows, futures_in}
 use Rattle.machine_roads.specs.Alone.{is_resting}
 use Rattle.machine_roads.specs.Refused.{OneMoreLies}
+use Rattle.machine_roads.specs.Turning.{TakesTurns}
 use Rattle.machine_roads.proofs.Aside.{tell_inside}
 use Rattle.machine_roads.proofs.Due.{First, find_never, find_same, nothing, without_same}
 use Rattle.machine_roads.proofs.Exchanging.{loudly}
@@ -40,7 +41,7 @@ use Rattle.machine_roads.proofs.Leaving.{gets_up}
 use Rattle.machine_roads.proofs.Stepping.{Way, next}
 use Rattle.machine_roads.proofs.Standing.{Stands, StandsSo}
 use Rattle.machine_roads.proofs.Still.{Still, still_on, stirs}
-use Rattle.machine_roads.proofs.Took.{Took, light, took_still}
+use Rattle.machine_roads.proofs.Turning.{light, took_still}
 use Rattle.machine_roads.proofs.Trying.{runs, takes_first}
 
 -- of each mark, where of one and of the other
@@ -144,19 +145,20 @@ module _ (p : ℕ) (below : List Op) (under : is_resting below ≡ true) (end : 
   -- it comes to that, and is refused memory once it lies only where it lies anew; and it takes so many turns
   abbrev pub ComesTo : World → Plain Output Waker → (Refusal → Plain Output Waker) → Type 0
   ComesTo early q to =
-      (r : Refusal) × Comes q (to r) × (r ≡ Later → OneMoreLies q (to r)) × Took (tick_turns r t q) early end.world
+      (r : Refusal) × Comes q (to r) × (r ≡ Later → OneMoreLies q (to r)) × TakesTurns (tick_turns r t q) early end.world
 
   not_granted : Granted ≡ Later → ⊥
   not_granted is = cc
 
   -- what it finds takes none but the turn in which it was found
-  finds_took : (early w : World) (q : Plain Output Waker) (m : Mark) (f : ℕ) (rest : List ℕ) (r : Refusal) → Took 1 early w → Follows w q
+  finds_took : (early w : World) (q : Plain Output Waker) (m : Mark) (f : ℕ) (rest : List ℕ) (r : Refusal) → TakesTurns 1 early w →
+      Follows w q
       → (queue_of w m).items ≡ f ∷ rest
       → Way p end (put_queue w m (taken (queue_of w m)))
       (found_by (tick_of w t) (tick_or_run.Tick t) (op.Sleeper sleeper_op.ExchangeFlag ∷ op.Move move.TakeUp f ∷ final ∷ []) ++ below)
-      → Took (tick_turns r t q) early end.world
+      → TakesTurns (tick_turns r t q) early end.world
   finds_took early w q m f rest r took follows is way =
-      subst (λ n. Took n early end.world) (sym (one_turn m (takes_first m w q f rest follows is).0.some))
+      subst (λ n. TakesTurns n early end.world) (sym (one_turn m (takes_first m w q f rest follows is).0.some))
       (took_still 1 early w end.world took
       (still_by (record { turn = refl; counted = λ k. refl; listed = refl })
       (light p below under end (found_by (tick_of w t) (tick_or_run.Tick t) os) (none (tick_of w t)) w1 way)))
@@ -187,7 +189,7 @@ module _ (p : ℕ) (below : List Op) (under : is_resting below ≡ true) (end : 
           one_or_one false = refl
 
   -- a search: it finds one, or nothing without a keeper is due
-  pub searches : (k : ℕ) (early w : World) (q : Plain Output Waker) → Took 1 early w → fits q → Follows w q
+  pub searches : (k : ℕ) (early w : World) (q : Plain Output Waker) → TakesTurns 1 early w → fits q → Follows w q
       → (((m : Mark) → any (is_common m) q.due ≡ false) → Way p end w (op.Tick (tick_op.CopyWaker (sleepy k)) ∷ below)
       → ComesTo early q (λ r. plain_takes.rests wakes c r who a q))
       → Way p end w (op.Tick (tick_op.Look (sleepy k) (look.First c.first)) ∷ below)

@@ -11,6 +11,7 @@ pub mod Stopped
 pub mod Forgotten
 pub mod Losing
 pub mod Dropped
+pub mod Turning
 pub mod Ticking
 pub mod Searching
 pub mod GoingOn
@@ -22,3 +23,4 @@ pub mod InLoss
 pub mod Refused
 pub mod Within
 pub mod DropActs
+pub mod Ordering

@@ -1,6 +1,6 @@
 -- A poll of a run whose own future gave no output: when the take that follows leaves both alike.
 use Rattle.std.specs.Prelude.{◌≡◌, ℕ, ◌≤◌, ◌<◌, ◌==◌, nat_lt, not, Bool, true, false, if◌then◌else◌, List, [], ◌∷◌, length}
-use Rattle.std.specs.Prelude.{slice_get, Option}
+use Rattle.std.specs.Prelude.{reverse, slice_get, Option}
 use Rattle.executor_parts.specs.Marks.{first_of, turn_after}
 use Rattle.executor_model.specs.declared.event.Answer.TheVariants as answer
 use Rattle.executor_model.specs.declared.op.ListOp.TheVariants as list_op
@@ -12,20 +12,23 @@ use Rattle.executor_model.specs.declared.op.TickOp.TheVariants as tick_op
 use Rattle.executor_model.specs.declared.op.UserOp.TheVariants as user_op
 use Rattle.executor_model.specs.declared.op.Waker.{Waker}
 use Rattle.executor_model.specs.declared.step.Hint.{Hint}
+use Rattle.executor_model.specs.declared.step.Step.{Step}
+use Rattle.executor_model.specs.declared.step.Step.TheVariants.{Go}
 use Rattle.executor_model.specs.declared.step.UserEnd.TheVariants as end
 use Rattle.executor_model.specs.ActsOfRuns.{asleep}
-use Rattle.executor_model.specs.Steps.{react}
+use Rattle.executor_model.specs.Steps.{Machine, after, react, stack}
 use Rattle.executor_model.specs.World.{Done, World, run_of}
-use Rattle.plain_scheduler.specs.State.{Choice, Due, Plain, PollOwn, Refusal, Run}
+use Rattle.plain_scheduler.specs.State.{ARun, Choice, Due, Plain, PollOwn, Refusal, Run}
 use Rattle.plain_scheduler.specs.Lists.{any, or}
 use Rattle.plain_scheduler.specs.Moves.{is_due, is_kept}
 use Rattle.plain_scheduler.specs.Calls.{does, Pends}
-use Rattle.plain_scheduler.specs.Usual.{RobsAsUsual, TakesAsUsual, one_counted}
+use Rattle.plain_scheduler.specs.Usual.{RobsAsUsual, TakesAsUsual, one_counted, vain_turns}
 use Rattle.machine_roads.specs.View.{Output, wakes}
 use Rattle.machine_roads.specs.Road.{Follows, futures_in}
 use Rattle.machine_roads.specs.Alone.{alone, is_resting, one, HasAll}
 use Rattle.machine_roads.specs.Alike.{upon}
 use Rattle.machine_roads.specs.Stopped.{Stops, taken_by}
+use Rattle.machine_roads.specs.Turning.{TakesTurns}
 
 -- how the poll goes on behind a future that it took: it searches again, or after 200 calls its own waker
 abbrev pub goes_on_by : RunPoll → Bool → Op
@@ -48,6 +51,15 @@ reads_list _ = false
 abbrev pub start_of : ℕ → List Hint → Done → ℕ
 start_of p [] d = 0
 start_of p (h ∷ hs) d = if reads_list d.next then h.start else start_of p hs (one p h d)
+
+-- and among the steps of an act
+abbrev pub named_by : Step → ℕ
+named_by (Go q h) = h.start
+named_by _ = 0
+
+abbrev pub start_at : ℕ → Machine → List Step → ℕ
+start_at p s [] = 0
+start_at p s (t ∷ ts) = if reads_list (reverse (stack s p)) then named_by t else start_at p (after s t) ts
 
 -- behind a search in which a run took one: that run has counted one more, and the turn is this
 pub record CountsOne (r turns : ℕ) (w v : World) : Type 0 where
@@ -80,10 +92,12 @@ RunTakesAlike p here below w q =
     (does wakes c Pends (record q { inside = PollOwn x.run x.waker ∷ q.inside }))
     × IsLast x.run last (does wakes c Pends (record q { inside = PollOwn x.run x.waker ∷ q.inside }))
 
--- where nothing is due it lies down, lies again with another waker, or is refused memory
+-- where nothing is due it lies down, lies again with another waker, or is refused memory, and takes so many turns
 abbrev pub RunLiesAlike : ℕ → Option Waker → List Op → World → Plain Output Waker → Type 0
 RunLiesAlike p here below w q =
     (x : RunPoll) (c : Choice) → any is_due q.due ≡ false → length q.lying < c.tells → (hints : List Hint)
     → HasAll p hints (unready p x below w) → is_resting (alone p hints (unready p x below w)).next ≡ true
-    → (r : Refusal) × ((alone p hints (unready p x below w)).next ≡ below) × Follows (alone p hints (unready p x below w)).world
+    → (r : Refusal) × ((alone p hints (unready p x below w)).next ≡ below)
+    × TakesTurns (vain_turns r (ARun x.run) q.lying) w (alone p hints (unready p x below w)).world
+    × Follows (alone p hints (unready p x below w)).world
     (does wakes (record c { refusal = r }) Pends (record q { inside = PollOwn x.run x.waker ∷ q.inside }))

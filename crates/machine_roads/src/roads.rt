@@ -134,7 +134,8 @@ pub fn a_tick_is_made_alike()
 {}
 
 /// A tick that is polled has come to the poll or the drop of a future that it took, or is answered:
-/// it lies down, or lies again by another waker, or is refused memory for one.
+/// it lies down, or lies again by another waker, or is refused memory for one. It takes one turn of the
+/// executor's two queues where it finds one there or lies with a waker, and else one in each search.
 pub fn a_tick_is_polled_alike()
     ensures { EachAlike TickIsPolledAlike }
 {}
@@ -158,7 +159,8 @@ pub fn a_run_takes_alike()
 {}
 
 /// And where nothing is due it is answered, and both stand alike: it lies down, lies again with another
-/// waker, or is refused memory, before or once it lies.
+/// waker, or is refused memory, before or once it lies. It takes one turn of the executor's two queues
+/// where it lies with a waker or is refused at once, and else two; runs have counted as many as before.
 pub fn a_run_lies_alike()
     ensures { EachAlike RunLiesAlike }
 {}

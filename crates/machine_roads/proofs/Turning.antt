@@ -1,5 +1,6 @@
 -- How many turns a tick or run has taken that finds nothing; what runs have counted, and the list of their queues, stay meanwhile.
-use Rattle.std.proofs.Common.{◌≡◌, ℕ, zero, suc, ◌++◌, Bool, true, false, List, [], ◌∷◌, get_or, slice_set, Option, Some, None, if◌then◌else◌}
+use Rattle.std.proofs.Common.{◌≡◌, ℕ, zero, suc, ◌++◌, Bool, true, false, List, [], ◌∷◌, get_or, slice_set, Option, Some, None}
+use Rattle.std.proofs.Common.{if◌then◌else◌}
 use Rattle.std.proofs.Common.{refl, sym, ap, subst, ◌∙◌}
 use Rattle.executor_parts.specs.Marks.{turn_after}
 use Rattle.executor_model.specs.declared.call.Reply.{Reply}
@@ -14,27 +15,23 @@ use Rattle.executor_model.specs.declared.op.Waker.TheVariants.{Task, Outside}
 use Rattle.executor_model.specs.Acts.{copied}
 use Rattle.executor_model.specs.ActsOfSleepers.{pend_as, sleeper_goes}
 use Rattle.executor_model.specs.Weights.{weigh}
-use Rattle.executor_model.specs.World.{Done, Run, Ticker, World, no_run, run_of, runs_with}
+use Rattle.executor_model.specs.World.{Done, Run, Ticker, World, no_run, runs_with}
 use Rattle.plain_scheduler.specs.State.{AtOnce, Lying, Refusal, Who}
-use Rattle.plain_scheduler.specs.Usual.{lies_uncalled, searches_by, turned, vain_turns}
+use Rattle.plain_scheduler.specs.Usual.{lies_uncalled, searches_by, vain_turns}
 use Rattle.machine_roads.specs.Alone.{is_resting}
+use Rattle.machine_roads.specs.Turning.{TakesTurns}
 use Rattle.machine_roads.proofs.AloneKeeps.{due_push, due_resting}
 use Rattle.machine_roads.proofs.Still.{Still, alone_still, stirs}
 use Rattle.machine_roads.proofs.Stepping.{Way}
 
-pub record Took (n : ℕ) (w v : World) : Type 0 where
-  pub turn : v.urgent_turns ≡ turned n w.urgent_turns
-  pub counted : (k : ℕ) → (run_of v k).counted ≡ (run_of w k).counted
-  pub listed : v.listed ≡ w.listed
-
-pub took_still : (n : ℕ) (w v x : World) → Took n w v → Still v x → Took n w x
+pub took_still : (n : ℕ) (w v x : World) → TakesTurns n w v → Still v x → TakesTurns n w x
 took_still n w v x took still = record {
   turn = still.turn ∙ took.turn;
   counted = λ k. still.counted k ∙ took.counted k;
   listed = still.listed ∙ took.listed;
 }
 
-pub took_twice : (w v x : World) → Took 1 w v → Took 1 v x → Took 2 w x
+pub took_twice : (w v x : World) → TakesTurns 1 w v → TakesTurns 1 v x → TakesTurns 2 w x
 took_twice w v x one two = record {
   turn = two.turn ∙ ap (λ n. turn_after n) one.turn;
   counted = λ k. two.counted k ∙ one.counted k;
@@ -62,14 +59,14 @@ placed_counted rs (tick_or_run.Run r) x k = by rs r k
 
 -- as many as who finds nothing takes, by what memory is refused, and whether it lay with a waker
 module _ (who : Who) (ls : List (Lying Waker)) (w v : World) where
-  pub lay_called : (r : Refusal) → lies_uncalled who ls ≡ false → Took (searches_by r) w v → Took (vain_turns r who ls) w v
-  lay_called r none took = subst (λ n. Took n w v) (sym (ap (λ b. if b then 1 else searches_by r) none)) took
+  pub lay_called : (r : Refusal) → lies_uncalled who ls ≡ false → TakesTurns (searches_by r) w v → TakesTurns (vain_turns r who ls) w v
+  lay_called r none took = subst (λ n. TakesTurns n w v) (sym (ap (λ b. if b then 1 else searches_by r) none)) took
 
-  pub lay_uncalled : (r : Refusal) → lies_uncalled who ls ≡ true → Took 1 w v → Took (vain_turns r who ls) w v
-  lay_uncalled r lay took = subst (λ n. Took n w v) (sym (ap (λ b. if b then 1 else searches_by r) lay)) took
+  pub lay_uncalled : (r : Refusal) → lies_uncalled who ls ≡ true → TakesTurns 1 w v → TakesTurns (vain_turns r who ls) w v
+  lay_uncalled r lay took = subst (λ n. TakesTurns n w v) (sym (ap (λ b. if b then 1 else searches_by r) lay)) took
 
-  pub refused_at_once : Took 1 w v → Took (vain_turns AtOnce who ls) w v
-  refused_at_once took = subst (λ n. Took n w v) (sym (by (lies_uncalled who ls))) took
+  pub refused_at_once : TakesTurns 1 w v → TakesTurns (vain_turns AtOnce who ls) w v
+  refused_at_once took = subst (λ n. TakesTurns n w v) (sym (by (lies_uncalled who ls))) took
     where
       by : (b : Bool) → ◌≡◌ {A = ℕ} (if b then 1 else 1) 1
       by true = refl

@@ -5,4 +5,5 @@ pub mod Plainly
 pub mod Together
 pub mod Refusing
 pub mod Acting
+pub mod Happening
 pub mod Turns

@@ -1,0 +1,92 @@
+-- Acts of the machine, as calls that the owner of an executor makes.
+use Rattle.std.specs.Prelude.{◌≡◌, ℕ, ◌<◌, Bool, true, false, List, [], ◌∷◌, length}
+use Rattle.queue_steps.specs.ClosableQueue.{most_accepted}
+use Rattle.executor_model.specs.declared.op.Waker.{Waker}
+use Rattle.executor_model.specs.declared.op.Waker.TheVariants.{Task as TaskWaker, Outside as OutsideWaker}
+use Rattle.executor_model.specs.Steps.{Machine, lives}
+use Rattle.executor_model.specs.World.{tick_of}
+use Rattle.solo.specs.declared.names.SoloWaker.{SoloWaker}
+use Rattle.solo.specs.declared.names.SoloWaker.TheVariants.{Task as OfTask, Outside}
+use Rattle.solo.specs.declared.solo.Solo.{Solo}
+use Rattle.plain_scheduler.specs.State.{Choice, Code, Event, Plain}
+use Rattle.plain_scheduler.specs.Calls.{Call, Copy, Ends, NewRun, Pends, PollHandle, PollTick, Spawn, does, is_granted}
+use Rattle.machine_roads.specs.Refused.{in_vain}
+use Rattle.machine_roads.specs.View.{Output}
+use Rattle.machine_roads.specs.Within.{Act, IsMade}
+use Rattle.solo_laws.specs.Courses.{Acts}
+use Rattle.solo_laws.specs.Making.{HasNoRoom, PolledIn, WakersAreKnown, by_number, may_copy, queues_with}
+use Rattle.solo_laws.specs.Owner.{Owner, has_tick}
+use Rattle.solo_laws.specs.Road.{HasLife, wakes}
+use Rattle.solo_laws.specs.Tabled.{named}
+use Rattle.two_roads.specs.Acting.{IsOfStep, WalksAlike}
+use Rattle.two_roads.specs.Refusing.{asks_memory, refused_in}
+use Rattle.two_roads.specs.Renaming.{call_as}
+
+-- a call of the machine's as one of the executor's: an output is this one, and of each waker from outside there is one by its number
+module _ {T X : Type 0} (value : T) (outside : ℕ → X) where
+  abbrev pub waker_by : Waker → SoloWaker X
+  waker_by (TaskWaker f) = OfTask (named by_number f)
+  waker_by (OutsideWaker x) = Outside (outside x)
+
+  abbrev pub call_by : Call Output Waker → Call T (SoloWaker X)
+  call_by call = call_as (λ v. value) waker_by call
+
+-- both name alike: runs are polled by wakers of futures that came, and the owner's ticks are the machine's that live
+pub record NamesAlike {F T X : Type 0} (s : Machine) (owner : Owner) (y : Solo F T X) (p : Plain T (SoloWaker X)) : Type 0 where
+  pub wakers : WakersAreKnown by_number owner y p
+  pub ticks : (t : ℕ) → has_tick t owner ≡ lives (tick_of s.world t)
+
+-- a waker from outside
+abbrev pub IsOutside : {X : Type 0} → SoloWaker X → Type 0
+IsOutside (OfTask t) = ⊥
+IsOutside (Outside x) = Unit {0}
+
+-- so is the one by which the run is polled whose poll the innermost code is in
+abbrev pub IsPolledFromOutside : {T X : Type 0} → List (Code T (SoloWaker X)) → Type 0
+IsPolledFromOutside [] = Unit {0}
+IsPolledFromOutside (code ∷ codes) = PolledIn IsOutside code
+
+module _ {F T X : Type 0} (number : X → ℕ) (s : Machine) (a : Act) (owner : Owner) (y : Solo F T X) (p : Plain T (SoloWaker X)) where
+  -- a copy of a task's waker is refused in the act if the task has as many references as it may, and only then
+  abbrev pub CopiesAlike : SoloWaker X → Type 0
+  CopiesAlike (OfTask t) = is_granted (refused_in s a) ≡ may_copy (OfTask t) y
+  CopiesAlike (Outside x) = Unit {0}
+
+  -- memory for a future is refused in it only if the executor has no room; and who searches in vain does so by a waker from outside
+  abbrev pub FitsMemory : Call T (SoloWaker X) → Type 0
+  FitsMemory (Spawn mark) = is_granted (refused_in s a) ≡ false → HasNoRoom by_number owner y p
+  FitsMemory (Copy f) = CopiesAlike (OfTask (named by_number f))
+  FitsMemory (PollHandle f w) = CopiesAlike w
+  FitsMemory (PollTick t w) = IsOutside w
+  FitsMemory Pends = (c : Choice) → in_vain wakes c Pends p ≡ true → IsPolledFromOutside p.inside
+  FitsMemory Ends = (c : Choice) → in_vain wakes c Ends p ≡ true → IsPolledFromOutside p.inside
+  FitsMemory call = Unit {0}
+
+  -- fewer futures, and runs, came than may
+  abbrev pub IsFew : Call T (SoloWaker X) → Type 0
+  IsFew (Spawn mark) = length p.futures < most_accepted
+  IsFew NewRun = length p.runs < most_accepted
+  IsFew call = Unit {0}
+
+  -- the executor has what the call takes
+  pub record HasMeans (call : Call T (SoloWaker X)) : Type 0 where
+    pub life : HasLife (queues_with by_number owner y p call) y.lines
+    pub few : IsFew call
+    pub memory : FitsMemory call
+
+  -- the owner makes the call that the act is, and both name alike behind it
+  pub record IsActed : Type 0 where
+    pub call : Call T (SoloWaker X)
+    pub choice : Choice
+    pub shown : List (Event T (SoloWaker X))
+    pub now : Owner
+    pub after : Solo F T X
+    pub acts : Acts by_number owner choice y p call shown now after
+    pub tells : length p.lying < choice.tells
+    pub of : IsOfStep number s a p choice call
+    pub walks : WalksAlike number s a acts
+    pub names : NamesAlike a.left now after (does wakes choice call p)
+
+  -- that call
+  abbrev pub MayAct : T → (ℕ → X) → Type 0
+  MayAct value outside = (made : Call Output Waker) → IsMade s a.party a.first made → HasMeans (call_by value outside made)

@@ -1,0 +1,4 @@
+-- That each act of the machine is a call that the owner makes: the laws of `src/happening.rt`.
+pub mod Came
+pub mod Near
+pub mod Ending

@@ -14,7 +14,7 @@ use Rattle.machine_roads.specs.Refused.{IsLaterAnew}
 use Rattle.machine_roads.specs.Road.{uncalled}
 use Rattle.machine_roads.specs.Seeing.{heard_in, shown as shown_alike}
 use Rattle.machine_roads.specs.View.{Output, wakes as wakes_in}
-use Rattle.machine_roads.specs.Within.{Act, ActsBy, IsAct, StandsAlike, is_on_way, standing}
+use Rattle.machine_roads.specs.Within.{Act, ActsBy, IsAct, StandsAlike, is_on_way, standing, start_in}
 use Rattle.two_roads.specs.Refusing.{asks_memory, ends_refused, refused_in, refused_so}
 use Rattle.two_roads.proofs.Acted.{first_at, seen_so}
 use Rattle.two_roads.proofs.InTurn.{turns_too}
@@ -24,7 +24,7 @@ use Rattle.two_roads.proofs.Says.{ActSays}
 
 module _ (s : Machine) (reached : Reached s) (q : Plain Output Waker) (a : Act) (stands : StandsAlike (standing s a.party) q) (it : IsAct s a)
     (way : is_on_way (reverse (stack s a.party)) a.first ≡ true) (r : Plain Output Waker)
-    (by : ActsBy s a.party a.first q r a.left.world) (lie : Lie s.world q) (seen : heard_in a.left.world.trace ≡ map shown_alike r.events)
+    (by : ActsBy s a.party a.first q r a.left.world (start_in s a)) (lie : Lie s.world q) (seen : heard_in a.left.world.trace ≡ map shown_alike r.events)
     (lie_then : Lie a.left.world r) where
   -- by what is seen to be refused as by what is
   turns_by : turns_of wakes_in (record by.choice { refusal = refused_in s a }) by.made q ≡ turns_of wakes_in by.choice by.made q

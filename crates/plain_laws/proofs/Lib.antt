@@ -11,3 +11,4 @@ pub mod Idle
 pub mod Over
 pub mod Begun
 pub mod Searching
+pub mod Robbing

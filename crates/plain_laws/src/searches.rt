@@ -1,10 +1,12 @@
 //! Where runs search for futures, and what is chosen there.
-ghost use Rattle.std.specs.Prelude.{◌≡◌, None, Some, false};
-ghost use Rattle.std.specs.Prelude.{ℕ, Option};
+ghost use Rattle.std.specs.Prelude.{◌≡◌, ◌≤◌, ◌==◌, ℕ, Option, None, Some, false, true, length, filter};
 ghost use Rattle.plain_scheduler.specs.Calls.{Call, does};
+ghost use Rattle.plain_scheduler.specs.Lists.{any};
+ghost use Rattle.plain_scheduler.specs.Moves.{is_kept};
 ghost use Rattle.plain_scheduler.specs.Searches.{Search, searches};
 ghost use Rattle.plain_scheduler.specs.State.{Choice, Plain, Run};
 ghost use Rattle.plain_scheduler.specs.Takes.{take};
+ghost use Rattle.plain_scheduler.specs.Usual.{IsKeptByOthers};
 ghost use Rattle.plain_laws.specs.Searches.{looks_first, taking_as};
 
 /// Where a run searches in a call, the call takes what that run takes there, or does what is done where it finds none.
@@ -24,4 +26,11 @@ pub fn choices_are_of_searches<T, A>()
 pub fn searches_are_told_alone<T, A>()
     ensures { (wakes : A → Option ℕ) (c d : Choice) (call : Call T A) (p : Plain T A) → c.tells ≡ d.tells
         → searches wakes c call p ≡ searches wakes d call p }
+{}
+
+/// A run that robs another takes from that one alone: of what any other run keeps there is no less behind the call.
+pub fn runs_rob_one_alone<T, A>()
+    ensures { (wakes : A → Option ℕ) (c : Choice) (call : Call T A) (p : Plain T A) (x : Search T A) (k : ℕ)
+        → searches wakes c call p ≡ Some x → IsKeptByOthers x.run x.at.due → any (is_kept c.robs) x.at.due ≡ true → (k == c.robs) ≡ false
+        → length (filter (is_kept k) p.due) ≤ length (filter (is_kept k) (does wakes c call p).due) }
 {}

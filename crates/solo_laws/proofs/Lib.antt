@@ -30,4 +30,5 @@ pub mod RoomCourses
 pub mod Following
 pub mod Showing
 pub mod Choices
+pub mod Happening
 pub mod Stepping

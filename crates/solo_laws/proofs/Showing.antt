@@ -11,6 +11,7 @@ pub mod StillHoused
 pub mod StillTallied
 pub mod Courses
 pub mod Counts
+pub mod StillOrdered
 pub mod AllThere
 pub mod AfterClose
 pub mod LastCalls

@@ -29,6 +29,7 @@ pub mod RunGoing
 pub mod RunCounting
 pub mod RunResting
 pub mod Led
+pub mod Making
 pub mod Going
 pub mod Seen
 pub mod Done
@@ -42,3 +43,4 @@ pub mod RunsGo
 pub mod SearchesGo
 pub mod Choosing
 pub mod Counting
+pub mod Ordering

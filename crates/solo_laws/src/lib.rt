@@ -8,6 +8,7 @@ pub mod choosing;
 pub mod counting;
 pub mod laws;
 pub mod lying;
+pub mod making;
 pub mod roads;
 pub mod running;
 pub mod turns;

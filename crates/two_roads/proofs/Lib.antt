@@ -12,6 +12,11 @@ pub mod Sought
 pub mod AsUsual
 pub mod Calling
 pub mod InTurn
+pub mod Says
+pub mod ActSays
+pub mod CallSays
+pub mod StepAlike
+pub mod Robbed
 pub mod Plainly
 pub mod PlainCalls
 pub mod Both
@@ -21,9 +26,5 @@ pub mod Refusing
 pub mod Meant
 pub mod Acted
 pub mod ActedToEnd
-pub mod ActTurns
-pub mod SoloTurns
 pub mod InStep
 pub mod InStepToEnd
-pub mod TickTurns
-pub mod SoloTicks

@@ -23,7 +23,7 @@ ghost use Rattle.solo_laws.specs.LastCalls.{LastCalls};
 ghost use Rattle.solo_laws.specs.Owner.{Owner, new_owner};
 ghost use Rattle.solo_laws.specs.Road.{wakes};
 ghost use Rattle.solo_laws.specs.Tabled.{Stands};
-ghost use Rattle.two_roads.specs.Acting.{AreActed, AreOfSteps, EndActed, EndOfSteps, acts_by, drop_acts_by, left_of};
+ghost use Rattle.two_roads.specs.Acting.{AreOfSteps, EndOfSteps, acts_by, drop_acts_by, left_of};
 ghost use Rattle.two_roads.specs.Renaming.{AreSame};
 ghost use Rattle.two_roads.specs.Together.{TellsOf, as_heard, left_by, made_by, nothing, numbered};
 
@@ -94,44 +94,12 @@ pub fn nested_calls_end_alike<F, T, X>()
         × (heard_in (left_of a.left later).world.trace ≡ as_heard number (shown ++ others)) }
 {}
 
-/// And so, where no run takes a future though it may search for one, each list of such acts of a new machine tells of what a list of calls
-/// of a new executor of one owner shows, where each of these calls is what the machine's step begins, or the answer of a poll or the end
-/// of a drop that the step has; where a call that asks for memory, also of a run that searches in vain, is refused it as the machine's
-/// trace and world say of the act; and where a try and a tick's poll look first at the mark that the machine's turn names.
-pub fn untaken_calls_show_alike<F, T, X>()
-    ensures { (its : ℕ → Lent) (number : X → ℕ) (limit : ℕ) (kind : MachineKind) (solo_kind : Kind) (parties : ℕ) (acts : List Act)
-        (calls : List (Choice × Call T (SoloWaker X))) (first last : Solo F T X) (shown : List (Event T (SoloWaker X)))
-        (before : Who → ℕ) (after : Owner) → AreActs (start limit kind parties) acts
-        → IsNew limit solo_kind first → counts solo_kind ≡ not (is_static_kind kind)
-        → Leads its calls (new_owner before) first (new limit (is_static_kind kind)) shown after last
-        → AreActed number (start limit kind parties) acts (new limit (is_static_kind kind)) calls
-        → Stands its last (course wakes calls (new limit (is_static_kind kind)))
-        × (heard_in (left_of (start limit kind parties) acts).world.trace ≡ as_heard number shown) }
-{}
-
-/// And so to the end: from the executor's drop on, once no call is in progress any more, with the calls made in the drops of its futures
-/// and behind it.
-pub fn untaken_calls_end_alike<F, T, X>()
-    ensures { (its : ℕ → Lent) (number : X → ℕ) (limit : ℕ) (kind : MachineKind) (solo_kind : Kind) (parties : ℕ) (acts : List Act)
-        (a : Act) (later : List Act) (calls ends : List (Choice × Call T (SoloWaker X))) (first middle last : Solo F T X)
-        (shown others : List (Event T (SoloWaker X))) (before : Who → ℕ) (after : Owner) → AreActs (start limit kind parties) acts
-        → IsQuiet (left_by_acts (start limit kind parties) acts).world.trace → IsAct (left_by_acts (start limit kind parties) acts) a
-        → a.first ≡ Begin a.party DropsExecutor → AreDropActs a.left later → IsNew limit solo_kind first
-        → counts solo_kind ≡ not (is_static_kind kind)
-        → Leads its calls (new_owner before) first (new limit (is_static_kind kind)) shown after middle
-        → LastCalls its middle (course wakes calls (new limit (is_static_kind kind))) ends others last
-        → (course wakes calls (new limit (is_static_kind kind))).inside ≡ []
-        → AreActed number (start limit kind parties) acts (new limit (is_static_kind kind)) calls
-        → EndActed number a later (course wakes calls (new limit (is_static_kind kind))) ends
-        → IsClosed its last (course wakes (calls ++ ends) (new limit (is_static_kind kind)))
-        × (heard_in (left_of a.left later).world.trace ≡ as_heard number (shown ++ others)) }
-{}
-
-/// And so, where no run searches, each list of such acts of a new machine tells of what a list of calls of a new executor of one owner
-/// shows, where each of these calls is what the machine's step begins, or the answer of a poll or the end of a drop that the step
-/// has; and where a call that asks for memory is refused it as the machine's trace and world say of the act. Both then take as many turns
-/// in each call, and so a try and a tick's poll look first at the same mark.
-pub fn runless_calls_show_alike<F, T, X>()
+/// And so each list of such acts of a new machine tells of what a list of calls of a new executor of one owner shows, where each of these
+/// calls is what the machine's step begins, or the answer of a poll or the end of a drop that the step has; where a call that asks for
+/// memory is refused it as the machine's trace and world say of the act; and where a run that robs another of a future robs one that a
+/// run of the machine robs in the act. Nothing else is asked: both then take as many turns in each call, runs count as many futures, and
+/// so each looks first at the mark, and keeps and moves as many futures, as the other.
+pub fn calls_show_alike<F, T, X>()
     ensures { (its : ℕ → Lent) (number : X → ℕ) (limit : ℕ) (kind : MachineKind) (solo_kind : Kind) (parties : ℕ) (acts : List Act)
         (calls : List (Choice × Call T (SoloWaker X))) (first last : Solo F T X) (shown : List (Event T (SoloWaker X)))
         (before : Who → ℕ) (after : Owner) → AreActs (start limit kind parties) acts
@@ -144,7 +112,7 @@ pub fn runless_calls_show_alike<F, T, X>()
 
 /// And so to the end: from the executor's drop on, once no call is in progress any more, with the calls made in the drops of its futures
 /// and behind it.
-pub fn runless_calls_end_alike<F, T, X>()
+pub fn calls_end_alike<F, T, X>()
     ensures { (its : ℕ → Lent) (number : X → ℕ) (limit : ℕ) (kind : MachineKind) (solo_kind : Kind) (parties : ℕ) (acts : List Act)
         (a : Act) (later : List Act) (calls ends : List (Choice × Call T (SoloWaker X))) (first middle last : Solo F T X)
         (shown others : List (Event T (SoloWaker X))) (before : Who → ℕ) (after : Owner) → AreActs (start limit kind parties) acts

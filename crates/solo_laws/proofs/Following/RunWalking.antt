@@ -41,17 +41,17 @@ use Rattle.solo_laws.proofs.Following.Trying as trying
 use Rattle.solo_laws.proofs.Following.Walking as walking
 
 -- who keeps one
-its_keeper : (k : ℕ) (d : Due) → is_kept k d ≡ true → d.keeper ≡ Some k
+pub its_keeper : (k : ℕ) (d : Due) → is_kept k d ≡ true → d.keeper ≡ Some k
 its_keeper k d is = by d.keeper is
   where
     by : (o : Option ℕ) → is_run k o ≡ true → o ≡ Some k
     by None is = absurd cc
     by (Some n) is = ap (λ n. Some n) (sym (same_number k n is))
 
-none_by : (test : Due → Bool) (ds : List Due) → find test ds ≡ None → any test ds ≡ false
+pub none_by : (test : Due → Bool) (ds : List Due) → find test ds ≡ None → any test ds ≡ false
 none_by test ds is = found_any test ds ∙ ap (λ o. is_some o) is
 
-some_by : (test : Due → Bool) (ds : List Due) (d : Due) → find test ds ≡ Some d → any test ds ≡ true
+pub some_by : (test : Due → Bool) (ds : List Due) (d : Due) → find test ds ≡ Some d → any test ds ≡ true
 some_by test ds d is = found_any test ds ∙ ap (λ o. is_some o) is
 
 module _ {F T X : Type 0} (its : ℕ → Lent) (number : Who → ℕ) (s : Solo F T X) (p : Plain T (SoloWaker X)) (both : Stands its s p)
@@ -196,7 +196,7 @@ module _ {F T X : Type 0} (its : ℕ → Lent) (number : Who → ℕ) (s : Solo 
         (subst (λ q. Taken (ended q)) (sym robbed_is) taken))
 
     -- no queue of the executor has any
-    commons_none : (any (is_common c.first) p.due ≡ false) × (any (is_common (other c.first)) p.due ≡ false)
+    pub commons_none : (any (is_common c.first) p.due ≡ false) × (any (is_common (other c.first)) p.due ≡ false)
     commons_none = by (any (is_common c.first) p.due) (any (is_common (other c.first)) p.due) refl refl
       where
         test : Bool → Bool → Due → Bool

@@ -1,0 +1,227 @@
+-- Which calls the owner of an executor may make where that and the plain scheduler stand alike, and that each of them happens.
+use Rattle.std.specs.Prelude.{◌≡◌, ℕ, suc, ◌+◌, ◌*◌, ◌<◌, ◌≤◌, Bool, true, false, if◌then◌else◌, List, [], ◌∷◌, length}
+use Rattle.std.specs.Prelude.{◌++◌, Option, Some, None}
+use Rattle.queue_steps.specs.ClosableQueue.{most_accepted}
+use Rattle.slab.specs.Slab.{get, HasRoomFor}
+use Rattle.executor_parts.specs.Places.{entry_at}
+use Rattle.solo.specs.declared.names.SoloWaker.{SoloWaker}
+use Rattle.solo.specs.declared.names.SoloWaker.TheVariants.{Task as OfTask, Outside}
+use Rattle.solo.specs.declared.owed.Lent.{Lent}
+use Rattle.solo.specs.declared.runs.Runner.{Runner}
+use Rattle.solo.specs.declared.solo.Solo.{Solo}
+use Rattle.solo.specs.declared.ticks.Ticker.{Ticker}
+use Rattle.solo.specs.OwnQueues.{count_of as count_of_own}
+use Rattle.solo.specs.Solo as solo
+use Rattle.plain_scheduler.specs.State.{ARun, ATick, AtOnce, Choice, Code, Drop, DropOwn, Event, Granted, Later, Lose, Plain, Poll, PollOwn}
+use Rattle.plain_scheduler.specs.State.{Refusal, Run, Taker}
+use Rattle.plain_scheduler.specs.Moves.{task}
+use Rattle.plain_scheduler.specs.Calls.{Call, Cancel, Copy, Detach, DropExecutor, DropHandle, DropRun, DropTick, Ends, EndsWith, IsEmpty}
+use Rattle.plain_scheduler.specs.Calls.{Leak, NewRun, NewTick, Pends, PollHandle, PollRun, PollTick, Release, Spawn, TryTick, Use, Wake}
+use Rattle.plain_scheduler.specs.Calls.{does, is_granted}
+use Rattle.solo_laws.specs.Busy.{busy_in}
+use Rattle.solo_laws.specs.Courses.{Acts, Leads, Makes, copies, makes, polls, run_goes_on, run_looks, tick_lies_refused, tick_refused}
+use Rattle.solo_laws.specs.Courses.{tick_rests}
+use Rattle.solo_laws.specs.Numbered.{ticker_of}
+use Rattle.solo_laws.specs.Owner.{Owner, has_tick}
+use Rattle.solo_laws.specs.Road.{HasLife, IsNamed, is_in, wakes}
+use Rattle.solo_laws.specs.RunGoing.{RunsOn, Searches, gives_way, in_try, is_refused, lies_refused, looks_on, rests}
+use Rattle.solo_laws.specs.RunGoing.{Stage, robs_another, takes_common, takes_own}
+use Rattle.solo_laws.specs.RunResting.{sleep_answer, slept_from}
+use Rattle.solo_laws.specs.Tabled.{named}
+use Rattle.solo_laws.specs.Ticking.{looks_again, slept_answer, slept_once}
+
+-- what users and the world decide of a call: which it is, whether memory is refused, from which starting words a run's two searches
+-- walk, and under which name a tick is made
+pub record Wish (T A : Type 0) : Type 0 where
+  pub call : Call T A
+  pub refusal : Refusal
+  pub first : ℕ
+  pub second : ℕ
+  pub name : ℕ
+
+-- a copy of its waker that can't be had is refused to whoever finds nothing, and one for a second look only where it looks again
+abbrev pub rest_refusal : Bool → Bool → Bool → Refusal → Refusal
+rest_refusal false again second refusal = AtOnce
+rest_refusal true again second AtOnce = AtOnce
+rest_refusal true false second refusal = Granted
+rest_refusal true true false refusal = Later
+rest_refusal true true true refusal = refusal
+
+abbrev pub copy_refusal : Bool → Refusal
+copy_refusal may = if may then Granted else AtOnce
+
+module _ {F T X : Type 0} where
+  -- a task's waker is copied where the task has fewer references than it may
+  abbrev pub may_copy : SoloWaker X → Solo F T X → Bool
+  may_copy (OfTask t) s = solo.may_hold t s
+  may_copy (Outside w) s = true
+
+module _ {F T X : Type 0} (its : ℕ → Lent) (owner : Owner) (c : Choice) (s : Solo F T X) (p : Plain T (SoloWaker X)) where
+  -- what is refused to a poll of a tick, or of a run, that finds nothing
+  abbrev pub tick_refusal : ℕ → SoloWaker X → Refusal → Refusal
+  tick_refusal t w refusal =
+      let ticker = ticker_of owner.number (ATick t) p.lying in
+      rest_refusal (may_copy w s) (looks_again (slept_answer ticker w s).look) (may_copy w (slept_once ticker w s)) refusal
+
+  abbrev pub run_refusal : Runner → SoloWaker X → ℕ → Refusal → Refusal
+  run_refusal runner w start refusal =
+      let r = runner.number in
+      let ticker = ticker_of owner.number (ARun r) p.lying in
+      rest_refusal (may_copy w s) (looks_again (sleep_answer r start ticker w s).look) (may_copy w (slept_from r start ticker w s)) refusal
+
+  -- what is refused where memory refuses this
+  abbrev pub made_as : (call : Call T (SoloWaker X)) (shown : List (Event T (SoloWaker X))) (z : Solo F T X)
+      → Refusal → Makes its c s p call shown z → Refusal
+  made_as call shown z refusal (copies f at is) = copy_refusal (solo.may_hold (named its f) s)
+  made_as call shown z refusal (polls f (OfTask t) at handle names life) = copy_refusal (solo.may_hold t s)
+  made_as call shown z refusal how = refusal
+
+  module _ (runner : Runner) (w : SoloWaker X) where
+    abbrev pub searched_as : (shown : List (Event T (SoloWaker X))) (now : Owner) (z : Solo F T X) → Refusal
+        → Searches its owner c runner w s p shown now z → Refusal
+    searched_as shown now z refusal (rests first second none turn granted names more life) = run_refusal runner w first refusal
+    searched_as shown now z refusal (is_refused start none turn refused) = run_refusal runner w start refusal
+    searched_as shown now z refusal (lies_refused first second none turn refused names again more life) =
+        run_refusal runner w first refusal
+    searched_as shown now z refusal how = refusal
+
+    abbrev pub ran_as : (shown : List (Event T (SoloWaker X))) (now : Owner) (z : Solo F T X) → Refusal
+        → RunsOn its owner c runner w s p shown now z → Refusal
+    ran_as shown now z refusal (looks_on shown' now' z' less how) = searched_as shown' now' z' refusal how
+    ran_as shown now z refusal (gives_way enough names life) = refusal
+
+    -- its walks begin at these words
+    abbrev pub WalksFrom : ℕ → ℕ → (shown : List (Event T (SoloWaker X))) (now : Owner) (z : Solo F T X)
+        → Searches its owner c runner w s p shown now z → Type 0
+    WalksFrom one two shown now z (takes_own start found first keeps life) = start ≡ one
+    WalksFrom one two shown now z (takes_common start found none first turn keeps life) = start ≡ one
+    WalksFrom one two shown now z (robs_another start found none nothing turn walks robs moves keeps life) = start ≡ one
+    WalksFrom one two shown now z (rests first second none turn granted names more life) = (first ≡ one) × (second ≡ two)
+    WalksFrom one two shown now z (is_refused start none turn refused) = start ≡ one
+    WalksFrom one two shown now z (lies_refused first second none turn refused names again more life) = (first ≡ one) × (second ≡ two)
+
+    abbrev pub RunsFrom : ℕ → ℕ → (shown : List (Event T (SoloWaker X))) (now : Owner) (z : Solo F T X)
+        → RunsOn its owner c runner w s p shown now z → Type 0
+    RunsFrom one two shown now z (looks_on shown' now' z' less how) = WalksFrom one two shown' now' z' how
+    RunsFrom one two shown now z (gives_way enough names life) = Unit {0}
+
+module _ {F T X : Type 0} (its : ℕ → Lent) (c : Choice) (s : Solo F T X) (p : Plain T (SoloWaker X)) where
+  -- as a run goes on behind what it took
+  abbrev pub behind : Stage T (SoloWaker X) → List (Code T (SoloWaker X)) → Call T (SoloWaker X) → List (Event T (SoloWaker X))
+      → Plain T (SoloWaker X)
+  behind stage rest call shown = record (does wakes c call (in_try stage rest p)) { events = p.events ++ shown }
+
+  abbrev pub acted_as : (owner : Owner) (call : Call T (SoloWaker X)) (shown : List (Event T (SoloWaker X))) (now : Owner) (z : Solo F T X)
+      → Refusal → Acts its owner c s p call shown now z → Refusal
+  acted_as owner call shown now z refusal (makes call' shown' z' how) = made_as its owner c s p call' shown' z' refusal how
+  acted_as owner call shown now z refusal (tick_rests t w lives none first granted names more life) =
+      tick_refusal its owner c s p t w refusal
+  acted_as owner call shown now z refusal (tick_refused t w lives none first refused) = tick_refusal its owner c s p t w refusal
+  acted_as owner call shown now z refusal (tick_lies_refused t w lives none first refused names again more life) =
+      tick_refusal its owner c s p t w refusal
+  acted_as owner call shown now z refusal (run_looks runner w rest shown' now' z' its_runner is how) =
+      searched_as its owner c s (record p { inside = rest }) runner w shown' now' z' refusal how
+  acted_as owner call shown now z refusal (run_goes_on stage runner w rest call' before others now' y z' its_runner is ends made on) =
+      ran_as its owner c y (behind stage rest call' before) runner w others now' z' refusal on
+  acted_as owner call shown now z refusal how = refusal
+
+  abbrev pub ActsFrom : ℕ → ℕ → (owner : Owner) (call : Call T (SoloWaker X)) (shown : List (Event T (SoloWaker X))) (now : Owner)
+      (z : Solo F T X) → Acts its owner c s p call shown now z → Type 0
+  ActsFrom one two owner call shown now z (run_looks runner w rest shown' now' z' its_runner is how) =
+      WalksFrom its owner c s (record p { inside = rest }) runner w one two shown' now' z' how
+  ActsFrom one two owner call shown now z (run_goes_on stage runner w rest call' before others now' y z' its_runner is ends made on) =
+      RunsFrom its owner c y (behind stage rest call' before) runner w one two others now' z' on
+  ActsFrom one two owner call shown now z how = Unit {0}
+
+module _ {F T X : Type 0} (its : ℕ → Lent) (owner : Owner) (s : Solo F T X) (p : Plain T (SoloWaker X)) where
+  -- a task's waker is that of a future that came; so is that by which a run is polled
+  abbrev pub IsKnown : SoloWaker X → Type 0
+  IsKnown (OfTask t) = IsNamed (named its) (length p.futures) t
+  IsKnown (Outside w) = Unit {0}
+
+  abbrev pub IsKnownBy : Taker (SoloWaker X) → Type 0
+  IsKnownBy (Run r w) = IsKnown w
+  IsKnownBy by = Unit {0}
+
+  abbrev pub IsKnownIf : Option (Taker (SoloWaker X)) → Type 0
+  IsKnownIf (Some by) = IsKnownBy by
+  IsKnownIf None = Unit {0}
+
+  -- a user's code is there to end: the poll of a future, or of a run's own; or a drop
+  abbrev pub MayPend : List (Code T (SoloWaker X)) → Type 0
+  MayPend (Poll f by ∷ rest) = IsKnownBy by
+  MayPend (PollOwn r w ∷ rest) = IsKnown w
+  MayPend codes = ⊥
+
+  abbrev pub MayGive : List (Code T (SoloWaker X)) → Type 0
+  MayGive (Poll f by ∷ rest) = Unit {0}
+  MayGive (PollOwn r w ∷ rest) = Unit {0}
+  MayGive codes = ⊥
+
+  abbrev pub MayEnd : List (Code T (SoloWaker X)) → Type 0
+  MayEnd (Drop f end by ∷ rest) = IsKnownBy by
+  MayEnd (Lose awaiter by ∷ rest) = IsKnownIf by
+  MayEnd (DropOwn r answer ∷ rest) = Unit {0}
+  MayEnd codes = ⊥
+
+  -- one more future takes memory
+  abbrev pub HasNoRoom : Type 0
+  HasNoRoom = s.table.has_room ≡ true → HasRoomFor s.cells.slab 1 → ⊥
+
+  -- a call is on what is there: a future that came, a handle that isn't dropped, a tick that was made, a run on which no call is; and
+  -- a tick that is made has a name of its own
+  abbrev pub Allows : Refusal → ℕ → Call T (SoloWaker X) → Type 0
+  Allows refusal name (Spawn mark) = (length p.futures < most_accepted) × (is_granted refusal ≡ false → HasNoRoom)
+  Allows refusal name TryTick = Unit {0}
+  Allows refusal name IsEmpty = Unit {0}
+  Allows refusal name (Wake f) = f < length p.futures
+  Allows refusal name (Use f) = f < length p.futures
+  Allows refusal name (Copy f) = f < length p.futures
+  Allows refusal name (Release f) = f < length p.futures
+  Allows refusal name (PollHandle f w) = (f < length p.futures) × ((task f p).handle ≡ true) × IsKnown w
+  Allows refusal name (Cancel f) = f < length p.futures
+  Allows refusal name (Detach f) = f < length p.futures
+  Allows refusal name (DropHandle f) = f < length p.futures
+  Allows refusal name NewTick = has_tick name owner ≡ false
+  Allows refusal name (PollTick t w) = (has_tick t owner ≡ true) × IsKnown w
+  Allows refusal name (DropTick t) = has_tick t owner ≡ true
+  Allows refusal name NewRun = length p.runs < most_accepted
+  Allows refusal name (PollRun r w) = is_in r (busy_in p.inside) ≡ false
+  Allows refusal name (DropRun r) = is_in r (busy_in p.inside) ≡ false
+  Allows refusal name Leak = p.is_static ≡ false
+  Allows refusal name DropExecutor = ⊥
+  Allows refusal name Pends = MayPend p.inside
+  Allows refusal name (EndsWith v) = MayGive p.inside
+  Allows refusal name Ends = MayEnd p.inside
+
+  -- how many tasks a call may queue: a leak those of all entries, a run that goes those that it keeps
+  abbrev pub left_in : List (Code T (SoloWaker X)) → ℕ
+  left_in (DropOwn r answer ∷ rest) = count_of_own r s.runs
+  left_in codes = 0
+
+  abbrev pub queues_with : Call T (SoloWaker X) → ℕ
+  queues_with Leak = 6 * length s.table.entries
+  queues_with Ends = 3 * left_in p.inside + 14
+  queues_with call = 14
+
+  -- a call may be made
+  pub record MayCall (x : Wish T (SoloWaker X)) : Type 0 where
+    pub allowed : Allows x.refusal x.name x.call
+    pub life : HasLife (queues_with x.call) s.lines
+
+  -- and happens: the executor's owner does something for it, as is decided; and whoever lay down last is told
+  pub record Happens (x : Wish T (SoloWaker X)) : Type 0 where
+    pub choice : Choice
+    pub shown : List (Event T (SoloWaker X))
+    pub now : Owner
+    pub after : Solo F T X
+    pub acts : Acts its owner choice s p x.call shown now after
+    pub tells : length p.lying < choice.tells
+    pub refused : choice.refusal ≡ acted_as its choice s p owner x.call shown now after x.refusal acts
+    pub starts : ActsFrom its choice s p x.first x.second owner x.call shown now after acts
+
+  -- the next future's name is free: no task has its key, and no entry that of its place
+  pub record NextIsFree : Type 0 where
+    pub number : (named its (length p.futures)).number ≡ length p.futures
+    pub key : get s.cells.slab (named its (length p.futures)).key ≡ None
+    pub place : entry_at (its (length p.futures)).place.key s.table.entries ≡ None

@@ -35,6 +35,7 @@ use Rattle.machine_roads.proofs.RunApart.{Ends, its_run}
 use Rattle.machine_roads.proofs.RunsOn.{After, Between, Searched, ends, goes_on as runs_on, takes as takes_next}
 use Rattle.machine_roads.proofs.RunsStay.{RunsStay}
 use Rattle.machine_roads.proofs.Standing.{StaysSo, stopped_so, stops_so}
+use Rattle.machine_roads.proofs.Starting.{start_in}
 
 -- the run of this poll isn't used elsewhere, and isn't over, and no run that is keeps anything
 pub record Facts (below : List Op) (q : Plain Output Waker) (x : RunPoll) : Type 0 where
@@ -137,9 +138,9 @@ module _ (p : ℕ) (below : List Op) (q : Plain Output Waker) (nested : Nested b
     pub says : Says choice
 
   -- what is said of the choice where a run goes on there, and where none does
-  pub record Tells (taker : Taker Waker) (final : Op) (w : World) (b : Plain Output Waker) : Type 0 where
+  pub record Tells (start : ℕ) (taker : Taker Waker) (final : Op) (w : World) (b : Plain Output Waker) : Type 0 where
     pub searched : (r : ℕ) (a : Waker) → taker ≡ Run r a → (d : Choice)
-        → Searched r a w b (telling c1.tells d) e.world (will (telling c1.tells d)) → Says (telling c1.tells d)
+        → Searched start r a w b (telling c1.tells d) e.world (will (telling c1.tells d)) → Says (telling c1.tells d)
     pub unsearched : Finally q taker final → searches_of wakes c1 taker b ≡ None → Says c1
 
   abbrev AllEnd : Taker Waker → Type 0
@@ -222,7 +223,8 @@ module _ (p : ℕ) (below : List Op) (q : Plain Output Waker) (nested : Nested b
   -- only what takes is left to do
   pub passes_lands : (taker : Taker Waker) (final : Op) (it : GoesOnBy taker final) → Counted (final ∷ below) q.runs
       → FactsOf below q taker final it → AllEnd taker → (behind : Choice → Option (Plain Output Waker))
-      → (pass : Passes p taker final below q c1.tells e will behind) → Tells taker final pass.so.world pass.before → Lands
+      → (pass : Passes p taker final below q c1.tells e will behind)
+      → Tells (start_in p e pass.so.world (final ∷ below) pass.so.way) taker final pass.so.world pass.before → Lands
   passes_lands taker final by_try count facts so behind pass tells =
       let g = passes_end p below under e rests taker final q of_try c1 will behind pass in
       lands_back c1 refl (back taker final by_try count facts so c1 g.2) g.0 g.2 g.1 (tells.unsearched of_try refl)
@@ -238,14 +240,15 @@ module _ (p : ℕ) (below : List Op) (q : Plain Output Waker) (nested : Nested b
   module _ (taker : Taker Waker) (final : Op) (it : GoesOnBy taker final) (count : Counted (final ∷ below) q.runs)
       (facts : FactsOf below q taker final it) (so : AllEnd taker) where
     -- or more code has come before that
-    pub goes_lands : (P : World → Type 0) (behind : Choice → Option (Plain Output Waker)) (So : Plain Output Waker → Type 0)
+    pub goes_lands : (start : ℕ) (P : World → Type 0) (behind : Choice → Option (Plain Output Waker)) (So : Plain Output Waker → Type 0)
         → ((pass : Passes p taker final below q c1.tells e will behind) → P pass.so.world
-        → Tells taker final pass.so.world pass.before)
+        → Tells start taker final pass.so.world pass.before)
         → (So (will (telling c1.tells c1)) → RunsStay q (will (telling c1.tells c1)) → behind c1 ≡ None → P e.world → Lands)
-        → GoesStill P p taker final below q c1.tells e will behind So → Lands
-    goes_lands P behind So tells lands (passes_still pass still) =
-        passes_lands taker final it count facts so behind pass (tells pass still)
-    goes_lands P behind So tells lands (stands_still stops stays none still) = lands (stops c1) (stays c1) (none c1) still
+        → GoesStill start P p taker final below q c1.tells e will behind So → Lands
+    goes_lands start P behind So tells lands (passes_still pass still starts) =
+        passes_lands taker final it count facts so behind pass
+        (subst (λ n. Tells n taker final pass.so.world pass.before) (sym starts) (tells pass still))
+    goes_lands start P behind So tells lands (stands_still stops stays none still) = lands (stops c1) (stays c1) (none c1) still
 
     -- a future's drop, or none
     pub stays_lands : (d : Choice) → d.tells ≡ c1.tells → StaysSo taker final below q e (will d) → (will d).runs ≡ q.runs → Says d → Lands

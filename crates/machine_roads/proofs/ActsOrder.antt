@@ -29,8 +29,10 @@ use Rattle.executor_model.specs.ActsOfRuns.{registered, unregistered}
 use Rattle.executor_model.specs.Executions.{run_all}
 use Rattle.executor_model.specs.OwnQueues.{is_listed}
 use Rattle.executor_model.specs.Sound.{times}
-use Rattle.executor_model.specs.Steps.{Machine, accepts, after, answer_refusal, begun, drop_run, future_of, kept, mine, part_refusal, party_of}
-use Rattle.executor_model.specs.Steps.{begin_refusal, has_run, is_known, is_there, is_unused, poll_run, react, refusal, stack, top, waker_of}
+use Rattle.executor_model.specs.Steps.{Machine, accepts, after, answer_refusal, begun, drop_run, future_of, kept, mine, part_refusal}
+use Rattle.executor_model.specs.Steps.{party_of}
+use Rattle.executor_model.specs.Steps.{begin_refusal, has_run, is_known, is_there, is_unused, poll_run, react, refusal, stack, top}
+use Rattle.executor_model.specs.Steps.{waker_of}
 use Rattle.executor_model.specs.Steps.{with_future}
 use Rattle.executor_model.specs.Rows.{running_of}
 use Rattle.executor_model.proofs.Steps.Lift.{first-true, none_refused}
@@ -49,8 +51,10 @@ use Rattle.machine_roads.specs.Alike.{begins as begins_alike, upon}
 use Rattle.machine_roads.specs.Alone.{alone, is_resting}
 use Rattle.machine_roads.specs.Road.{Follows, run_view}
 use Rattle.machine_roads.specs.Within as within
-use Rattle.machine_roads.specs.Within.{Act, GoesOnBy, IsAct, IsCallIn, IsLeaving, IsMade, Nested, StandsAlike, alike, by_run, by_tick, by_try}
-use Rattle.machine_roads.specs.Within.{dropping, drops_own, forgetting, forgotten, going, is_on_way, lets_begin, listed, losing, may_begin_in}
+use Rattle.machine_roads.specs.Within.{Act, GoesOnBy, IsAct, IsCallIn, IsLeaving, IsMade, Nested, StandsAlike, alike, by_run, by_tick}
+use Rattle.machine_roads.specs.Within.{by_try}
+use Rattle.machine_roads.specs.Within.{dropping, drops_own, forgetting, forgotten, going, is_on_way, lets_begin, listed, losing}
+use Rattle.machine_roads.specs.Within.{may_begin_in}
 use Rattle.machine_roads.specs.Within.{may_stand_in, nowhere, owes, polls_own, rests_after, standing, takes, unlisted, untaken}
 use Rattle.machine_roads.proofs.AloneKeeps.{calls_user, due, due_resting, due_to_append}
 use Rattle.machine_roads.proofs.Enlisting.{alone_lists, begins_list, enlists, reacts_list}
@@ -177,7 +181,8 @@ module _ (s : Machine) (reached : Reached s) (p : ℕ) (q : Plain Output Waker) 
       follows = follows_here (standing s p) q stands even
 
       is_over : (t : Stage) → (run_of s.world r).stage ≡ t
-          → or (slice_get q.runs r) (λ run. run.is_over) true ≡ (run_view (record (run_of s.world r) { dropped = false; stage = t })).is_over
+          → or (slice_get q.runs r) (λ run. run.is_over) true ≡
+          (run_view (record (run_of s.world r) { dropped = false; stage = t })).is_over
       is_over t is =
           over_is s.world.runs q.runs follows.runs r
           ∙ (ap (λ d. (run_view (record (run_of s.world r) { dropped = d })).is_over) lives
@@ -208,7 +213,8 @@ module _ (s : Machine) (reached : Reached s) (p : ℕ) (q : Plain Output Waker) 
           ∙ ap (λ b. if b then order else with_run r order) (sym (is_over Listed is)))
       by Ended is =
           came Ended is order
-          (λ hints over. alone_lists p hints v (op.End reply.Finished (hold.Run r) ∷ below) (omega (arith, due_resting enlists below under)))
+          (λ hints over. alone_lists p hints v (op.End reply.Finished (hold.Run r) ∷ below)
+          (omega (arith, due_resting enlists below under)))
           ∙ ap (λ b. if b then order else with_run r order) (sym (is_over Ended is))
 
   by_call : (c : Call) (ts : List Step) (x : plain.Call Output Waker) → IsCallIn (mine (top (stack s p))) s.world c x

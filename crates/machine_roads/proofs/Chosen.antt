@@ -55,18 +55,21 @@ unsought_turns d q (PollTick t a) none is = absurd cc
 unsought_turns d q call none is = ap (λ o. or o (run_turns d.refusal) 0) is
 
 module _ (w v : World) (call : Call Output Waker) (q : Plain Output Waker) (d : Choice) where
-  pub found_so : (u : World) (r : ℕ) (a : Waker) (b z : Plain Output Waker) → Still w u
-      → searches wakes d call q ≡ Some (search_at r a b) → Searched r a u b d v z → Chooses w v d call q
-  found_so u r a b z still is so = record {
+  -- from whatever starting word
+  abbrev pub ChoosesAnyhow : Type 0
+  ChoosesAnyhow = (start : ℕ) → Chooses start w v d call q
+
+  pub found_so : (start : ℕ) (u : World) (r : ℕ) (a : Waker) (b z : Plain Output Waker) → Still w u
+      → searches wakes d call q ≡ Some (search_at r a b) → Searched start r a u b d v z → Chooses start w v d call q
+  found_so start u r a b z still is so = record {
     usual = λ x its due.
         subst (λ x. TakesAsUsual wakes d (first_of w.urgent_turns) (has_counted w x.run) x) (same x its)
         (subst (λ n. TakesAsUsual wakes d (first_of n) (has_counted w r) (search_at r a b)) still.turn
         (subst (λ n. TakesAsUsual wakes d (first_of u.urgent_turns) n (search_at r a b)) (still.counted r)
         (so.usual (ap finds (same x its) ∙ due))));
-    start = so.start;
     robs = λ x its due.
-        subst (λ x. RobsAsUsual wakes d w.listed so.start x) (same x its)
-        (subst (λ ks. RobsAsUsual wakes d ks so.start (search_at r a b)) still.listed (so.robs (ap finds (same x its) ∙ due)));
+        subst (λ x. RobsAsUsual wakes d w.listed start x) (same x its)
+        (subst (λ ks. RobsAsUsual wakes d ks start (search_at r a b)) still.listed (so.robs (ap finds (same x its) ∙ due)));
     keeper = λ x its due.
         subst (λ (x : Search Output Waker). IsKeptByOthers x.run x.at.due → any (is_kept d.robs) x.at.due ≡ true) (same x its)
         (so.keeper (ap finds (same x its) ∙ due));
@@ -87,18 +90,17 @@ module _ (w v : World) (call : Call Output Waker) (q : Plain Output Waker) (d : 
       same x its = ap (the x) (sym is ∙ its)
 
   -- one more lies behind a search in vain that is refused memory so
-  pub later_so : (u : World) (r : ℕ) (a : Waker) (b z : Plain Output Waker) → searches wakes d call q ≡ Some (search_at r a b)
-      → Searched r a u b d v z → (y : Search Output Waker) → searches wakes d call q ≡ Some y → finds y ≡ false → d.refusal ≡ Later
+  pub later_so : (start : ℕ) (u : World) (r : ℕ) (a : Waker) (b z : Plain Output Waker) → searches wakes d call q ≡ Some (search_at r a b)
+      → Searched start r a u b d v z → (y : Search Output Waker) → searches wakes d call q ≡ Some y → finds y ≡ false → d.refusal ≡ Later
       → OneMoreLies y.at z
-  later_so u r a b z is so y its vain later =
+  later_so start u r a b z is so y its vain later =
       let same : search_at r a b ≡ y = ap (the y) (sym is ∙ its) in
       subst (λ (y : Search Output Waker). OneMoreLies y.at z) same (so.later (ap finds same ∙ vain) later)
 
   pub none_so : searches wakes d call q ≡ None → ((k : ℕ) → has_counted v k ≡ has_counted w k)
-      → v.urgent_turns ≡ turned (turns_of wakes d call q) w.urgent_turns → Chooses w v d call q
-  none_so none stays turns = record {
+      → v.urgent_turns ≡ turned (turns_of wakes d call q) w.urgent_turns → ChoosesAnyhow
+  none_so none stays turns = λ start. record {
     usual = λ x its due. absurd (no_search x its);
-    start = 0;
     robs = λ x its due. absurd (no_search x its);
     keeper = λ x its due. absurd (no_search x its);
     counted = λ k.
@@ -115,6 +117,6 @@ module _ (w v : World) (call : Call Output Waker) (q : Plain Output Waker) (d : 
 
   -- where none searches in it, and it leaves the turn and the counts
   pub still_so : looks_first call ≡ false → searches wakes d call q ≡ None → ((k : ℕ) → has_counted v k ≡ has_counted w k)
-      → v.urgent_turns ≡ w.urgent_turns → Chooses w v d call q
+      → v.urgent_turns ≡ w.urgent_turns → ChoosesAnyhow
   still_so other none stays turn =
       none_so none stays (turn ∙ ap (λ n. turned n w.urgent_turns) (sym (unsought_turns d q call other none)))

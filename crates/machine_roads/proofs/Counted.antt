@@ -1,5 +1,6 @@
 -- What each run has counted stays but where a run finds a future.
-use Rattle.std.proofs.Common.{◌≡◌, ◌+◌, ◌++◌, ℕ, zero, suc, List, [], ◌∷◌, Bool, true, false, get_or, set, length, nat_lt, refl, sym, ap, ◌∙◌, arith}
+use Rattle.std.proofs.Common.{◌≡◌, ◌+◌, ◌++◌, ℕ, zero, suc, List, [], ◌∷◌, Bool, true, false, get_or, set, length, nat_lt, refl, sym, ap}
+use Rattle.std.proofs.Common.{◌∙◌, arith}
 use Rattle.std.specs.Prelude.{Option, Some, None}
 use Rattle.executor_parts.specs.Sleepers.{next_number, position_of, put_to_sleep, woken_up}
 use Rattle.executor_parts.specs.declared.mark.Mark.{Mark}

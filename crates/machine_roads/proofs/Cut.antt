@@ -17,7 +17,7 @@ pub record Comes (Asked : World → Op → Type 0) (p : ℕ) (hints : List Hint)
 -- through all of them, with the hints that are left for what comes behind; or it rests above that
 pub data Cut (Asked : World → Op → Type 0) (p : ℕ) (hints : List Hint) (w : World) (os rest : List Op) : Type 0 where
   through : (first later : List Hint) (v : World) → Comes Asked p first w os v [] → HasAllOf Asked p later (done v rest)
-      → alone p hints (done w (os ++ rest)) ≡ alone p later (done v rest) → Cut Asked p hints w os rest
+      → alone p hints (done w (os ++ rest)) ≡ alone p later (done v rest) → hints ≡ first ++ later → Cut Asked p hints w os rest
   inside : (v : World) (o : Op) (above : List Op) → is_resting (o ∷ []) ≡ true → Comes Asked p hints w os v (o ∷ above)
       → Cut Asked p hints w os rest
 
@@ -71,9 +71,9 @@ module _ (Asked : World → Op → Type 0) (p : ℕ) where
 
   pub cut_of : (hints : List Hint) (w : World) (os rest : List Op) → HasAllOf Asked p hints (done w (os ++ rest))
       → is_resting (alone p hints (done w (os ++ rest))).next ≡ true → Cut Asked p hints w os rest
-  cut_of [] w [] rest has rests = through [] [] w (comes_here w []) has refl
+  cut_of [] w [] rest has rests = through [] [] w (comes_here w []) has refl refl
   cut_of [] w (o ∷ os) rest has rests = inside w o os rests (comes_here w (o ∷ os))
-  cut_of (h ∷ hs) w [] rest has rests = through [] (h ∷ hs) w (comes_here w []) has refl
+  cut_of (h ∷ hs) w [] rest has rests = through [] (h ∷ hs) w (comes_here w []) has refl refl
   cut_of (h ∷ hs) w (o ∷ os) rest all rests =
       by (λ w os has rests. cut_of hs w os rest has rests) (waits o) (is_outside o) refl refl all.1 rests
     where
@@ -82,8 +82,8 @@ module _ (Asked : World → Op → Type 0) (p : ℕ) where
           → Comes Asked p (h ∷ first) w (o ∷ os) v left)
           → alone p (h ∷ hs) (done w (o ∷ (os ++ rest))) ≡ alone p hs (done w2 (os2 ++ rest)) → Cut Asked p hs w2 os2 rest
           → Cut Asked p (h ∷ hs) w (o ∷ os) rest
-      more w2 os2 on is (through first later v comes later_has so) =
-          through (h ∷ first) later v (on v [] first comes) later_has (is ∙ so)
+      more w2 os2 on is (through first later v comes later_has so parts) =
+          through (h ∷ first) later v (on v [] first comes) later_has (is ∙ so) (ap (λ hs. h ∷ hs) parts)
       more w2 os2 on is (inside v x above user comes) = inside v x above user (on v (x ∷ above) hs comes)
 
       held_by : Onwards hs rest → (c : Bool) → waits o ≡ true → is_outside o ≡ c

@@ -26,13 +26,16 @@ use Rattle.machine_roads.specs.Road.{Follows}
 use Rattle.machine_roads.specs.Alone.{HasAll, alone, is_resting}
 use Rattle.machine_roads.specs.Dropped.{Drops, EndsBy, IsEnding, rest_of}
 use Rattle.machine_roads.specs.Forgotten.{IsForgotten, IsLastPoll, StopsForgetting}
+use Rattle.machine_roads.specs.Searching.{start_of}
 use Rattle.machine_roads.specs.Stopped.{IsInPoll}
+use Rattle.machine_roads.proofs.AloneKeeps.{due}
 use Rattle.machine_roads.proofs.Forgetting.{forgets_by, forgets_with, forgotten_by}
 use Rattle.machine_roads.proofs.Passing.{GoesBy, passed, stood, telling}
 use Rattle.machine_roads.proofs.PassingStill.{GoesStill, drops_apart, forgets_apart, goes_still, stays_apart}
 use Rattle.machine_roads.proofs.Pending.{pends_by}
 use Rattle.machine_roads.proofs.RunEnding.{behind_dropped, behind_lost, dropped_by, drops_with, loses_with, lost_by}
 use Rattle.machine_roads.proofs.Running.{end_of, pending_is}
+use Rattle.machine_roads.proofs.Seeking.{seeks}
 use Rattle.machine_roads.proofs.Standing.{StaysSo}
 use Rattle.machine_roads.proofs.Still.{Still, alone_still}
 
@@ -44,7 +47,8 @@ module _ (p : ℕ) (below : List Op) (under : is_resting below ≡ true) (w : Wo
   -- its turn, counts and list are as they were
   abbrev pub StillBy : List Op → (Choice → Plain Output Waker) → (Choice → Option (Plain Output Waker)) → (Plain Output Waker → Type 0)
       → Type 0
-  StillBy os new behind So = GoesStill (Still w) p taker final below q c.tells (went os) new behind So
+  StillBy os new behind So =
+      GoesStill (start_of p hints (done w (os ++ (final ∷ below)))) (Still w) p taker final below q c.tells (went os) new behind So
 
   -- the poll of a future that is still polled or queued, or is closed
   abbrev pub pends_with : ℕ → Choice → Plain Output Waker
@@ -66,7 +70,7 @@ module _ (p : ℕ) (below : List Op) (under : is_resting below ≡ true) (w : Wo
 
     abbrev pub Pended : (Plain Output Waker → Type 0) → Type 0
     Pended So =
-        GoesStill (Still w) p taker final below q c.tells
+        GoesStill (start_of p hints (done w0 (op.Table (table_op.PutBack f) ∷ final ∷ below))) (Still w) p taker final below q c.tells
         (alone p hints (done w0 (op.Table (table_op.PutBack f) ∷ final ∷ below))) (pends_with f) (behind_pended f) So
 
     pub pended_still : Follows w q → IsInPoll w f → length q.lying ≤ c.tells
@@ -74,7 +78,7 @@ module _ (p : ℕ) (below : List Op) (under : is_resting below ≡ true) (w : Wo
         → is_resting (alone p hints (done w0 (op.Table (table_op.PutBack f) ∷ final ∷ below))).next ≡ true
         → Pended (StaysSo taker final below q (alone p hints (done w0 (op.Table (table_op.PutBack f) ∷ final ∷ below))))
     pended_still follows is many all rests =
-        goes_still (Still w) p w0 (op.Table (table_op.PutBack f) ∷ [])
+        goes_still (Still w) p w0 (op.Table (table_op.PutBack f) ∷ []) refl
         (kept (op.Table (table_op.PutBack f) ∷ []) (λ hs. alone_still p hs w0 (op.Table (table_op.PutBack f) ∷ []) refl)) below under
         taker final q c.tells (pends_with f) (behind_pended f) (λ o e z. StaysSo taker o below q e z) c hints
         (λ o hs has resting. pends_by p below w q under follows taker o f is c many hs has resting)
@@ -84,7 +88,7 @@ module _ (p : ℕ) (below : List Op) (under : is_resting below ≡ true) (w : Wo
         → is_resting (alone p hints (done w0 (op.Table (table_op.PutBack f) ∷ final ∷ below))).next ≡ true
         → Pended (StopsForgetting taker final below f q (alone p hints (done w0 (op.Table (table_op.PutBack f) ∷ final ∷ below))))
     forgets_still follows is all rests =
-        goes_still (Still w) p w0 (op.Table (table_op.PutBack f) ∷ [])
+        goes_still (Still w) p w0 (op.Table (table_op.PutBack f) ∷ []) refl
         (kept (op.Table (table_op.PutBack f) ∷ []) (λ hs. alone_still p hs w0 (op.Table (table_op.PutBack f) ∷ []) refl)) below under
         taker final q c.tells (pends_with f) (behind_pended f) (λ o e z. StopsForgetting taker o below f q e z) c hints
         (λ o hs has resting.
@@ -115,7 +119,7 @@ module _ (p : ℕ) (below : List Op) (under : is_resting below ≡ true) (w : Wo
       → StillBy (dropped_ops f m) (drops_with taker f why q) (behind_dropped f why q)
       (Drops taker final below f q (went (dropped_ops f m)))
   dropped_still follows f m why known entered ends many all rests =
-      goes_still (Still w) p w (dropped_ops f m) (λ hs. alone_still p hs w (dropped_ops f m) refl) below under taker final q c.tells
+      goes_still (Still w) p w (dropped_ops f m) refl (λ hs. alone_still p hs w (dropped_ops f m) refl) below under taker final q c.tells
       (drops_with taker f why q) (behind_dropped f why q) (λ o e z. Drops taker o below f q e z) c hints
       (λ o hs has resting. dropped_by p below w q under follows taker o f m why known entered ends c many hs has resting)
       (λ e z is so. drops_apart taker below f q e z is so) all rests
@@ -132,7 +136,7 @@ module _ (p : ℕ) (below : List Op) (under : is_resting below ≡ true) (w : Wo
       → is_resting (went (forgotten_ops f)).next ≡ true
       → StillBy (forgotten_ops f) (forgets_with taker f q) (behind_dropped f Closed q) Nothing
   forgotten_still f is many all rests =
-      goes_still (Still w) p w (forgotten_ops f) (λ hs. alone_still p hs w (forgotten_ops f) refl) below under taker final q c.tells
+      goes_still (Still w) p w (forgotten_ops f) refl (λ hs. alone_still p hs w (forgotten_ops f) refl) below under taker final q c.tells
       (forgets_with taker f q) (behind_dropped f Closed q) (λ o e z. Nothing z) c hints
       (λ o hs has resting. passed (forgotten_by taker o p f below w q c is many hs has resting))
       (λ e z is so. so) all rests
@@ -145,6 +149,10 @@ module _ (p : ℕ) (below : List Op) (under : is_resting below ≡ true) (w : Wo
   lost_is true f o = refl
   lost_is false f o = refl
 
+  lost_unread : (b : Bool) (f : ℕ) → due seeks (lost_ops b f) ≡ 0
+  lost_unread true f = refl
+  lost_unread false f = refl
+
   lost_none : (b : Bool) (f : ℕ) (hs : List Hint) → Still w (alone p hs (done w (lost_ops b f ++ []))).world
   lost_none true f hs = alone_still p hs w (lost_ops true f) refl
   lost_none false f hs = alone_still p hs w (lost_ops false f) refl
@@ -152,14 +160,15 @@ module _ (p : ℕ) (below : List Op) (under : is_resting below ≡ true) (w : Wo
   pub lost_still : (f : ℕ) (awaiter : Option Waker) → IsEnding w f awaiter q → length q.lying ≤ c.tells
       → HasAll p hints (done w (rest_of (world.task w f).awaiter f final ++ below))
       → is_resting (alone p hints (done w (rest_of (world.task w f).awaiter f final ++ below))).next ≡ true
-      → GoesStill (Still w) p taker final below q c.tells (alone p hints (done w (rest_of (world.task w f).awaiter f final ++ below)))
+      → GoesStill (start_of p hints (done w (rest_of (world.task w f).awaiter f final ++ below))) (Still w) p taker final below q c.tells
+      (alone p hints (done w (rest_of (world.task w f).awaiter f final ++ below)))
       (loses_with taker awaiter q) (behind_lost awaiter q) Nothing
   lost_still f awaiter is many all rests =
       let b = (world.task w f).awaiter in
       subst
-      (λ os. GoesStill (Still w) p taker final below q c.tells (alone p hints (done w os)) (loses_with taker awaiter q)
-      (behind_lost awaiter q) Nothing) (sym (lost_is b f final))
-      (goes_still (Still w) p w (lost_ops b f) (lost_none b f) below under taker final q c.tells (loses_with taker awaiter q)
+      (λ os. GoesStill (start_of p hints (done w os)) (Still w) p taker final below q c.tells (alone p hints (done w os))
+      (loses_with taker awaiter q) (behind_lost awaiter q) Nothing) (sym (lost_is b f final))
+      (goes_still (Still w) p w (lost_ops b f) (lost_unread b f) (lost_none b f) below under taker final q c.tells (loses_with taker awaiter q)
       (behind_lost awaiter q) (λ o e z. Nothing z) c hints goes (λ e z is so. so)
       (subst (λ os. HasAll p hints (done w os)) (lost_is b f final) all)
       (subst (λ os. is_resting (alone p hints (done w os)).next ≡ true) (lost_is b f final) rests))

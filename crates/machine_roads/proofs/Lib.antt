@@ -50,6 +50,8 @@ pub mod GivingWay
 pub mod Trying
 pub mod RunsStay
 pub mod Passing
+pub mod StartsOn
+pub mod WalkedFrom
 pub mod PassingStill
 pub mod GoingStill
 pub mod Unseen

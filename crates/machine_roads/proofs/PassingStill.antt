@@ -15,10 +15,14 @@ use Rattle.machine_roads.specs.Road.{Follows}
 use Rattle.machine_roads.specs.Alone.{Has, HasAll, alone, is_resting}
 use Rattle.machine_roads.specs.Dropped.{Drops, answered, loses, rest_of}
 use Rattle.machine_roads.specs.Forgotten.{StopsForgetting}
+use Rattle.machine_roads.specs.Searching.{start_of}
+use Rattle.machine_roads.proofs.AloneKeeps.{due}
 use Rattle.machine_roads.proofs.Cut.{Comes, CutHas, cut, inside, through}
 use Rattle.machine_roads.proofs.Lists.{clash}
 use Rattle.machine_roads.proofs.Passing.{GoesBy, Passes, passed, stood, telling}
 use Rattle.machine_roads.proofs.RunsStay.{RunsStay}
+use Rattle.machine_roads.proofs.Seeking.{seeks}
+use Rattle.machine_roads.proofs.StartsOn.{starts_on}
 use Rattle.machine_roads.proofs.Standing.{Answered, InDrop, Stays, StaysSo}
 use Rattle.machine_roads.proofs.Trying.{stops_at}
 
@@ -37,14 +41,17 @@ not_above o above below is = omega (arith, ap length is, long above (stop ∷ be
 pub not_below : (below : List Op) → stop ∷ below ≡ below → ⊥
 not_below below is = omega (arith, ap length is)
 
-module _ (P : World → Type 0) (p : ℕ) (taker : Taker Waker) (final : Op) (below : List Op) (q : Plain Output Waker) (n : ℕ) (end : Done)
-    (new : Choice → Plain Output Waker) (behind : Choice → Option (Plain Output Waker)) (So : Plain Output Waker → Type 0) where
+-- from this place on the list of queues is read as what takes goes on
+module _ (start : ℕ) (P : World → Type 0) (p : ℕ) (taker : Taker Waker) (final : Op) (below : List Op) (q : Plain Output Waker) (n : ℕ)
+    (end : Done) (new : Choice → Plain Output Waker) (behind : Choice → Option (Plain Output Waker))
+    (So : Plain Output Waker → Type 0) where
   pub data GoesStill : Type 0 where
-    passes_still : (pass : Passes p taker final below q n end new behind) → P pass.so.world → GoesStill
+    passes_still : (pass : Passes p taker final below q n end new behind) → P pass.so.world
+        → start_of p pass.so.way.hints (done pass.so.world (final ∷ below)) ≡ start → GoesStill
     stands_still : ((d : Choice) → So (new (telling n d))) → ((d : Choice) → RunsStay q (new (telling n d)))
         → ((d : Choice) → behind (telling n d) ≡ None) → P end.world → GoesStill
 
-module _ (P : World → Type 0) (p : ℕ) (w : World) (os : List Op)
+module _ (P : World → Type 0) (p : ℕ) (w : World) (os : List Op) (unread : due seeks os ≡ 0)
     (keeps : (hints : List Hint) → P (alone p hints (done w (os ++ []))).world)
     (below : List Op) (under : is_resting below ≡ true) (taker : Taker Waker) (final : Op) (q : Plain Output Waker) (n : ℕ)
     (new : Choice → Plain Output Waker) (behind : Choice → Option (Plain Output Waker)) (So : Op → Done → Plain Output Waker → Type 0)
@@ -53,7 +60,7 @@ module _ (P : World → Type 0) (p : ℕ) (w : World) (os : List Op)
   end = alone p hints (done w (os ++ (final ∷ below)))
 
   abbrev pub Still : Type 0
-  Still = GoesStill P p taker final below q n end new behind (So final end)
+  Still = GoesStill (start_of p hints (done w (os ++ (final ∷ below)))) P p taker final below q n end new behind (So final end)
 
   -- what is put for what takes
   abbrev Goes : Op → List Hint → Type 0
@@ -71,7 +78,7 @@ module _ (P : World → Type 0) (p : ℕ) (w : World) (os : List Op)
     goes_still all rests = by (cut p hints w os (final ∷ below) all rests)
       where
         by : CutHas p hints w os (final ∷ below) → Still
-        by (through first later v comes more is) =
+        by (through first later v comes more is parts) =
             let to : alone p first (done w (os ++ (stop ∷ below))) ≡ done v (stop ∷ below) = comes.to (stop ∷ below) in
             let resting : is_resting (alone p first (done w (os ++ (stop ∷ below)))).next ≡ true =
             ap (λ (d : Done). is_resting d.next) to in
@@ -105,6 +112,8 @@ module _ (P : World → Type 0) (p : ℕ) (w : World) (os : List Op)
                   at = pass.at;
                 })
                 (there first v [] comes)
+                (sym (ap (λ hs. start_of p hs (done w (os ++ (final ∷ below)))) parts
+                ∙ starts_on p first later w os (final ∷ below) v unread comes.to))
         by (inside v o above user comes) =
             both
             (goes final hints all rests)

@@ -2,7 +2,8 @@
 use Rattle.std.proofs.Common.{◌≡◌, ◌≢◌, ◌+◌, ◌%◌, ◌≤◌, ◌<◌, ◌++◌, ℕ, zero, suc, List, [], ◌∷◌, Bool, true, false, length, get_or, set, eqb}
 use Rattle.std.proofs.Common.{refl, sym, ap, ◌∙◌, subst, arith, ◌⊎◌, inl, inr, ⊎_elim, get_or-set_other}
 use Rattle.std.specs.Prelude.{Option, Some, None, reverse}
-use Rattle.executor_laws.proofs.Types.{Call, Event, Hint, Hold, Kind, ListOp, Op, Reply, RunOp, RunPoll, Section, Steal, UserEnd, UserOp, Waker}
+use Rattle.executor_laws.proofs.Types.{Call, Event, Hint, Hold, Kind, ListOp, Op, Reply, RunOp, RunPoll, Section, Steal, UserEnd, UserOp}
+use Rattle.executor_laws.proofs.Types.{Waker}
 use Rattle.executor_model.specs.declared.event.Answer.{Answer}
 use Rattle.executor_model.proofs.OwnQueues.OwnCounts.{counts-begun, counts-react}
 use Rattle.executor_model.proofs.OwnQueues.RunsAside.{Coat, Hull, coat, stages, stages-at, stages-push, stages-set}
@@ -19,7 +20,8 @@ use Rattle.executor_model.specs.Doing.{act, list_act}
 use Rattle.executor_model.specs.Good.{Good}
 use Rattle.executor_model.specs.OwnQueues.{is_listed}
 use Rattle.executor_model.specs.Rows.{running_of}
-use Rattle.executor_model.specs.Steps.{Machine, accepts, begun, drop_run, future_of, kept, mine, poll_run, react, stack, start, top, waker_of, with_future}
+use Rattle.executor_model.specs.Steps.{Machine, accepts, begun, drop_run, future_of, kept, mine, poll_run, react, stack, start, top}
+use Rattle.executor_model.specs.Steps.{waker_of, with_future}
 use Rattle.executor_model.specs.Weights.{same, weigh, weigh_all}
 use Rattle.executor_model.specs.World.{Done, Ended, Listed, New, Stage, World, done, log, no_run, own_of, put_own, run_of}
 

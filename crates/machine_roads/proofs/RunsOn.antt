@@ -19,7 +19,7 @@ use Rattle.machine_roads.specs.Road.{Follows, futures_in}
 use Rattle.machine_roads.specs.Alone.{is_resting}
 use Rattle.machine_roads.specs.Choosing.{has_counted}
 use Rattle.machine_roads.specs.Refused.{OneMoreLies}
-use Rattle.machine_roads.specs.Searching.{goes_on_by, start_of, turn_behind}
+use Rattle.machine_roads.specs.Searching.{goes_on_by, turn_behind}
 use Rattle.machine_roads.specs.Stopped.{Finally, of_last, taken_by}
 use Rattle.machine_roads.proofs.Lists.{clash, same_of}
 use Rattle.machine_roads.proofs.Passing.{Passes, passes_end, telling}
@@ -27,7 +27,7 @@ use Rattle.machine_roads.proofs.RunLies.{lies_so, none_due}
 use Rattle.machine_roads.proofs.RunFinding.{Found, pick}
 use Rattle.machine_roads.proofs.RunSearching.{searches}
 use Rattle.machine_roads.proofs.RunsStay.{RunsStay}
-use Rattle.machine_roads.proofs.Stepping.{Way}
+use Rattle.machine_roads.proofs.Starting.{From, from_way, start_in}
 use Rattle.machine_roads.proofs.Standing.{Stands, StandsSo}
 use Rattle.machine_roads.proofs.TakenBeside.{counted_more, counted_over, takes_none}
 
@@ -72,11 +72,10 @@ abbrev pub search_at : ℕ → Waker → Plain Output Waker → Search Output Wa
 search_at r a b = record { run = r; waker = a; at = b }
 
 -- how it chose that searched there in this world, and what it left of that world
-pub record Searched (r : ℕ) (a : Waker) (w : World) (b : Plain Output Waker) (d : Choice) (v : World) (z : Plain Output Waker) : Type 0
+pub record Searched (start r : ℕ) (a : Waker) (w : World) (b : Plain Output Waker) (d : Choice) (v : World) (z : Plain Output Waker) : Type 0
   where
     pub few : nat_lt (taken_by r b) 200 ≡ true
     pub usual : any is_due b.due ≡ true → TakesAsUsual wakes d (first_of w.urgent_turns) (has_counted w r) (search_at r a b)
-    pub start : ℕ
     pub robs : any is_due b.due ≡ true → RobsAsUsual wakes d w.listed start (search_at r a b)
     pub keeper : any is_due b.due ≡ true → IsKeptByOthers r b.due → any (is_kept d.robs) b.due ≡ true
     pub counted : (k : ℕ)
@@ -97,8 +96,8 @@ module _ (p : ℕ) (x : RunPoll) (below : List Op) (q : Plain Output Waker) (n t
         → Says (telling n d) → After
 
   -- what is said of the choice by a search from here on
-  abbrev pub Tells : World → Plain Output Waker → Type 0
-  Tells w b = (d : Choice) → Searched x.run x.waker w b (telling n d) end.world (new (telling n d)) → Says (telling n d)
+  abbrev pub Tells : ℕ → World → Plain Output Waker → Type 0
+  Tells start w b = (d : Choice) → Searched start x.run x.waker w b (telling n d) end.world (new (telling n d)) → Says (telling n d)
 
   module _ (under : is_resting below ≡ true) (rests : is_resting end.next ≡ true) (c : Choice) where
     -- one more is taken
@@ -106,7 +105,7 @@ module _ (p : ℕ) (x : RunPoll) (below : List Op) (q : Plain Output Waker) (n t
         first.tells ≡ n
         → first.first ≡ first_of w.urgent_turns → any is_due b.due ≡ true → Found p below under end rests first x start
         (turn_behind x.run b.due w) w b
-        → ((d : Choice) → new (telling n d) ≡ plain_takes.next wakes (telling n d) taker b) → Tells w b → After
+        → ((d : Choice) → new (telling n d) ≡ plain_takes.next wakes (telling n d) taker b) → Tells start w b → After
     takes_more start w b so inside first told turn some g is tells =
         let d = pick p below under end rests first x g.0 g.1 g.2 in
         let z = plain_takes.take wakes d taker b in
@@ -136,11 +135,10 @@ module _ (p : ℕ) (x : RunPoll) (below : List Op) (q : Plain Output Waker) (n t
               ∙ (ap (λ (rs : List Running). or (slice_get rs k) (λ run. run.is_over) true) (sym it.runs) ∙ over));
         }))
         (tells d
-        (subst (λ m. Searched x.run x.waker w b (telling m d) end.world (new (telling n d))) told
+        (subst (λ m. Searched start x.run x.waker w b (telling m d) end.world (new (telling n d))) told
         (record {
           few = ap (λ k. nat_lt k 200) so.taken ∙ so.early;
           usual = λ due. subst (λ m. TakesAsUsual wakes d m (has_counted w x.run) (search_at x.run x.waker b)) turn it.usual;
-          start = start;
           robs = λ due. it.robs;
           keeper = λ due. it.keeper;
           counted = λ k. it.behind.counted k ∙ one_more k (k == x.run) (any is_due b.due) some;
@@ -170,10 +168,10 @@ module _ (p : ℕ) (x : RunPoll) (below : List Op) (q : Plain Output Waker) (n t
         left_so d k false apart over = takes_none x.run k apart d x.waker b (so.left k over)
 
     -- from a search on
-    pub goes_from : (w : World) (b : Plain Output Waker) → Follows w b → length b.lying < n → Between x.run false t b → b.inside ≡ q.inside
-        → Way p end w (goes_on_by x false ∷ below)
-        → ((d : Choice) → new (telling n d) ≡ plain_takes.next wakes (telling n d) taker b) → Tells w b → After
-    goes_from w b follows fit now inside way is tells = by (any is_due b.due) refl
+    pub goes_from : (start : ℕ) (w : World) (b : Plain Output Waker) → Follows w b → length b.lying < n → Between x.run false t b → b.inside ≡ q.inside
+        → From start p end w (goes_on_by x false ∷ below)
+        → ((d : Choice) → new (telling n d) ≡ plain_takes.next wakes (telling n d) taker b) → Tells start w b → After
+    goes_from start w b follows fit now inside from is tells = by (any is_due b.due) refl
       where
         nowhere : (own due : Bool) → due ≡ false → (own && due) ≡ false
         nowhere true due none = none
@@ -181,7 +179,7 @@ module _ (p : ℕ) (x : RunPoll) (below : List Op) (q : Plain Output Waker) (n t
 
         by : (some : Bool) → any is_due b.due ≡ some → After
         by false none =
-            let g = lies_so p x below end under rests (telling n c) w b follows fit none way in
+            let g = lies_so p x below end under rests (telling n c) w b follows fit none from.way in
             let d : Choice = record (telling n c) { refusal = g.0 } in
             let same : new d ≡ plain_takes.take wakes d taker b =
             is d
@@ -193,7 +191,6 @@ module _ (p : ℕ) (x : RunPoll) (below : List Op) (q : Plain Output Waker) (n t
             (record {
               few = ap (λ k. nat_lt k 200) now.taken ∙ now.early;
               usual = λ some. absurd (clash none some);
-              start = 0;
               robs = λ some. absurd (clash none some);
               keeper = λ some. absurd (clash none some);
               counted = λ k. g.6.counted k
@@ -205,15 +202,14 @@ module _ (p : ℕ) (x : RunPoll) (below : List Op) (q : Plain Output Waker) (n t
             }))
         by true some =
             let first : Choice = record (telling n c) { first = first_of w.urgent_turns; refusal = Granted } in
-            let start = start_of p way.hints (done w (goes_on_by x false ∷ below)) in
             takes_more start w b now inside first refl refl some
             (searches p below under end rests first x start w b follows (omega (arith, fit))
-            (record { going = few_of b.runs x.run t now.taken now.early; left = now.left }) some refl (record { way = way; starts = refl }))
+            (record { going = few_of b.runs x.run t now.taken now.early; left = now.left }) some refl from)
             is tells
 
     -- behind what it took; with its 200th it searches no more
     pub goes_on : (behind : Choice → Option (Plain Output Waker)) (last : Bool) → length q.lying < n → Between x.run last t q
-        → (pass : Passes p taker (goes_on_by x last) below q n end new behind) → Tells pass.so.world pass.before
+        → (pass : Passes p taker (goes_on_by x last) below q n end new behind) → Tells (start_in p end pass.so.world (goes_on_by x last ∷ below) pass.so.way) pass.so.world pass.before
         → (Finally q taker (goes_on_by x last) → searches_of wakes c taker pass.before ≡ None → Says (telling n c)) → After
     goes_on behind true fit so pass tells unsaid =
         let it : Finally q taker (goes_on_by x true) = of_last x (so.taken ∙ all_of t so.most so.early) in
@@ -223,5 +219,6 @@ module _ (p : ℕ) (x : RunPoll) (below : List Op) (q : Plain Output Waker) (n t
         (ap (λ b. if b then Some (search_at x.run x.waker pass.before) else None)
         (ap (λ k. nat_lt k 200) ((between_stays x.run true t q pass.before pass.stay so).taken) ∙ so.early)))
     goes_on behind false fit so pass tells unsaid =
-        goes_from pass.so.world pass.before pass.so.follows (omega (arith, fit, pass.stay.lying))
-        (between_stays x.run false t q pass.before pass.stay so) pass.inside pass.so.way pass.is tells
+        goes_from (start_in p end pass.so.world (goes_on_by x false ∷ below) pass.so.way) pass.so.world pass.before pass.so.follows (omega (arith, fit, pass.stay.lying))
+        (between_stays x.run false t q pass.before pass.stay so) pass.inside
+        (from_way p end pass.so.world (goes_on_by x false ∷ below) pass.so.way) pass.is tells

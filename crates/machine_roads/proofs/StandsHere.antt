@@ -10,7 +10,8 @@ use Rattle.machine_roads.specs.View.{Output}
 use Rattle.machine_roads.specs.Road.{Follows}
 use Rattle.machine_roads.specs.Alone.{is_resting}
 use Rattle.machine_roads.specs.Dropped.{answered as drop_answered, loses}
-use Rattle.machine_roads.specs.Within.{IsLeaving, StandsAlike, alike, dropping, forgetting, forgotten, going, listed, losing, owes, unlisted}
+use Rattle.machine_roads.specs.Within.{IsLeaving, StandsAlike, alike, dropping, forgetting, forgotten, going, listed, losing, owes}
+use Rattle.machine_roads.specs.Within.{unlisted}
 use Rattle.machine_roads.specs.Within.{untaken}
 use Rattle.machine_roads.proofs.DropPlaces.{loss_rests}
 use Rattle.machine_roads.proofs.Inmost.{rests_in}

@@ -7,7 +7,8 @@ use Rattle.executor_model.specs.declared.op.Op.{Op}
 use Rattle.executor_model.specs.declared.op.Waker.{Waker}
 use Rattle.executor_model.specs.declared.event.Event.TheVariants as event
 use Rattle.executor_model.specs.declared.step.Hint.{Hint}
-use Rattle.executor_model.specs.Steps.{begun, is_on_executor}
+use Rattle.executor_model.specs.declared.step.Step.{Step}
+use Rattle.executor_model.specs.Steps.{Machine, begun, is_on_executor}
 use Rattle.executor_model.specs.World.{World, done, log}
 use Rattle.plain_scheduler.specs.State.{Choice, Code, Lose, Plain}
 use Rattle.plain_scheduler.specs.Calls as plain
@@ -17,14 +18,17 @@ use Rattle.plain_scheduler.specs.Usual.{turned}
 use Rattle.machine_roads.specs.View.{Output, wakes}
 use Rattle.machine_roads.specs.Alone.{alone, is_resting}
 use Rattle.machine_roads.specs.Alike.{begins, upon}
-use Rattle.machine_roads.specs.Choosing.{Chooses}
 use Rattle.machine_roads.specs.Losing.{left_of}
 use Rattle.machine_roads.specs.Within as within
-use Rattle.machine_roads.specs.Within.{IsCallIn}
+use Rattle.machine_roads.specs.Within.{ActsBy, IsCallIn}
 use Rattle.machine_roads.proofs.AloneKeeps.{due, due_push, due_resting}
-use Rattle.machine_roads.proofs.Chosen.{inside_none, looks_first, none_so, still_so, unsought_turns}
+use Rattle.machine_roads.proofs.Chosen.{ChoosesAnyhow, inside_none, looks_first, none_so, still_so, unsought_turns}
 use Rattle.machine_roads.proofs.Counted.{alone_counts, begins_count, begins_counts, counts}
 use Rattle.machine_roads.proofs.Seeking.{alone_turn, begins_none, begins_turn, is_still, seeks}
+
+-- so it acts, from whatever starting word
+abbrev pub ActsAnyhow : Machine → ℕ → Step → Plain Output Waker → Plain Output Waker → World → Type 0
+ActsAnyhow s p t q r v = (start : ℕ) → ActsBy s p t q r v start
 
 abbrev pub takes_turn : Call → Bool
 takes_turn call.TryTick = true
@@ -120,7 +124,7 @@ module _ (here : Option Waker) (w : World) (d : Choice) (q : Plain Output Waker)
   -- a call that begins
   pub begun_so : (p : ℕ) (hints : List Hint) (c : Call) (below : List Op) (under : is_resting below ≡ true) (x : plain.Call Output Waker)
       → IsCallIn here w c x → (asks : Option Waker) → TurnSaid c (called p hints c below under asks)
-      → Chooses w (called p hints c below under asks) d x q
+      → ChoosesAnyhow w (called p hints c below under asks) x q d
   begun_so p hints c below under x is asks said =
       let v = log w (event.CallBegun p c) in
       let b = begun p v asks c in
@@ -131,13 +135,13 @@ module _ (here : Option Waker) (w : World) (d : Choice) (q : Plain Output Waker)
 
   -- and one that isn't on the executor
   pub off_so : (p : ℕ) (hints : List Hint) (c : Call) → is_on_executor c ≡ false → (below : List Op) (under : is_resting below ≡ true)
-      (x : plain.Call Output Waker) → IsCallIn here w c x → (asks : Option Waker) → Chooses w (called p hints c below under asks) d x q
+      (x : plain.Call Output Waker) → IsCallIn here w c x → (asks : Option Waker) → ChoosesAnyhow w (called p hints c below under asks) x q d
   off_so p hints c off below under x is asks =
       begun_so p hints c below under x is asks (unsaid c (off_takes c off) (called p hints c below under asks))
 
 -- the end of other code
 pub ended_so : (p : ℕ) (hints : List Hint) (w : World) (os : List Op) → due counts os ≡ 0 → due seeks os ≡ 0 → (d : Choice)
-    (q : Plain Output Waker) → searches wakes d plain.Ends q ≡ None → Chooses w (alone p hints (done w os)).world d plain.Ends q
+    (q : Plain Output Waker) → searches wakes d plain.Ends q ≡ None → ChoosesAnyhow w (alone p hints (done w os)).world plain.Ends q d
 ended_so p hints w os uncounting light d q none =
     still_so w (alone p hints (done w os)).world plain.Ends q d refl none (alone_counts p hints w os uncounting)
     (alone_turn p hints w os light)
@@ -145,7 +149,7 @@ ended_so p hints w os uncounting light d q none =
 -- the end of an output's drop that isn't that of a future that somebody took
 pub loss_so : (p : ℕ) (hints : List Hint) (w : World) (f : ℕ) (below : List Op) → is_resting below ≡ true → (d : Choice)
     (q : Plain Output Waker) (awaiter : Option Waker) (codes : List (Code Output Waker)) → q.inside ≡ Lose awaiter None ∷ codes
-    → Chooses w (alone p hints (done w (left_of f ++ below))).world d plain.Ends q
+    → ChoosesAnyhow w (alone p hints (done w (left_of f ++ below))).world plain.Ends q d
 loss_so p hints w f below under d q awaiter codes at =
     ended_so p hints w (left_of f ++ below) (due_push counts (left_of f) below refl (due_resting counts below under))
     (due_push seeks (left_of f) below refl (due_resting seeks below under)) d q

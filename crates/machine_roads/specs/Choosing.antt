@@ -16,11 +16,10 @@ use Rattle.machine_roads.specs.View.{Output, wakes}
 abbrev pub has_counted : World → ℕ → ℕ
 has_counted w r = (run_of w r).counted
 
--- a run chooses as both executors do, from a starting word on, and robs one that keeps any; each counts what it takes, and the call takes
+-- a run chooses as both executors do, from this starting word on, and robs one that keeps any; each counts what it takes, and the call takes
 -- its turns
-pub record Chooses (w v : World) (d : Choice) (call : Call Output Waker) (q : Plain Output Waker) : Type 0 where
+pub record Chooses (start : ℕ) (w v : World) (d : Choice) (call : Call Output Waker) (q : Plain Output Waker) : Type 0 where
   pub usual : IsUsual wakes d (first_of w.urgent_turns) (has_counted w) call q
-  pub start : ℕ
   pub robs : (x : Search Output Waker) → searches wakes d call q ≡ Some x → finds x ≡ true → RobsAsUsual wakes d w.listed start x
   pub keeper : (x : Search Output Waker) → searches wakes d call q ≡ Some x → finds x ≡ true → IsKeptByOthers x.run x.at.due
       → any (is_kept d.robs) x.at.due ≡ true

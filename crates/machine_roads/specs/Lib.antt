@@ -23,3 +23,4 @@ pub mod InLoss
 pub mod Refused
 pub mod Within
 pub mod DropActs
+pub mod Ordering

@@ -1,6 +1,6 @@
 -- A poll of a run whose own future gave no output: when the take that follows leaves both alike.
 use Rattle.std.specs.Prelude.{◌≡◌, ℕ, ◌≤◌, ◌<◌, ◌==◌, nat_lt, not, Bool, true, false, if◌then◌else◌, List, [], ◌∷◌, length}
-use Rattle.std.specs.Prelude.{slice_get, Option}
+use Rattle.std.specs.Prelude.{reverse, slice_get, Option}
 use Rattle.executor_parts.specs.Marks.{first_of, turn_after}
 use Rattle.executor_model.specs.declared.event.Answer.TheVariants as answer
 use Rattle.executor_model.specs.declared.op.ListOp.TheVariants as list_op
@@ -12,9 +12,11 @@ use Rattle.executor_model.specs.declared.op.TickOp.TheVariants as tick_op
 use Rattle.executor_model.specs.declared.op.UserOp.TheVariants as user_op
 use Rattle.executor_model.specs.declared.op.Waker.{Waker}
 use Rattle.executor_model.specs.declared.step.Hint.{Hint}
+use Rattle.executor_model.specs.declared.step.Step.{Step}
+use Rattle.executor_model.specs.declared.step.Step.TheVariants.{Go}
 use Rattle.executor_model.specs.declared.step.UserEnd.TheVariants as end
 use Rattle.executor_model.specs.ActsOfRuns.{asleep}
-use Rattle.executor_model.specs.Steps.{react}
+use Rattle.executor_model.specs.Steps.{Machine, after, react, stack}
 use Rattle.executor_model.specs.World.{Done, World, run_of}
 use Rattle.plain_scheduler.specs.State.{ARun, Choice, Due, Plain, PollOwn, Refusal, Run}
 use Rattle.plain_scheduler.specs.Lists.{any, or}
@@ -49,6 +51,15 @@ reads_list _ = false
 abbrev pub start_of : ℕ → List Hint → Done → ℕ
 start_of p [] d = 0
 start_of p (h ∷ hs) d = if reads_list d.next then h.start else start_of p hs (one p h d)
+
+-- and among the steps of an act
+abbrev pub named_by : Step → ℕ
+named_by (Go q h) = h.start
+named_by _ = 0
+
+abbrev pub start_at : ℕ → Machine → List Step → ℕ
+start_at p s [] = 0
+start_at p s (t ∷ ts) = if reads_list (reverse (stack s p)) then named_by t else start_at p (after s t) ts
 
 -- behind a search in which a run took one: that run has counted one more, and the turn is this
 pub record CountsOne (r turns : ℕ) (w v : World) : Type 0 where

@@ -16,7 +16,6 @@ pub mod Says
 pub mod ActSays
 pub mod CallSays
 pub mod StepAlike
-pub mod Robbed
 pub mod Plainly
 pub mod PlainCalls
 pub mod Both

@@ -1,5 +1,5 @@
 -- A call by what its owner chooses is the machine's act, where both refuse and take alike.
-use Rattle.std.proofs.Common.{◌≡◌, ℕ, ◌<◌, ◌≤◌, nat_lt, not, Bool, true, false, List, [], ◌∷◌, length, map, Option, Some, None, refl, sym, ap, subst, ◌∙◌}
+use Rattle.std.proofs.Common.{◌≡◌, ℕ, ◌<◌, ◌≤◌, nat_lt, not, Bool, true, false, length, map, Option, Some, None, refl, sym, ap, subst, ◌∙◌}
 use Rattle.std.proofs.Common.{arith}
 use Rattle.executor_parts.specs.Marks.{first_of}
 use Rattle.executor_model.specs.declared.op.Waker.{Waker}
@@ -177,4 +177,3 @@ module _ {T X : Type 0} (number : X → ℕ) where
             takes = refused_here wakes c by.choice p by.choice.refusal call takes;
           })
           ∙ (ap (λ (z : Plain Output Waker). does wakes_in by.choice same_call z) is ∙ so))
-

@@ -92,9 +92,11 @@ module _ {F T X : Type 0} (its : ℕ → Lent) where
       (shown : List (Event T (SoloWaker X))) → Closes its all gone left cs s p shown z → AllAside cs p
   closes_aside all gone left cs s z p shown (meanwhile g l c call rest t y u q shows others tells made on) =
       (meanwhile_aside c t q call shows y made, tells, closes_aside all g l rest y u (does wakes c call q) others on)
-  closes_aside all gone left cs s z p shown (next_drop g f l c rest inside t u q others is tells life on) =
-      (close_aside c q (f ∷ l) all inside is, tells,
-      closes_aside all (g ++ f ∷ []) l rest (closing.drained t) u (does wakes c calls.Ends q) others on)
+  closes_aside all gone left cs s z p shown (next_drop g f l c rest inside t u q others is tells life on) = (
+    close_aside c q (f ∷ l) all inside is,
+    tells,
+    closes_aside all (g ++ f ∷ []) l rest (closing.drained t) u (does wakes c calls.Ends q) others on,
+  )
   closes_aside all gone left cs s z p shown (last_drop g c rest inside t y u q shows others is tells life drains on) =
       (close_aside c q [] all inside is, tells, after_aside rest y u (does wakes c calls.Ends q) others on)
 

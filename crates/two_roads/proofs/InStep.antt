@@ -1,7 +1,7 @@
 -- From new ones on what is refused, and whom runs rob, says it all: both look first at the same mark, count alike and take alike.
-use Rattle.std.proofs.Common.{◌≡◌, ℕ, ◌+◌, ◌%◌, ◌==◌, ◌≤◌, ◌<◌, not, Bool, true, false, List, [], ◌∷◌, ◌++◌, length, map, Some, refl, sym, ap, ◌∙◌, subst, arith}
+use Rattle.std.proofs.Common.{◌≡◌, ℕ, ◌+◌, ◌%◌, ◌==◌, ◌≤◌, ◌<◌, not, List, [], ◌∷◌, ◌++◌, length, map, refl, sym, ap, ◌∙◌, subst, arith}
 use Rattle.std.proofs.Common.{get_or-set_other}
-use Rattle.std.specs.Prelude.{Option, reverse}
+use Rattle.std.specs.Prelude.{reverse}
 use Rattle.executor_model.specs.declared.kind.Kind.{Kind as MachineKind}
 use Rattle.executor_model.specs.declared.op.Waker.{Waker}
 use Rattle.executor_model.specs.declared.step.Step.{Step}
@@ -17,8 +17,7 @@ use Rattle.solo.specs.Lines.{LinesValue}
 use Rattle.solo.specs.Solo.{IsNew, counts}
 use Rattle.plain_scheduler.specs.State.{Choice, Event, Plain, Who}
 use Rattle.plain_scheduler.specs.Calls.{Call, course, does, new}
-use Rattle.plain_scheduler.specs.Searches.{Search, finds, searches}
-use Rattle.plain_scheduler.specs.Usual.{IsKeptByOthers}
+use Rattle.plain_scheduler.specs.Searches.{searches}
 use Rattle.machine_roads.specs.Seeing.{heard_in, shown as shown_alike}
 use Rattle.machine_roads.specs.View.{Output, wakes as wakes_in}
 use Rattle.machine_roads.specs.Within.{Act, ActAlike, AreActs, StandsAlike, alike, nowhere, standing}
@@ -82,20 +81,22 @@ module _ {F T X : Type 0} (its : ℕ → Lent) (number : X → ℕ) where
       let call_is : go.1.made ≡ made = one_made s a.party a.first go.1.made made go.1.is of.0.made in
       let theirs : ActSays s a d made (renamed nothing (numbered number) p) =
       subst (λ m. ActSays s a d m (renamed nothing (numbered number) p)) call_is
-      (subst (λ q. ActSays s a d go.1.made q) (sym is) (act_says s reached q a here it are.1 go.0 go.1 lie seen lie_then)) in
+      (subst (λ q. ActSays s a d go.1.made q) (sym is) (act_says s q a go.0 go.1 lie seen lie_then)) in
       let tells_so : length p.lying ≤ d.tells =
       fewer (length p.lying) (length q.lying) d.tells
       (sym (length_map (lying_as (numbered number)) p.lying) ∙ ap (λ (z : Plain Output Waker). length z.lying) is)
       (tells_at s.world q d a.first go.1.chosen) in
       let says = call_says its b c t p now y2 call first known below tells acts_so in
       let behind : StandsAlike (standing a.left a.party) (does wakes_in d made q) =
-      subst (λ z. StandsAlike (standing a.left a.party) z) (sym go.1.so ∙ ap (λ (m : Call Output Waker). does wakes_in d m q) call_is) go.2 in
+      subst (λ z. StandsAlike (standing a.left a.party) z) (sym go.1.so ∙ ap (λ (m : Call Output Waker). does wakes_in d m q) call_is)
+      go.2 in
       let robs : RobsSame number s a c d b now t y2 call p tells tells_so theirs says step same =
       λ x x_is x_there found kept.
       is_robbed s.world a.left.world (standing s a.party) (standing a.left a.party) refl refl q here d made behind
       (record { run = x.run; waker = numbered number x.waker; at = renamed nothing (numbered number) x.at })
       (ap (λ (z : Plain Output Waker). searches wakes_in d made z) (sym is) ∙ x_there) kept
-      (theirs.keeper (record { run = x.run; waker = numbered number x.waker; at = renamed nothing (numbered number) x.at }) x_there found kept)
+      (theirs.keeper (record { run = x.run; waker = numbered number x.waker; at = renamed nothing (numbered number) x.at }) x_there found
+      kept)
       c.robs (of.0.robs x x_is found kept) in
       let takes = takes_alike number s a c d b now t y2 call p tells tells_so theirs says step same robs in
       let one = one_same number s a q go.0 go.1 lie seen lie_then p c call is of.0.made of.0.refused takes tells in

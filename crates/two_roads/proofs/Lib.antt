@@ -26,7 +26,5 @@ pub mod Refusing
 pub mod Meant
 pub mod Acted
 pub mod ActedToEnd
-pub mod ActTurns
 pub mod InStep
 pub mod InStepToEnd
-pub mod TickTurns

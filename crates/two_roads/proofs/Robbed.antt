@@ -1,6 +1,6 @@
 -- Whom the machine's run robs is seen in its own queues: of no other run's futures there are fewer behind the act.
-use Rattle.std.proofs.Common.{◌≡◌, ℕ, ◌<◌, ◌≤◌, ◌==◌, Bool, true, false, List, [], ◌∷◌, length, filter, map, slice_index_or, Some, refl, sym, ap}
-use Rattle.std.proofs.Common.{subst, ◌∙◌, arith}
+use Rattle.std.proofs.Common.{◌≡◌, ℕ, ◌<◌, ◌≤◌, ◌==◌, Bool, true, false, List, [], ◌∷◌, length, filter, slice_index_or, Some, refl, sym, ap}
+use Rattle.std.proofs.Common.{◌∙◌, arith}
 use Rattle.executor_model.specs.declared.op.Waker.{Waker}
 use Rattle.executor_model.specs.World.{Done, World, own_of}
 use Rattle.plain_scheduler.specs.State.{Choice, Due, Plain, Running}
@@ -74,7 +74,7 @@ is_robbed w v e g here there q stands d call behind x is kept some k fewer = by 
     by true same = same_number k d.robs same
     by false away =
         absurd (apart (length (own_of w k)) (length (own_of v k)) (length (filter (is_kept k) q.due))
-            (length (filter (is_kept k) (does wakes_in d call q).due))
-            (ap (λ (w : World). length (own_of w k)) (sym here) ∙ keep_in e q stands k)
-            (ap (λ (w : World). length (own_of w k)) (sym there) ∙ keep_in g (does wakes_in d call q) behind k)
-            (no_less wakes_in d call q x k is kept some away) fewer)
+        (length (filter (is_kept k) (does wakes_in d call q).due))
+        (ap (λ (w : World). length (own_of w k)) (sym here) ∙ keep_in e q stands k)
+        (ap (λ (w : World). length (own_of w k)) (sym there) ∙ keep_in g (does wakes_in d call q) behind k)
+        (no_less wakes_in d call q x k is kept some away) fewer)

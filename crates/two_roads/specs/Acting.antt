@@ -1,11 +1,11 @@
 -- Calls of the machine one inside another, as calls of the plain scheduler.
-use Rattle.std.specs.Prelude.{◌≡◌, ℕ, ◌<◌, Bool, true, false, List, [], ◌∷◌, length, Option, Some}
+use Rattle.std.specs.Prelude.{◌≡◌, ℕ, ◌<◌, true, List, [], ◌∷◌, length, Some}
 use Rattle.executor_model.specs.declared.op.Waker.{Waker}
 use Rattle.executor_model.specs.Steps.{Machine}
 use Rattle.executor_model.specs.World.{own_of}
 use Rattle.solo.specs.declared.names.SoloWaker.{SoloWaker}
-use Rattle.plain_scheduler.specs.State.{Choice, Code, Drop, Lose, Plain, Poll, PollOwn, Run, Taker}
-use Rattle.plain_scheduler.specs.Calls.{Call, DropExecutor, Ends, Pends, does}
+use Rattle.plain_scheduler.specs.State.{Choice, Plain}
+use Rattle.plain_scheduler.specs.Calls.{Call, DropExecutor, does}
 use Rattle.plain_scheduler.specs.Searches.{Search, finds, searches}
 use Rattle.plain_scheduler.specs.Usual.{IsKeptByOthers}
 use Rattle.machine_roads.specs.DropActs.{DropActAlike}
@@ -30,24 +30,6 @@ drop_acts_by s q (a ∷ acts) go = (go.1.choice, go.1.made) ∷ drop_acts_by a.l
 abbrev pub left_of : Machine → List Act → Machine
 left_of s [] = s
 left_of s (a ∷ acts) = left_of a.left acts
-
--- what a run takes next is chosen where its own future is pending, or where what it took before ends
-abbrev pub is_runs : {A : Type 0} → Taker A → Bool
-is_runs (Run r w) = true
-is_runs _ = false
-
-abbrev pub goes_on_in : {T A : Type 0} → List (Code T A) → Bool
-goes_on_in (Poll f by ∷ codes) = is_runs by
-goes_on_in (Drop f end by ∷ codes) = is_runs by
-goes_on_in (Lose awaiter (Some by) ∷ codes) = is_runs by
-goes_on_in (PollOwn r w ∷ codes) = true
-goes_on_in _ = false
-
--- so a run searches in a call, though it may be in vain
-abbrev pub seeks_for_run : {T A : Type 0} → Plain T A → Call T A → Bool
-seeks_for_run p Pends = goes_on_in p.inside
-seeks_for_run p Ends = goes_on_in p.inside
-seeks_for_run p _ = false
 
 -- fewer stand in a run's own queue behind an act
 abbrev pub IsRobbed : Machine → Act → ℕ → Type 0

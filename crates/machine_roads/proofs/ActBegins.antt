@@ -368,7 +368,8 @@ module _ (s : Machine) (reached : Reached s) (p : ℕ) (q : Plain Output Waker) 
       (poll_tick_runs (choice so.0) q t a)
       (stops_so (Tick t a) final below q e (does wakes (choice so.0) x q) so.1)
   one_begins (call.DropTick t) on may =
-      plainly (call.DropTick t) refl (plain_calls.DropTick t) (drop_tick t) (drop_inside (choice Granted) q t) (drop_runs (choice Granted) q t)
+      plainly (call.DropTick t) refl (plain_calls.DropTick t) (drop_tick t) (drop_inside (choice Granted) q t)
+      (drop_runs (choice Granted) q t)
       (tick_goes p here below s.world q under follows (choice Granted) t many)
   one_begins call.NewRun on may = λ hints all rests.
       let e = makes_run p here below s.world q under follows (choice Granted) hints all rests in

@@ -339,7 +339,8 @@ module _ (taker : Taker Waker) (final : Op) (p f : ℕ) (below : List Op) (w : W
       os : List Op
       os = op.Handle (handle_op.LetGo f) ∷ final ∷ below
 
-      by : (b : Bool) → w.is_static ≡ b → Way p end w1 (entry_goes b f ++ os) → Passes p taker final below q c.tells end ends_with behind_with
+      by : (b : Bool) → w.is_static ≡ b → Way p end w1 (entry_goes b f ++ os) → Passes p taker final below q c.tells end ends_with
+          behind_with
       by false owned way =
           let held : token (world.task w f) < (world.task w f).references =
           (next p end rests (op.Move move.Release f) w1 os refl way).has.1 in

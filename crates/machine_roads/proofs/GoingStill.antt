@@ -1,5 +1,5 @@
--- Behind the poll or the drop of a future that was taken turn, counts and list are as they were: until what takes goes on, or more user code
--- comes.
+-- Behind the poll or the drop of a future that was taken turn, counts and list are as they were: until what takes goes on, or more user
+-- code comes.
 use Rattle.std.proofs.Common.{◌≡◌, ℕ, ◌≤◌, ◌<◌, ◌++◌, ◌&&◌, not, Bool, true, false, List, [], ◌∷◌, length, Option, None, refl, ap, sym}
 use Rattle.std.proofs.Common.{subst, ◌∙◌}
 use Rattle.task_moves.specs.declared.moves.owed.Move.{Move}

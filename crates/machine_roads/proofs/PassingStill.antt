@@ -1,5 +1,5 @@
--- What comes behind the poll or the drop of a future that was taken, with what holds there of the world: as what takes goes on, that is still
--- so which all keep that comes before that.
+-- What comes behind the poll or the drop of a future that was taken, with what holds there of the world: as what takes goes on, that is
+-- still so which all keep that comes before that.
 use Rattle.std.proofs.Common.{◌≡◌, ℕ, ◌+◌, ◌++◌, true, List, [], ◌∷◌, length, Option, None, is_some, refl, sym, ap, subst, ◌∙◌, arith}
 use Rattle.executor_model.specs.declared.op.Op.{Op}
 use Rattle.executor_model.specs.declared.op.Op.TheVariants as op

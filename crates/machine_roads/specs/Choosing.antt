@@ -1,4 +1,4 @@
--- What the machine chooses in a call in which a run searches, and what a call leaves of the turn, and of how many futures runs have counted.
+-- What the machine chooses in a call in which a run searches, and what a call leaves of the turn, and of what runs have counted.
 use Rattle.std.specs.Prelude.{◌≡◌, ℕ, true, Some}
 use Rattle.executor_parts.specs.Marks.{first_of}
 use Rattle.executor_model.specs.declared.op.Waker.{Waker}

@@ -9,7 +9,7 @@ use Rattle.machine_roads.specs.Refused.{IsLaterAnew}
 use Rattle.machine_roads.specs.Road.{uncalled}
 use Rattle.machine_roads.specs.Seeing.{heard_in, shown as shown_alike}
 use Rattle.machine_roads.specs.View.{Output, wakes as wakes_in}
-use Rattle.machine_roads.specs.Within.{Act, ActsBy, standing}
+use Rattle.machine_roads.specs.Within.{Act, ActsBy, standing, start_in}
 use Rattle.two_roads.specs.Refusing.{asks_memory, ends_refused, refused_in, refused_so}
 use Rattle.two_roads.proofs.Acted.{first_at, seen_so}
 use Rattle.two_roads.proofs.InTurn.{turns_too}
@@ -19,7 +19,7 @@ use Rattle.two_roads.proofs.Inner.{seen_in}
 use Rattle.two_roads.proofs.Refusing.{Lie, lie_in, turns_seen}
 use Rattle.two_roads.proofs.Says.{ActSays}
 
-module _ (s : Machine) (q : Plain Output Waker) (a : Act) (r : Plain Output Waker) (by : ActsBy s a.party a.first q r a.left.world)
+module _ (s : Machine) (q : Plain Output Waker) (a : Act) (r : Plain Output Waker) (by : ActsBy s a.party a.first q r a.left.world (start_in s a))
     (lie : Lie s.world q) (seen : heard_in a.left.world.trace ≡ map shown_alike r.events) (lie_then : Lie a.left.world r) where
   -- by what is seen to be refused as by what is
   turns_by : turns_of wakes_in (record by.choice { refusal = refused_in s a }) by.made q ≡ turns_of wakes_in by.choice by.made q
@@ -40,7 +40,7 @@ module _ (s : Machine) (q : Plain Output Waker) (a : Act) (r : Plain Output Wake
   act_says = record {
     first = λ looks. first_at s.world q by.choice a.first (takes_begin s a.party a.first by.made by.is looks) by.chosen;
     usual = by.chooses.usual;
-    keeper = by.chooses.keeper;
+    robs = by.chooses.robs;
     counted = by.chooses.counted;
     turned = by.chooses.turns ∙ ap (λ n. turned n s.world.urgent_turns) (sym turns_by);
   }

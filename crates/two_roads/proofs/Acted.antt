@@ -19,7 +19,7 @@ use Rattle.machine_roads.specs.Refused.{IsLaterAnew}
 use Rattle.machine_roads.specs.Road.{uncalled}
 use Rattle.machine_roads.specs.Seeing.{heard_in, shown as shown_alike}
 use Rattle.machine_roads.specs.View.{Output, wakes as wakes_in}
-use Rattle.machine_roads.specs.Within.{Act, ActsBy, IsChosenAt, IsMade}
+use Rattle.machine_roads.specs.Within.{Act, ActsBy, IsChosenAt, IsMade, start_in}
 use Rattle.machine_roads.proofs.Lists.{clash}
 use Rattle.solo_laws.specs.Road.{wakes}
 use Rattle.two_roads.specs.Refusing.{asks_memory, ends_refused, refused_in, refused_so}
@@ -100,7 +100,7 @@ module _ {T A : Type 0} (wakes : A → Option ℕ) (c d : Choice) (p : Plain T A
 
 module _ {T X : Type 0} (number : X → ℕ) where
   -- one act
-  pub one_same : (s : Machine) (a : Act) (q r : Plain Output Waker) (by : ActsBy s a.party a.first q r a.left.world) → Lie s.world q
+  pub one_same : (s : Machine) (a : Act) (q r : Plain Output Waker) (by : ActsBy s a.party a.first q r a.left.world (start_in s a)) → Lie s.world q
       → heard_in a.left.world.trace ≡ map shown_alike r.events → Lie a.left.world r → (p : Plain T (SoloWaker X)) (c : Choice)
       (call : Call T (SoloWaker X)) → renamed nothing (numbered number) p ≡ q
       → IsMade s a.party a.first (call_as nothing (numbered number) call) → (asks_memory wakes c p call ≡ true → c.refusal ≡ refused_in s a)

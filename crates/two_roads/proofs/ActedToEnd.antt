@@ -19,7 +19,7 @@ use Rattle.solo_laws.specs.Dropping.{ends_one}
 use Rattle.solo_laws.specs.LastCalls.{After, Closes, LastCalls, Meanwhile, and_then, drops_output, first_drop, is_on_task, last_drop}
 use Rattle.solo_laws.specs.LastCalls.{meanwhile, next_drop, no_drop, on_task, over}
 use Rattle.solo_laws.specs.Road.{wakes}
-use Rattle.two_roads.specs.Acting.{AreOfSteps, EndOfSteps, drop_acts_by, left_of}
+use Rattle.two_roads.specs.Acting.{AreEndsOfSteps, EndOfSteps, drop_acts_by, left_of}
 use Rattle.two_roads.specs.Renaming.{renamed}
 use Rattle.two_roads.specs.Together.{nothing, numbered}
 use Rattle.two_roads.proofs.Acted.{IsAside, aside_alike, one_same}
@@ -112,7 +112,7 @@ module _ {F T X : Type 0} (its : ℕ → Lent) where
 
 module _ {T X : Type 0} (number : X → ℕ) where
   drop_acted : (s : Machine) (q : Plain Output Waker) (acts : List Act) (go : DropActAlike s q acts) (p : Plain T (SoloWaker X))
-      (cs : List (Choice × Call T (SoloWaker X))) → Lie s.world q → renamed nothing (numbered number) p ≡ q → AreOfSteps number s acts p cs
+      (cs : List (Choice × Call T (SoloWaker X))) → Lie s.world q → renamed nothing (numbered number) p ≡ q → AreEndsOfSteps number s acts p cs
       → AllAside cs p
       → renamed nothing (numbered number) (course wakes cs p) ≡ course wakes_in (drop_acts_by s q acts go) q
   drop_acted s q [] go p [] lie is are tell = is

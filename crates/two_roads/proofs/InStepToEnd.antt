@@ -41,10 +41,10 @@ module _ {F T X : Type 0} (its : ℕ → Lent) (number : X → ℕ) where
       → IsQuiet (left_by (start limit kind parties) acts).world.trace → IsAct (left_by (start limit kind parties) acts) a
       → a.first ≡ Begin a.party call.DropExecutor → AreDropActs a.left later → IsNew limit solo_kind first
       → counts solo_kind ≡ not (is_static_kind kind)
-      → Leads its cs (new_owner before) first (new limit (is_static_kind kind)) shown after middle
+      → (led : Leads its cs (new_owner before) first (new limit (is_static_kind kind)) shown after middle)
       → LastCalls its middle (course wakes cs (new limit (is_static_kind kind))) ends others last
       → (course wakes cs (new limit (is_static_kind kind))).inside ≡ []
-      → AreOfSteps number (start limit kind parties) acts (new limit (is_static_kind kind)) cs
+      → AreOfSteps number (start limit kind parties) acts led
       → EndOfSteps number a later (course wakes cs (new limit (is_static_kind kind))) ends
       → IsClosed its last (course wakes (cs ++ ends) (new limit (is_static_kind kind)))
       × (heard_in (left_of a.left later).world.trace ≡ as_heard number (shown ++ others))

@@ -9,6 +9,7 @@ ghost use Rattle.plain_scheduler.specs.Searches.{Search, finds, searches};
 ghost use Rattle.plain_scheduler.specs.Usual.{IsUsual, RobsAsUsual};
 ghost use Rattle.solo.specs.Lines.{mark_of_turn};
 ghost use Rattle.solo_laws.specs.Choosing.{SearchesAt};
+ghost use Rattle.solo_laws.specs.Counting.{counts_of};
 ghost use Rattle.solo_laws.specs.Courses.{Acts};
 ghost use Rattle.solo_laws.specs.Led.{IsLed};
 ghost use Rattle.solo_laws.specs.Making.{ActsFrom};
@@ -25,13 +26,12 @@ pub fn runs_search_alike<F, T, X>()
         → SearchesAt its owner c s x now z }
 {}
 
-/// And as long as no run has counted more than 63, each that takes a future there chooses as usual: it looks first at the mark that the
-/// executor's turn names, keeps as many of the next ones as a run of the plain scheduler usually does, and moves as many of another's.
+/// And a run that takes a future there chooses as usual: it looks first at the mark that the executor's turn names, keeps as many of the
+/// next ones as a run of the plain scheduler usually does, by what it has counted, and moves as many of another's.
 pub fn calls_choose_as_usual<F, T, X>()
     ensures { (its : ℕ → Lent) (owner : Owner) (c : Choice) (s : Solo F T X) (p : Plain T (SoloWaker X)) (now : Owner) (z : Solo F T X)
         (call : Call T (SoloWaker X)) (shown : List (Event T (SoloWaker X))) → IsLed its owner s p → length p.lying ≤ c.tells
-        → ((r : ℕ) → (owner.runner r).counted ≤ 63) → Acts its owner c s p call shown now z
-        → IsUsual wakes c (mark_of_turn s.lines.turn) (λ r. (owner.runner r).counted) call p }
+        → Acts its owner c s p call shown now z → IsUsual wakes c (mark_of_turn s.lines.turn) (counts_of owner) call p }
 {}
 
 /// And where it neither keeps any itself nor is one due that nobody keeps, it robs the first run that keeps any, in the order in which

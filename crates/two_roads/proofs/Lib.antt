@@ -27,3 +27,4 @@ pub mod Acted
 pub mod ActedToEnd
 pub mod InStep
 pub mod InStepToEnd
+pub mod Wished

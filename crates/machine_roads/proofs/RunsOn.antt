@@ -7,7 +7,7 @@ use Rattle.executor_parts.specs.Marks.{first_of, turn_after}
 use Rattle.executor_model.specs.declared.op.Op.{Op}
 use Rattle.executor_model.specs.declared.op.RunPoll.{RunPoll}
 use Rattle.executor_model.specs.declared.op.Waker.{Waker}
-use Rattle.executor_model.specs.World.{Done, World, done}
+use Rattle.executor_model.specs.World.{Done, World}
 use Rattle.plain_scheduler.specs.State.{ARun, Choice, Granted, Later, Plain, Refusal, Run, Running, Taker}
 use Rattle.plain_scheduler.specs.Lists.{any, or}
 use Rattle.plain_scheduler.specs.Moves.{is_due, is_kept}

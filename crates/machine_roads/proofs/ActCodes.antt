@@ -28,7 +28,7 @@ use Rattle.executor_laws.proofs.Termination.LoneEnds.{OthersRest}
 use Rattle.plain_scheduler.specs.State.{Choice, Closed, Code, Drop, End, Future, Granted, Lose, Plain, Poll}
 use Rattle.plain_scheduler.specs.State.{Taker}
 use Rattle.plain_scheduler.specs.Lists.{on}
-use Rattle.plain_scheduler.specs.Moves.{is_due, is_kept}
+use Rattle.plain_scheduler.specs.Moves.{is_kept}
 use Rattle.plain_scheduler.specs.Searches.{searches, searches_behind}
 use Rattle.plain_scheduler.specs.Moves as plain
 use Rattle.plain_scheduler.specs.Calls as plain_calls

@@ -1,22 +1,21 @@
 -- Of what a run keeps there is no less behind a call, unless another run robs it.
 use Rattle.std.proofs.Common.{◌≡◌, ℕ, ◌+◌, ◌≤◌, ◌==◌, nat_lt, cond, count_by, Bool, true, false, List, [], ◌∷◌, ◌++◌, length, filter, find}
-use Rattle.std.proofs.Common.{Option, Some, None, is_some, slice_get, slice_set, refl, sym, ap, subst, ◌∙◌, arith}
-use Rattle.std.proofs.lemmas.Bool.Decides.{nat_tests}
+use Rattle.std.proofs.Common.{Option, Some, None, slice_get, slice_set, refl, sym, ap, subst, ◌∙◌, arith}
 use Rattle.executor_parts.specs.declared.mark.Mark.{Mark}
 use Rattle.executor_parts.specs.declared.mark.Mark.TheVariants.{Plain as PlainMark, Urgent}
 use Rattle.executor_parts.specs.Marks.{other}
 use Rattle.task_moves.specs.AbstractTask as abstract
 use Rattle.task_moves.specs.AbstractTask.{Left}
-use Rattle.plain_scheduler.specs.State.{ARun, Choice, Close, Closed, Code, Drop, DropOwn, Drops, Due, End, Future, Lose, Plain, Poll, PollOwn}
-use Rattle.plain_scheduler.specs.State.{Polls, Run, Running, Taker, Tick, Try}
-use Rattle.plain_scheduler.specs.Lists.{any, each, on, or, repeat, without}
-use Rattle.plain_scheduler.specs.Moves.{appended, changed, chosen, enters, is_common, is_due, is_kept, is_run, keeps, let_go, looks, mark}
+use Rattle.plain_scheduler.specs.State.{ARun, Choice, Close, Closed, Code, Drop, DropOwn, Due, Lose, Plain, Poll, PollOwn}
+use Rattle.plain_scheduler.specs.State.{Polls, Run, Taker, Tick, Try}
+use Rattle.plain_scheduler.specs.Lists.{any, on, or, repeat, without}
+use Rattle.plain_scheduler.specs.Moves.{changed, chosen, enters, is_common, is_due, is_kept, is_run, keeps, let_go, looks, mark}
 use Rattle.plain_scheduler.specs.Moves.{moved, put, runs, see, task, tell, up}
 use Rattle.plain_scheduler.specs.Moves as moves
 use Rattle.plain_scheduler.specs.Takes as takes
 use Rattle.plain_scheduler.specs.Calls as calls
 use Rattle.plain_scheduler.specs.Calls.{Call, does}
-use Rattle.plain_scheduler.specs.Searches.{Search, behind_drop, behind_loss, behind_out, behind_pending, searches, searches_behind}
+use Rattle.plain_scheduler.specs.Searches.{Search, behind_loss, behind_out, behind_pending, searches, searches_behind}
 use Rattle.plain_scheduler.specs.Searches.{searches_inside, searches_of}
 use Rattle.plain_scheduler.specs.Usual.{IsKeptByOthers}
 use Rattle.plain_laws.proofs.Searching.{searching}
@@ -207,7 +206,8 @@ module _ {T A : Type 0} (j n : ℕ) where
         makes = λ x p good. record { many = good.many };
       }
 
-  some_without : (test : Due → Bool) → OthersAlone j n test → (p : Plain T A) → KeepsSome p → KeepsSome (record p { due = without test p.due })
+  some_without : (test : Due → Bool) → OthersAlone j n test → (p : Plain T A) → KeepsSome p → KeepsSome
+      (record p { due = without test p.due })
   some_without test others p good =
       record { many = subst (λ xs. n ≤ length xs) (sym (filter_without (is_kept j) test others p.due)) good.many }
 

@@ -1,5 +1,5 @@
 -- Which calls the owner of an executor may make where that and the plain scheduler stand alike, and that each of them happens.
-use Rattle.std.specs.Prelude.{◌≡◌, ℕ, suc, ◌+◌, ◌*◌, ◌<◌, ◌≤◌, Bool, true, false, if◌then◌else◌, List, [], ◌∷◌, length}
+use Rattle.std.specs.Prelude.{◌≡◌, ℕ, ◌+◌, ◌*◌, ◌<◌, Bool, true, false, if◌then◌else◌, List, [], ◌∷◌, length}
 use Rattle.std.specs.Prelude.{◌++◌, Option, Some, None}
 use Rattle.queue_steps.specs.ClosableQueue.{most_accepted}
 use Rattle.slab.specs.Slab.{get, HasRoomFor}
@@ -9,7 +9,6 @@ use Rattle.solo.specs.declared.names.SoloWaker.TheVariants.{Task as OfTask, Outs
 use Rattle.solo.specs.declared.owed.Lent.{Lent}
 use Rattle.solo.specs.declared.runs.Runner.{Runner}
 use Rattle.solo.specs.declared.solo.Solo.{Solo}
-use Rattle.solo.specs.declared.ticks.Ticker.{Ticker}
 use Rattle.solo.specs.OwnQueues.{count_of as count_of_own}
 use Rattle.solo.specs.Solo as solo
 use Rattle.plain_scheduler.specs.State.{ARun, ATick, AtOnce, Choice, Code, Drop, DropOwn, Event, Granted, Later, Lose, Plain, Poll, PollOwn}
@@ -19,8 +18,8 @@ use Rattle.plain_scheduler.specs.Calls.{Call, Cancel, Copy, Detach, DropExecutor
 use Rattle.plain_scheduler.specs.Calls.{Leak, NewRun, NewTick, Pends, PollHandle, PollRun, PollTick, Release, Spawn, TryTick, Use, Wake}
 use Rattle.plain_scheduler.specs.Calls.{does, is_granted}
 use Rattle.solo_laws.specs.Busy.{busy_in}
-use Rattle.solo_laws.specs.Courses.{Acts, Leads, Makes, copies, makes, polls, run_goes_on, run_looks, tick_lies_refused, tick_refused}
-use Rattle.solo_laws.specs.Courses.{tick_rests}
+use Rattle.solo_laws.specs.Courses.{Acts, Leads, Makes, copies, makes, makes_tick, polls, run_goes_on, run_looks, tick_lies_refused, tick_refused}
+use Rattle.solo_laws.specs.Courses.{leads, stays, tick_rests}
 use Rattle.solo_laws.specs.Numbered.{ticker_of}
 use Rattle.solo_laws.specs.Owner.{Owner, has_tick}
 use Rattle.solo_laws.specs.Road.{HasLife, IsNamed, is_in, wakes}
@@ -133,34 +132,53 @@ module _ {F T X : Type 0} (its : ℕ → Lent) (c : Choice) (s : Solo F T X) (p 
       RunsFrom its owner c y (behind stage rest call' before) runner w one two others now' z' on
   ActsFrom one two owner call shown now z how = Unit {0}
 
+  -- a tick that is made has this name
+  abbrev pub NamesTick : ℕ → (owner : Owner) (call : Call T (SoloWaker X)) (shown : List (Event T (SoloWaker X))) (now : Owner)
+      (z : Solo F T X) → Acts its owner c s p call shown now z → Type 0
+  NamesTick name owner call shown now z (makes_tick t new granted) = t ≡ name
+  NamesTick name owner call shown now z how = Unit {0}
+
+-- this is so of the waker by which a run is polled, in each user's code
+module _ {A : Type 0} (Is : A → Type 0) where
+  abbrev pub PolledBy : Taker A → Type 0
+  PolledBy (Run r w) = Is w
+  PolledBy by = Unit {0}
+
+  abbrev pub PolledIf : Option (Taker A) → Type 0
+  PolledIf (Some by) = PolledBy by
+  PolledIf None = Unit {0}
+
+module _ {T A : Type 0} (Is : A → Type 0) where
+  abbrev pub PolledIn : Code T A → Type 0
+  PolledIn (Poll f by) = PolledBy Is by
+  PolledIn (Drop f end by) = PolledBy Is by
+  PolledIn (Lose awaiter by) = PolledIf Is by
+  PolledIn (PollOwn r w) = Is w
+  PolledIn code = Unit {0}
+
+  abbrev pub EachPolledBy : List (Code T A) → Type 0
+  EachPolledBy [] = Unit {0}
+  EachPolledBy (code ∷ codes) = PolledIn code × EachPolledBy codes
+
 module _ {F T X : Type 0} (its : ℕ → Lent) (owner : Owner) (s : Solo F T X) (p : Plain T (SoloWaker X)) where
-  -- a task's waker is that of a future that came; so is that by which a run is polled
+  -- a task's waker is that of a future that came
   abbrev pub IsKnown : SoloWaker X → Type 0
   IsKnown (OfTask t) = IsNamed (named its) (length p.futures) t
   IsKnown (Outside w) = Unit {0}
 
-  abbrev pub IsKnownBy : Taker (SoloWaker X) → Type 0
-  IsKnownBy (Run r w) = IsKnown w
-  IsKnownBy by = Unit {0}
-
-  abbrev pub IsKnownIf : Option (Taker (SoloWaker X)) → Type 0
-  IsKnownIf (Some by) = IsKnownBy by
-  IsKnownIf None = Unit {0}
+  -- so are those by which runs are polled, in each user's code
+  abbrev pub WakersAreKnown : Type 0
+  WakersAreKnown = EachPolledBy IsKnown p.inside
 
   -- a user's code is there to end: the poll of a future, or of a run's own; or a drop
   abbrev pub MayPend : List (Code T (SoloWaker X)) → Type 0
-  MayPend (Poll f by ∷ rest) = IsKnownBy by
-  MayPend (PollOwn r w ∷ rest) = IsKnown w
+  MayPend (Poll f by ∷ rest) = Unit {0}
+  MayPend (PollOwn r w ∷ rest) = Unit {0}
   MayPend codes = ⊥
 
-  abbrev pub MayGive : List (Code T (SoloWaker X)) → Type 0
-  MayGive (Poll f by ∷ rest) = Unit {0}
-  MayGive (PollOwn r w ∷ rest) = Unit {0}
-  MayGive codes = ⊥
-
   abbrev pub MayEnd : List (Code T (SoloWaker X)) → Type 0
-  MayEnd (Drop f end by ∷ rest) = IsKnownBy by
-  MayEnd (Lose awaiter by ∷ rest) = IsKnownIf by
+  MayEnd (Drop f end by ∷ rest) = Unit {0}
+  MayEnd (Lose awaiter by ∷ rest) = Unit {0}
   MayEnd (DropOwn r answer ∷ rest) = Unit {0}
   MayEnd codes = ⊥
 
@@ -186,12 +204,12 @@ module _ {F T X : Type 0} (its : ℕ → Lent) (owner : Owner) (s : Solo F T X) 
   Allows refusal name (PollTick t w) = (has_tick t owner ≡ true) × IsKnown w
   Allows refusal name (DropTick t) = has_tick t owner ≡ true
   Allows refusal name NewRun = length p.runs < most_accepted
-  Allows refusal name (PollRun r w) = is_in r (busy_in p.inside) ≡ false
+  Allows refusal name (PollRun r w) = (is_in r (busy_in p.inside) ≡ false) × IsKnown w
   Allows refusal name (DropRun r) = is_in r (busy_in p.inside) ≡ false
   Allows refusal name Leak = p.is_static ≡ false
   Allows refusal name DropExecutor = ⊥
   Allows refusal name Pends = MayPend p.inside
-  Allows refusal name (EndsWith v) = MayGive p.inside
+  Allows refusal name (EndsWith v) = MayPend p.inside
   Allows refusal name Ends = MayEnd p.inside
 
   -- how many tasks a call may queue: a leak those of all entries, a run that goes those that it keeps
@@ -219,9 +237,41 @@ module _ {F T X : Type 0} (its : ℕ → Lent) (owner : Owner) (s : Solo F T X) 
     pub tells : length p.lying < choice.tells
     pub refused : choice.refusal ≡ acted_as its choice s p owner x.call shown now after x.refusal acts
     pub starts : ActsFrom its choice s p x.first x.second owner x.call shown now after acts
+    pub named_so : NamesTick its choice s p x.name owner x.call shown now after acts
 
   -- the next future's name is free: no task has its key, and no entry that of its place
   pub record NextIsFree : Type 0 where
     pub number : (named its (length p.futures)).number ≡ length p.futures
     pub key : get s.cells.slab (named its (length p.futures)).key ≡ None
     pub place : entry_at (its (length p.futures)).place.key s.table.entries ≡ None
+
+-- each future's number is the key of its task, and of its place
+abbrev pub by_number : ℕ → Lent
+by_number f = record { task = record { key = f; number = f }; place = record { key = f; stamp = 0 } }
+
+module _ {F T X : Type 0} (its : ℕ → Lent) where
+  -- each of these calls may be made where those before it have led, whatever was chosen in them
+  abbrev pub MayGo : List (Wish T (SoloWaker X)) → Owner → Solo F T X → Plain T (SoloWaker X) → Type 0
+  MayGo [] owner s p = Unit {0}
+  MayGo (x ∷ xs) owner s p =
+      MayCall its owner s p x
+      × ((it : Happens its owner s p x) → MayGo xs it.now it.after (does wakes it.choice x.call p))
+
+  -- a list of calls is of those, each as it is decided
+  abbrev pub AsWished : List (Wish T (SoloWaker X)) → (calls : List (Choice × Call T (SoloWaker X))) (owner : Owner) (s : Solo F T X)
+      (p : Plain T (SoloWaker X)) (shown : List (Event T (SoloWaker X))) (now : Owner) (z : Solo F T X)
+      → Leads its calls owner s p shown now z → Type 0
+  AsWished [] calls owner s p shown now z (stays owner' s' p') = Unit {0}
+  AsWished (x ∷ xs) calls owner s p shown now z (leads c call rest before mid after s' y z' p' one others tells acts on) =
+      (call ≡ x.call) × (c.refusal ≡ acted_as its c s' p' before call one mid y x.refusal acts)
+      × ActsFrom its c s' p' x.first x.second before call one mid y acts × NamesTick its c s' p' x.name before call one mid y acts
+      × AsWished xs rest mid y (does wakes c call p') others after z' on
+  AsWished xs calls owner s p shown now z how = ⊥
+
+  pub record Goes (xs : List (Wish T (SoloWaker X))) (owner : Owner) (s : Solo F T X) (p : Plain T (SoloWaker X)) : Type 0 where
+    pub calls : List (Choice × Call T (SoloWaker X))
+    pub shown : List (Event T (SoloWaker X))
+    pub now : Owner
+    pub after : Solo F T X
+    pub leads : Leads its calls owner s p shown now after
+    pub wished : AsWished xs calls owner s p shown now after leads

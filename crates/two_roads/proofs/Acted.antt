@@ -1,5 +1,5 @@
 -- A call by what its owner chooses is the machine's act, where both refuse and take alike.
-use Rattle.std.proofs.Common.{◌≡◌, ℕ, ◌<◌, ◌≤◌, nat_lt, not, Bool, true, false, List, [], ◌∷◌, length, map, Option, Some, None, refl, sym, ap, subst, ◌∙◌}
+use Rattle.std.proofs.Common.{◌≡◌, ℕ, ◌<◌, ◌≤◌, nat_lt, not, Bool, true, false, length, map, Option, Some, None, refl, sym, ap, subst, ◌∙◌}
 use Rattle.std.proofs.Common.{arith}
 use Rattle.executor_parts.specs.Marks.{first_of}
 use Rattle.executor_model.specs.declared.op.Waker.{Waker}
@@ -100,7 +100,8 @@ module _ {T A : Type 0} (wakes : A → Option ℕ) (c d : Choice) (p : Plain T A
 
 module _ {T X : Type 0} (number : X → ℕ) where
   -- one act
-  pub one_same : (s : Machine) (a : Act) (q r : Plain Output Waker) (by : ActsBy s a.party a.first q r a.left.world (start_in s a)) → Lie s.world q
+  pub one_same : (s : Machine) (a : Act) (q r : Plain Output Waker) (by : ActsBy s a.party a.first q r a.left.world (start_in s a)) → Lie
+      s.world q
       → heard_in a.left.world.trace ≡ map shown_alike r.events → Lie a.left.world r → (p : Plain T (SoloWaker X)) (c : Choice)
       (call : Call T (SoloWaker X)) → renamed nothing (numbered number) p ≡ q
       → IsMade s a.party a.first (call_as nothing (numbered number) call) → (asks_memory wakes c p call ≡ true → c.refusal ≡ refused_in s a)
@@ -177,4 +178,3 @@ module _ {T X : Type 0} (number : X → ℕ) where
             takes = refused_here wakes c by.choice p by.choice.refusal call takes;
           })
           ∙ (ap (λ (z : Plain Output Waker). does wakes_in by.choice same_call z) is ∙ so))
-

@@ -19,7 +19,7 @@ use Rattle.solo_laws.specs.Dropping.{ends_one}
 use Rattle.solo_laws.specs.LastCalls.{After, Closes, LastCalls, Meanwhile, and_then, drops_output, first_drop, is_on_task, last_drop}
 use Rattle.solo_laws.specs.LastCalls.{meanwhile, next_drop, no_drop, on_task, over}
 use Rattle.solo_laws.specs.Road.{wakes}
-use Rattle.two_roads.specs.Acting.{AreOfSteps, EndOfSteps, drop_acts_by, left_of}
+use Rattle.two_roads.specs.Acting.{AreEndsOfSteps, EndOfSteps, drop_acts_by, left_of}
 use Rattle.two_roads.specs.Renaming.{renamed}
 use Rattle.two_roads.specs.Together.{nothing, numbered}
 use Rattle.two_roads.proofs.Acted.{IsAside, aside_alike, one_same}
@@ -92,9 +92,11 @@ module _ {F T X : Type 0} (its : ℕ → Lent) where
       (shown : List (Event T (SoloWaker X))) → Closes its all gone left cs s p shown z → AllAside cs p
   closes_aside all gone left cs s z p shown (meanwhile g l c call rest t y u q shows others tells made on) =
       (meanwhile_aside c t q call shows y made, tells, closes_aside all g l rest y u (does wakes c call q) others on)
-  closes_aside all gone left cs s z p shown (next_drop g f l c rest inside t u q others is tells life on) =
-      (close_aside c q (f ∷ l) all inside is, tells,
-      closes_aside all (g ++ f ∷ []) l rest (closing.drained t) u (does wakes c calls.Ends q) others on)
+  closes_aside all gone left cs s z p shown (next_drop g f l c rest inside t u q others is tells life on) = (
+    close_aside c q (f ∷ l) all inside is,
+    tells,
+    closes_aside all (g ++ f ∷ []) l rest (closing.drained t) u (does wakes c calls.Ends q) others on,
+  )
   closes_aside all gone left cs s z p shown (last_drop g c rest inside t y u q shows others is tells life drains on) =
       (close_aside c q [] all inside is, tells, after_aside rest y u (does wakes c calls.Ends q) others on)
 
@@ -110,7 +112,8 @@ module _ {F T X : Type 0} (its : ℕ → Lent) where
 
 module _ {T X : Type 0} (number : X → ℕ) where
   drop_acted : (s : Machine) (q : Plain Output Waker) (acts : List Act) (go : DropActAlike s q acts) (p : Plain T (SoloWaker X))
-      (cs : List (Choice × Call T (SoloWaker X))) → Lie s.world q → renamed nothing (numbered number) p ≡ q → AreOfSteps number s acts p cs
+      (cs : List (Choice × Call T (SoloWaker X))) → Lie s.world q → renamed nothing (numbered number) p ≡ q → AreEndsOfSteps number s acts
+      p cs
       → AllAside cs p
       → renamed nothing (numbered number) (course wakes cs p) ≡ course wakes_in (drop_acts_by s q acts go) q
   drop_acted s q [] go p [] lie is are tell = is

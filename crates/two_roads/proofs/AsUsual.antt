@@ -1,14 +1,16 @@
 -- Two runs that take as both executors do, from the same plain state but for names, take alike.
-use Rattle.std.proofs.Common.{◌≡◌, ℕ, ◌-◌, ◌==◌, ◌++◌, Bool, true, false, List, [], find, count_by, is_some, cond, Option, Some, None, refl, sym, ap}
+use Rattle.std.proofs.Common.{◌≡◌, ℕ, ◌-◌, ◌==◌, ◌++◌, Bool, true, false, List, [], find, count_by, is_some, cond, Option, Some, None}
+use Rattle.std.proofs.Common.{refl, sym, ap}
 use Rattle.std.proofs.Common.{subst, ◌∙◌}
 use Rattle.executor_parts.specs.declared.mark.Mark.{Mark}
 use Rattle.executor_parts.specs.declared.mark.Mark.TheVariants.{Plain as PlainMark, Urgent}
 use Rattle.plain_scheduler.specs.State.{ARun, Choice, Due, Plain, Run}
-use Rattle.plain_scheduler.specs.Lists.{any, each, without}
-use Rattle.plain_scheduler.specs.Moves.{chosen, is_common, is_due, is_kept, keeps, looks, tell, up}
+use Rattle.plain_scheduler.specs.Lists.{any, without}
+use Rattle.plain_scheduler.specs.Moves.{chosen, is_common, is_kept, keeps, looks, up}
 use Rattle.plain_scheduler.specs.Takes as takes
 use Rattle.plain_scheduler.specs.Searches.{Search, finds}
-use Rattle.plain_scheduler.specs.Usual.{IsKeptByOthers, TakesAsUsual, beside, is_64th, keeping, next_ones, of_both, places, share, up_and_told}
+use Rattle.plain_scheduler.specs.Usual.{IsKeptByOthers, TakesAsUsual, beside, is_64th, keeping, next_ones, of_both, places, share}
+use Rattle.plain_scheduler.specs.Usual.{up_and_told}
 use Rattle.plain_scheduler.specs.Usual.{usual_keeps}
 use Rattle.plain_laws.proofs.TakesDue.{chosen_found}
 use Rattle.two_roads.specs.Renaming.{AreBothDue, IsNoneCommon, TakesSo}

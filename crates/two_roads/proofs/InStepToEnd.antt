@@ -1,5 +1,5 @@
 -- And so to the end: from the executor's drop on.
-use Rattle.std.proofs.Common.{◌≡◌, ℕ, ◌++◌, not, List, [], ◌∷◌, map, refl, sym, ap, subst, ◌∙◌}
+use Rattle.std.proofs.Common.{◌≡◌, ℕ, ◌++◌, not, List, [], map, sym, ap, subst, ◌∙◌}
 use Rattle.executor_model.specs.declared.call.Call.TheVariants as call
 use Rattle.executor_model.specs.declared.kind.Kind.{Kind as MachineKind}
 use Rattle.executor_model.specs.declared.op.Waker.{Waker}
@@ -41,10 +41,10 @@ module _ {F T X : Type 0} (its : ℕ → Lent) (number : X → ℕ) where
       → IsQuiet (left_by (start limit kind parties) acts).world.trace → IsAct (left_by (start limit kind parties) acts) a
       → a.first ≡ Begin a.party call.DropExecutor → AreDropActs a.left later → IsNew limit solo_kind first
       → counts solo_kind ≡ not (is_static_kind kind)
-      → Leads its cs (new_owner before) first (new limit (is_static_kind kind)) shown after middle
+      → (led : Leads its cs (new_owner before) first (new limit (is_static_kind kind)) shown after middle)
       → LastCalls its middle (course wakes cs (new limit (is_static_kind kind))) ends others last
       → (course wakes cs (new limit (is_static_kind kind))).inside ≡ []
-      → AreOfSteps number (start limit kind parties) acts (new limit (is_static_kind kind)) cs
+      → AreOfSteps number (start limit kind parties) acts led
       → EndOfSteps number a later (course wakes cs (new limit (is_static_kind kind))) ends
       → IsClosed its last (course wakes (cs ++ ends) (new limit (is_static_kind kind)))
       × (heard_in (left_of a.left later).world.trace ≡ as_heard number (shown ++ others))

@@ -1,6 +1,6 @@
 -- What a call takes of turns, what runs have counted behind it, and how a run takes in it, is the same in both.
-use Rattle.std.proofs.Common.{◌≡◌, ℕ, ◌==◌, ◌&&◌, not, Bool, true, false, cond, List, [], ◌∷◌, length, map, find, is_some, Option, Some, None}
-use Rattle.std.proofs.Common.{refl, sym, ap, subst, ◌∙◌, arith}
+use Rattle.std.proofs.Common.{◌≡◌, ℕ, ◌==◌, ◌&&◌, not, Bool, true, false, cond, List, [], ◌∷◌, map, find, is_some, Option, Some, None}
+use Rattle.std.proofs.Common.{refl, sym, ap, subst, ◌∙◌}
 use Rattle.std.specs.Option.{option_map}
 use Rattle.executor_parts.specs.declared.mark.Mark.{Mark}
 use Rattle.executor_parts.specs.declared.mark.Mark.TheVariants.{Plain as PlainMark, Urgent}
@@ -10,13 +10,13 @@ use Rattle.plain_scheduler.specs.Moves.{is_common, is_kept, lies}
 use Rattle.plain_scheduler.specs.Calls as calls
 use Rattle.plain_scheduler.specs.Calls.{Call}
 use Rattle.plain_scheduler.specs.Searches.{Search, finds, searches, searches_inside}
-use Rattle.plain_scheduler.specs.Turns.{tick_turns, turns_of}
+use Rattle.plain_scheduler.specs.Turns.{turns_of}
 use Rattle.plain_scheduler.specs.Usual.{IsKeptByOthers, IsUsual, TakesAsUsual, counted_by, lies_uncalled, one_counted, run_turns}
 use Rattle.plain_scheduler.specs.Usual.{searches_by, vain_turns}
 use Rattle.plain_laws.proofs.Searching.{tell_it}
 use Rattle.machine_roads.specs.Refused.{in_vain}
 use Rattle.two_roads.specs.Refusing.{asks_memory}
-use Rattle.two_roads.specs.Renaming.{SearchesAlike, TakesSo, call_as, code_as, lying_as}
+use Rattle.two_roads.specs.Renaming.{SearchesAlike, TakesSo, call_as, lying_as}
 use Rattle.two_roads.proofs.AsUsual.{take_alike}
 use Rattle.two_roads.proofs.Moving.{Few, Setting, now}
 use Rattle.two_roads.proofs.Sought.{Sought, both_search, none_searches, search_as, sought_alike}

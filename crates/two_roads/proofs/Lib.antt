@@ -16,7 +16,6 @@ pub mod Says
 pub mod ActSays
 pub mod CallSays
 pub mod StepAlike
-pub mod Robbed
 pub mod Plainly
 pub mod PlainCalls
 pub mod Both
@@ -26,7 +25,5 @@ pub mod Refusing
 pub mod Meant
 pub mod Acted
 pub mod ActedToEnd
-pub mod ActTurns
 pub mod InStep
 pub mod InStepToEnd
-pub mod TickTurns

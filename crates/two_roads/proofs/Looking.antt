@@ -1,5 +1,6 @@
 -- At which due future is looked, by tests one after the other.
-use Rattle.std.proofs.Common.{◌≡◌, ℕ, ◌==◌, ◌&&◌, not, is_some, cond, Bool, true, false, List, [], ◌∷◌, find, Option, Some, refl, sym, ap, ◌∙◌}
+use Rattle.std.proofs.Common.{◌≡◌, ℕ, ◌==◌, ◌&&◌, not, is_some, cond, Bool, true, false, List, [], ◌∷◌, find, Option, Some, refl, sym, ap}
+use Rattle.std.proofs.Common.{◌∙◌}
 use Rattle.executor_parts.specs.declared.mark.Mark.{Mark}
 use Rattle.executor_parts.specs.declared.mark.Mark.TheVariants.{Plain as PlainMark, Urgent}
 use Rattle.executor_parts.specs.Marks.{other, same_mark}
@@ -110,7 +111,7 @@ module _ (c d : Choice) (r : ℕ) (due : List Due) (first : any (is_kept r) due 
   of_none : (m : Mark) → test ≡ chosen (is_common m ∷ is_common (other m) ∷ []) due → RobsLast
   of_none m is one found k keeper apart =
       absurd (by (any (is_common m) due) (any (is_common (other m)) due)
-          (ap (λ (f : Due → Bool). f one) (sym is) ∙ found_passes test due one found))
+      (ap (λ (f : Due → Bool). f one) (sym is) ∙ found_passes test due one found))
     where
       common : (m : Mark) → is_common m one ≡ true → ⊥
       common m passes = clash (ap (λ (o : Option ℕ). not (is_some o) && same_mark m one.mark) keeper) passes

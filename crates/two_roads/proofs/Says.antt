@@ -1,5 +1,5 @@
 -- What an act of the machine, and a call of the executor of one owner, say of what they choose, count and turn.
-use Rattle.std.specs.Prelude.{◌≡◌, ℕ, true, Option, Some}
+use Rattle.std.specs.Prelude.{◌≡◌, ℕ, true, Some}
 use Rattle.executor_parts.specs.Marks.{first_of}
 use Rattle.executor_model.specs.declared.op.Waker.{Waker}
 use Rattle.executor_model.specs.Steps.{Machine}
@@ -8,15 +8,13 @@ use Rattle.solo.specs.declared.names.SoloWaker.{SoloWaker}
 use Rattle.solo.specs.declared.solo.Solo.{Solo}
 use Rattle.solo.specs.Lines.{mark_of_turn}
 use Rattle.plain_scheduler.specs.State.{Choice, Plain}
-use Rattle.plain_scheduler.specs.Lists.{any}
-use Rattle.plain_scheduler.specs.Moves.{is_kept}
 use Rattle.plain_scheduler.specs.Calls.{Call}
 use Rattle.plain_scheduler.specs.Searches.{Search, finds, searches}
 use Rattle.plain_scheduler.specs.Turns.{turned_in, turns_of}
-use Rattle.plain_scheduler.specs.Usual.{IsKeptByOthers, IsUsual, counted_by, turned}
+use Rattle.plain_scheduler.specs.Usual.{IsUsual, RobsAsUsual, counted_by, turned}
 use Rattle.plain_laws.specs.Searches.{looks_first}
 use Rattle.machine_roads.specs.View.{Output, wakes as wakes_in}
-use Rattle.machine_roads.specs.Within.{Act}
+use Rattle.machine_roads.specs.Within.{Act, start_in}
 use Rattle.solo_laws.specs.Counting.{counts_of}
 use Rattle.solo_laws.specs.Owner.{Owner}
 use Rattle.solo_laws.specs.Road.{wakes}
@@ -29,9 +27,9 @@ has_counted w r = (run_of w r).counted
 pub record ActSays (s : Machine) (a : Act) (d : Choice) (made : Call Output Waker) (q : Plain Output Waker) : Type 0 where
   pub first : looks_first made ≡ true → d.first ≡ first_of s.world.urgent_turns
   pub usual : IsUsual wakes_in d (first_of s.world.urgent_turns) (has_counted s.world) made q
-  -- whom a run robs keeps one
-  pub keeper : (x : Search Output Waker) → searches wakes_in d made q ≡ Some x → finds x ≡ true → IsKeptByOthers x.run x.at.due
-      → any (is_kept d.robs) x.at.due ≡ true
+  -- a run that robs looks for whom in the list of queues, from where the act reads that
+  pub robs : (x : Search Output Waker) → searches wakes_in d made q ≡ Some x → finds x ≡ true
+      → RobsAsUsual wakes_in d s.world.listed (start_in s a) x
   pub counted : (k : ℕ) → has_counted a.left.world k ≡ counted_by wakes_in d made q (has_counted s.world) k
   pub turned : a.left.world.urgent_turns
       ≡ turned (turns_of wakes_in (record d { refusal = refused_in s a }) made q) s.world.urgent_turns

@@ -1,5 +1,6 @@
 -- An act and a call that say so of what they choose take alike, and leave counts and turns in step.
-use Rattle.std.proofs.Common.{◌≡◌, ℕ, zero, suc, ◌+◌, ◌^◌, ◌%◌, ◌==◌, ◌≤◌, Bool, true, false, Option, Some, length, refl, sym, ap, subst, ◌∙◌}
+use Rattle.std.proofs.Common.{◌≡◌, ℕ, zero, suc, ◌+◌, ◌^◌, ◌%◌, ◌==◌, ◌≤◌, Bool, true, false, List, [], ◌∷◌, map, Some, length, refl, sym}
+use Rattle.std.proofs.Common.{ap, subst, ◌∙◌}
 use Rattle.std.proofs.Common.{arith}
 use Rattle.std.proofs.lemmas.Bool.Decides.{nat_tests}
 use Rattle.executor_parts.specs.Marks.{first_of, turn_after}
@@ -10,21 +11,22 @@ use Rattle.solo.specs.declared.names.SoloWaker.{SoloWaker}
 use Rattle.solo.specs.declared.solo.Solo.{Solo}
 use Rattle.solo.specs.Cells.{choose}
 use Rattle.solo.specs.Lines.{mark_of_turn}
-use Rattle.plain_scheduler.specs.State.{Choice, Plain, Refusal}
+use Rattle.plain_scheduler.specs.State.{Choice, Close, Code, Drop, DropOwn, Lose, Plain, Poll, PollOwn, Refusal}
 use Rattle.plain_scheduler.specs.Calls as calls
 use Rattle.plain_scheduler.specs.Calls.{Call}
 use Rattle.plain_scheduler.specs.Searches.{Search, finds, searches}
 use Rattle.plain_scheduler.specs.Turns.{turned_in, turns_of}
-use Rattle.plain_scheduler.specs.Usual.{IsKeptByOthers, turned}
+use Rattle.plain_scheduler.specs.Usual.{IsKeptByOthers, RobsAsUsual, first_keeper, from_start, order_by, order_in, turned}
 use Rattle.plain_laws.specs.Searches.{looks_first}
 use Rattle.plain_laws.proofs.Searching.{tell_it}
 use Rattle.machine_roads.specs.View.{Output, wakes as wakes_in}
-use Rattle.machine_roads.specs.Within.{Act}
+use Rattle.machine_roads.specs.Within.{Act, start_in}
 use Rattle.solo_laws.specs.Counting.{counts_of}
+use Rattle.solo_laws.specs.Ordering.{order_of}
 use Rattle.solo_laws.specs.Owner.{Owner}
 use Rattle.solo_laws.specs.Road.{wakes}
 use Rattle.two_roads.specs.Refusing.{asks_memory, refused_in}
-use Rattle.two_roads.specs.Renaming.{CallsAlike, SearchesAlike, call_as, renamed}
+use Rattle.two_roads.specs.Renaming.{CallsAlike, SearchesAlike, call_as, code_as, renamed}
 use Rattle.two_roads.specs.Together.{nothing, numbered}
 use Rattle.two_roads.proofs.Both.{wakes_so}
 use Rattle.two_roads.proofs.Calling.{setting}
@@ -56,7 +58,7 @@ module _ {F T X : Type 0} (number : X → ℕ) (s : Machine) (a : Act) (c d : Ch
     (call : Call T (SoloWaker X)) (p : Plain T (SoloWaker X)) (tells : length p.lying ≤ c.tells) (tells_so : length p.lying ≤ d.tells)
     (theirs : ActSays s a d (call_as nothing (numbered number) call) (renamed nothing (numbered number) p))
     (its : CallSays c before behind y z call p) (step : IsInStep s.world.urgent_turns y.lines.turn)
-    (same : (k : ℕ) → has_counted s.world k ≡ counts_of before k) where
+    (same : (k : ℕ) → has_counted s.world k ≡ counts_of before k) (ordered : s.world.listed ≡ order_of y) where
   abbrev call_there : Call Output Waker
   call_there = call_as nothing (numbered number) call
 
@@ -75,13 +77,13 @@ module _ {F T X : Type 0} (number : X → ℕ) (s : Machine) (a : Act) (c d : Ch
   marks : mark_of_turn y.lines.turn ≡ first_of s.world.urgent_turns
   marks = same_mark s.world.urgent_turns (y.lines.turn % 8) step
 
-  abbrev pub RobsSame : Type 0
-  RobsSame =
-      (x : Search T (SoloWaker X)) → searches wakes c call p ≡ Some x
-      → searches wakes_in d call_there there ≡ Some (search_as (by_refusal c.refusal) x) → finds x ≡ true
-      → IsKeptByOthers x.run x.at.due → c.robs ≡ d.robs
+  -- the executor's run looks for whom it robs from where the machine's does
+  abbrev pub RobsFrom : Type 0
+  RobsFrom =
+      (x : Search T (SoloWaker X)) → searches wakes c call p ≡ Some x → finds x ≡ true → IsKeptByOthers x.run x.at.due
+      → RobsAsUsual wakes c (order_of y) (start_in s a) x
 
-  searched : RobsSame → SearchesAlike c d wakes p call
+  searched : RobsFrom → SearchesAlike c d wakes p call
   searched robs x is found =
       let k : Setting T Output (SoloWaker X) Waker = by_refusal c.refusal in
       let one =
@@ -90,12 +92,14 @@ module _ {F T X : Type 0} (number : X → ℕ) (s : Machine) (a : Act) (c d : Ch
       (usual_too wakes c c.refusal (mark_of_turn y.lines.turn) (counts_of before) call p its.usual)
       (usual_too wakes_in d c.refusal (first_of s.world.urgent_turns) (has_counted s.world) call_there there theirs.usual)
       (λ x is is_there found kept.
-      robs x (tell_it wakes c (record c { refusal = c.refusal }) call p refl ∙ is)
-      (tell_it wakes_in d (record d { refusal = c.refusal }) call_there there refl ∙ is_there) found kept)
+      robs x (tell_it wakes c (record c { refusal = c.refusal }) call p refl ∙ is) found kept kept
+      ∙ (ap (λ order. first_keeper (from_start (start_in s a) order) x.at.due) (sym ordered)
+      ∙ sym
+      (theirs.robs (search_as k x) (tell_it wakes_in d (record d { refusal = c.refusal }) call_there there refl ∙ is_there) found kept)))
       x (tell_it wakes (record c { refusal = c.refusal }) c call p refl ∙ is) found in
       record { keeps = one.keeps; first = one.first; robs = one.robs; moves = one.moves }
 
-  pub takes_alike : RobsSame → CallsAlike c d wakes p call
+  pub takes_alike : RobsFrom → CallsAlike c d wakes p call
   takes_alike robs = by call refl
     where
       looks : (o : Call T (SoloWaker X)) → call ≡ o → looks_first o ≡ true → c.first ≡ d.first
@@ -139,3 +143,23 @@ module _ {F T X : Type 0} (number : X → ℕ) (s : Machine) (a : Act) (c d : Ch
 
       as_many : turns_of wakes_in (record d { refusal = refused_in s a }) call_there there ≡ many
       as_many = turns_as (by_refusal (refused_in s a)) call p (least (length p.lying)) ∙ by (asks_memory wakes c p call) refl
+
+  pub order_next : a.left.world.listed ≡ order_by call_there there s.world.listed → order_of z ≡ order_by call p (order_of y)
+      → a.left.world.listed ≡ order_of z
+  order_next one two = one ∙ (orders_as call ∙ (ap (order_by call p) ordered ∙ sym two))
+    where
+      order_in_as : (codes : List (Code T (SoloWaker X))) (order : List ℕ)
+          → order_in (map (code_as nothing (numbered number)) codes) order ≡ order_in codes order
+      order_in_as [] order = refl
+      order_in_as (Poll f by ∷ codes) order = refl
+      order_in_as (Drop f end by ∷ codes) order = refl
+      order_in_as (Lose awaiter by ∷ codes) order = refl
+      order_in_as (PollOwn r w ∷ codes) order = refl
+      order_in_as (DropOwn r answer ∷ codes) order = refl
+      order_in_as (Close fs all ∷ codes) order = refl
+
+      orders_as : (call : Call T (SoloWaker X))
+          → order_by (call_as nothing (numbered number) call) there s.world.listed ≡ order_by call p s.world.listed
+      orders_as (calls.PollRun r w) = refl
+      orders_as calls.Ends = order_in_as p.inside s.world.listed
+      orders_as _ = refl

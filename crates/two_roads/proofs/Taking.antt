@@ -1,11 +1,8 @@
 -- And so it is with a future that is taken, with what becomes of it, and with what then goes on.
-use Rattle.std.proofs.Common.{◌≡◌, ℕ, suc, ◌+◌, ◌==◌, ◌≤◌, ◌&&◌, not, is_some, nat_lt, cond, Bool, true, false, List, [], ◌∷◌, ◌++◌, length}
+use Rattle.std.proofs.Common.{◌≡◌, ℕ, suc, ◌+◌, ◌==◌, ◌≤◌, nat_lt, cond, Bool, true, false, List, [], ◌∷◌, ◌++◌, length}
 use Rattle.std.proofs.Common.{map, find}
 use Rattle.std.proofs.Common.{Option, Some, None, slice_get, refl, sym, ap, subst, ◌∙◌}
 use Rattle.std.specs.Option.{option_map}
-use Rattle.executor_parts.specs.declared.mark.Mark.{Mark}
-use Rattle.executor_parts.specs.declared.mark.Mark.TheVariants.{Plain as PlainMark, Urgent}
-use Rattle.executor_parts.specs.Marks.{other, same_mark}
 use Rattle.task_moves.specs.AbstractTask as abstract
 use Rattle.task_moves.specs.AbstractTask.{AbstractTask, Left}
 use Rattle.plain_scheduler.specs.State.{Answer, Answers, ARun, ATick, AtOnce, Calls, Choice, Closed, Done, Drop, Drops, Due, End, Event}
@@ -14,13 +11,12 @@ use Rattle.plain_scheduler.specs.State.{Granted, Later, Lose, Loses, Lying, No, 
 use Rattle.plain_scheduler.specs.State.{Run}
 use Rattle.plain_scheduler.specs.State.{Taker, Tick, Try, Who, Yes}
 use Rattle.plain_scheduler.specs.Lists.{any, each, on, or, repeat, without}
-use Rattle.plain_scheduler.specs.Moves.{answers, called, chosen, copied, enters, is_common, is_due, is_kept, is_run, keeps, let_go, lies}
+use Rattle.plain_scheduler.specs.Moves.{answers, called, chosen, copied, enters, is_common, is_due, is_kept, keeps, let_go, lies}
 use Rattle.plain_scheduler.specs.Moves.{looks, put}
 use Rattle.plain_scheduler.specs.Moves.{runs, see, task, tell, up, wake}
 use Rattle.plain_scheduler.specs.Takes as takes
-use Rattle.machine_roads.proofs.Lists.{clash}
 use Rattle.machine_roads.proofs.RunLies.{none_due}
-use Rattle.two_roads.specs.Renaming.{FirstAlike, IsNoneCommon, TakesSo}
+use Rattle.two_roads.specs.Renaming.{FirstAlike, TakesSo}
 use Rattle.two_roads.specs.Renaming.{answer_as, end_as, event_as, lying_as, taker_as}
 use Rattle.two_roads.proofs.Looking.{looked, looks_alike}
 use Rattle.two_roads.proofs.Words.{find_map, map_append, without_map}

@@ -23,7 +23,7 @@ ghost use Rattle.solo_laws.specs.LastCalls.{LastCalls};
 ghost use Rattle.solo_laws.specs.Owner.{Owner, new_owner};
 ghost use Rattle.solo_laws.specs.Road.{wakes};
 ghost use Rattle.solo_laws.specs.Tabled.{Stands};
-ghost use Rattle.two_roads.specs.Acting.{AreActed, AreOfSteps, EndActed, EndOfSteps, acts_by, drop_acts_by, left_of};
+ghost use Rattle.two_roads.specs.Acting.{AreOfSteps, EndOfSteps, acts_by, drop_acts_by, left_of};
 ghost use Rattle.two_roads.specs.Renaming.{AreSame};
 ghost use Rattle.two_roads.specs.Together.{TellsOf, as_heard, left_by, made_by, nothing, numbered};
 
@@ -96,16 +96,17 @@ pub fn nested_calls_end_alike<F, T, X>()
 
 /// And so each list of such acts of a new machine tells of what a list of calls of a new executor of one owner shows, where each of these
 /// calls is what the machine's step begins, or the answer of a poll or the end of a drop that the step has; where a call that asks for
-/// memory is refused it as the machine's trace and world say of the act; and where a run that robs another of a future robs one that a
-/// run of the machine robs in the act. Nothing else is asked: both then take as many turns in each call, runs count as many futures, and
-/// so each looks first at the mark, and keeps and moves as many futures, as the other.
+/// memory is refused it as the machine's trace and world say of the act; and where a run that robs another of a future looks for whom from
+/// the same word on as the machine's run in the act. Nothing else is asked: both then take as many turns in each call, their runs count as
+/// many futures, and the own queues stand in the same order; so each looks first at the mark, keeps and moves as many futures, and robs
+/// whom the other does.
 pub fn calls_show_alike<F, T, X>()
     ensures { (its : ℕ → Lent) (number : X → ℕ) (limit : ℕ) (kind : MachineKind) (solo_kind : Kind) (parties : ℕ) (acts : List Act)
         (calls : List (Choice × Call T (SoloWaker X))) (first last : Solo F T X) (shown : List (Event T (SoloWaker X)))
         (before : Who → ℕ) (after : Owner) → AreActs (start limit kind parties) acts
         → IsNew limit solo_kind first → counts solo_kind ≡ not (is_static_kind kind)
-        → Leads its calls (new_owner before) first (new limit (is_static_kind kind)) shown after last
-        → AreOfSteps number (start limit kind parties) acts (new limit (is_static_kind kind)) calls
+        → (led : Leads its calls (new_owner before) first (new limit (is_static_kind kind)) shown after last)
+        → AreOfSteps number (start limit kind parties) acts led
         → Stands its last (course wakes calls (new limit (is_static_kind kind)))
         × (heard_in (left_of (start limit kind parties) acts).world.trace ≡ as_heard number shown) }
 {}
@@ -119,10 +120,10 @@ pub fn calls_end_alike<F, T, X>()
         → IsQuiet (left_by_acts (start limit kind parties) acts).world.trace → IsAct (left_by_acts (start limit kind parties) acts) a
         → a.first ≡ Begin a.party DropsExecutor → AreDropActs a.left later → IsNew limit solo_kind first
         → counts solo_kind ≡ not (is_static_kind kind)
-        → Leads its calls (new_owner before) first (new limit (is_static_kind kind)) shown after middle
+        → (led : Leads its calls (new_owner before) first (new limit (is_static_kind kind)) shown after middle)
         → LastCalls its middle (course wakes calls (new limit (is_static_kind kind))) ends others last
         → (course wakes calls (new limit (is_static_kind kind))).inside ≡ []
-        → AreOfSteps number (start limit kind parties) acts (new limit (is_static_kind kind)) calls
+        → AreOfSteps number (start limit kind parties) acts led
         → EndOfSteps number a later (course wakes calls (new limit (is_static_kind kind))) ends
         → IsClosed its last (course wakes (calls ++ ends) (new limit (is_static_kind kind)))
         × (heard_in (left_of a.left later).world.trace ≡ as_heard number (shown ++ others)) }

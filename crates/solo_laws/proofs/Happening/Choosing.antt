@@ -1,9 +1,8 @@
 -- What there is to choose in a call, and that a call of a task, a spawn or a try happens so.
-use Rattle.std.proofs.Common.{◌≡◌, ◌≢◌, ℕ, zero, suc, ◌+◌, ◌*◌, ◌<◌, ◌≤◌, nat_lt, if◌then◌else◌, Bool, true, false, List, [], ◌∷◌, ◌++◌}
-use Rattle.std.proofs.Common.{length, Option, Some, None, Ok, Err, slice_index_or, refl, sym, ap, subst, ◌∙◌, arith}
+use Rattle.std.proofs.Common.{◌≡◌, ◌≢◌, ℕ, zero, suc, ◌*◌, ◌<◌, ◌≤◌, nat_lt, Bool, true, false, List, [], ◌∷◌, ◌++◌}
+use Rattle.std.proofs.Common.{length, Option, Some, None, Ok, slice_index_or, refl, sym, ap, subst, ◌∙◌, arith}
 use Rattle.std.proofs.lemmas.Bool.Decides.{nat_tests}
 use Rattle.queue_steps.specs.ClosableQueue.{most_accepted}
-use Rattle.slab.specs.Slab.{Slab, Updates, get}
 use Rattle.executor_parts.specs.declared.mark.Mark.{Mark}
 use Rattle.solo.specs.declared.names.Task.{Task}
 use Rattle.solo.specs.declared.names.SoloWaker.{SoloWaker}
@@ -24,9 +23,9 @@ use Rattle.plain_scheduler.specs.State.{AtOnce, Choice, Event, Granted, Later, P
 use Rattle.plain_scheduler.specs.Moves.{task}
 use Rattle.plain_scheduler.specs.Calls as plain
 use Rattle.plain_scheduler.specs.Calls.{Call, is_granted}
-use Rattle.solo_laws.specs.Courses.{Acts, Makes, cancels, copies, detaches, drops_handle, leaks, looks, makes, polls, refuses, releases, spawns}
+use Rattle.solo_laws.specs.Courses.{Makes, cancels, copies, detaches, drops_handle, leaks, looks, makes, polls, refuses, releases, spawns}
 use Rattle.solo_laws.specs.Courses.{takes, uses, wakes}
-use Rattle.solo_laws.specs.Making.{Happens, HasNoRoom, IsKnown, MayCall, NextIsFree, Wish, copy_refusal, made_as}
+use Rattle.solo_laws.specs.Making.{Happens, HasNoRoom, IsKnown, NextIsFree, Wish, copy_refusal, made_as}
 use Rattle.solo_laws.specs.Owner.{Owner}
 use Rattle.solo_laws.specs.Road.{HasLife, IsNamed}
 use Rattle.solo_laws.specs.Tabled.{Stands, named}
@@ -86,6 +85,7 @@ module _ {F T X : Type 0} (its : ℕ → Lent) (future : F) (owner : Owner) (s :
     tells = one_more (length p.lying);
     refused = heeds;
     starts = tt;
+    named_so = tt;
   }
 
   abbrev next : Lent
@@ -142,9 +142,10 @@ module _ {F T X : Type 0} (its : ℕ → Lent) (future : F) (owner : Owner) (s :
           → Happens its owner s p (wish (plain.Spawn mark))
       no_memory is refused =
           is_made refusal (plain.Spawn mark) _ s
-          (refuses mark future (NoMemory future) s
-          ((refl, below_limit (length s.table.entries) s.table.limit is, full refused, record { table = refl; slots = refl; key = refl }),
-          refl) (λ memory. refused)) refl
+          (refuses mark future (NoMemory future) s (
+            (refl, below_limit (length s.table.entries) s.table.limit is, full refused, record { table = refl; slots = refl; key = refl }),
+            refl,
+          ) (λ memory. refused)) refl
 
       by : (b : Bool) → nat_lt (length s.table.entries) s.table.limit ≡ b → (r : Refusal) → refusal ≡ r
           → Happens its owner s p (wish (plain.Spawn mark))
@@ -172,7 +173,8 @@ module _ {F T X : Type 0} (its : ℕ → Lent) (future : F) (owner : Owner) (s :
   pub poll_happens : (f : ℕ) (w : SoloWaker X) → f < length p.futures → (task f p).handle ≡ true → IsKnown its owner s p w
       → HasLife 14 s.lines → Happens its owner s p (wish (plain.PollHandle f w))
   poll_happens f (Outside w) at handle known life =
-      is_made refusal (plain.PollHandle f (Outside w)) _ _ (polls f (Outside w) at handle (λ t is. absurd cc) (fewer 2 14 s.lines (omega arith) life)) refl
+      is_made refusal (plain.PollHandle f (Outside w)) _ _ (polls f (Outside w) at handle (λ t is. absurd cc)
+      (fewer 2 14 s.lines (omega arith) life)) refl
   poll_happens f (OfTask u) at handle known life =
       is_made (copy_refusal (solo.may_hold u s)) (plain.PollHandle f (OfTask u)) _ _
       (polls f (OfTask u) at handle

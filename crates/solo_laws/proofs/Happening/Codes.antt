@@ -1,46 +1,34 @@
 -- Ends of users' codes happen, and calls of runs.
-use Rattle.std.proofs.Common.{◌≡◌, ℕ, suc, ◌+◌, ◌*◌, ◌<◌, ◌≤◌, Bool, true, false, List, [], ◌∷◌, ◌++◌, length, Option, Some, None, is_some}
+use Rattle.std.proofs.Common.{◌≡◌, ℕ, suc, ◌+◌, ◌*◌, ◌<◌, Bool, true, false, List, [], ◌∷◌, ◌++◌, length, Option, Some, None}
 use Rattle.std.proofs.Common.{append_assoc, refl, sym, ap, subst, ◌∙◌, arith}
 use Rattle.queue_steps.specs.ClosableQueue.{most_accepted}
-use Rattle.executor_parts.specs.Places.{entry_in, parts_of}
-use Rattle.executor_parts.specs.declared.places.EntryPlace.{EntryPlace}
-use Rattle.solo.specs.declared.names.Task.{Task}
 use Rattle.solo.specs.declared.names.SoloWaker.{SoloWaker}
-use Rattle.solo.specs.declared.names.SoloWaker.TheVariants.{Task as OfTask, Outside}
-use Rattle.solo.specs.declared.cells.After.{After}
-use Rattle.solo.specs.declared.cells.After.TheVariants.{Queue, Rest, Drop as DropFuture, Unknown}
 use Rattle.solo.specs.declared.owed.Lent.{Lent}
 use Rattle.solo.specs.declared.owed.Owed.{Owed}
-use Rattle.solo.specs.declared.runs.Runner.{Runner}
 use Rattle.solo.specs.declared.solo.Solo.{Solo}
-use Rattle.solo.specs.Cells as cells
 use Rattle.solo.specs.OwnQueues.{count_of as count_of_own}
 use Rattle.solo.specs.Runs as runs
 use Rattle.solo.specs.Solo as solo
-use Rattle.solo.specs.Turns as turns
-use Rattle.plain_scheduler.specs.State.{Answer, Answers, AtOnce, Choice, Close, Closed, Code, Drop, DropOwn, Drops, End, Event, Gave, Granted, Later}
+use Rattle.plain_scheduler.specs.State.{Answer, Answers, AtOnce, Choice, Close, Closed, Code, Drop, DropOwn, Drops, End, Event, Gave}
+use Rattle.plain_scheduler.specs.State.{Granted, Later}
 use Rattle.plain_scheduler.specs.State.{Lose, Loses, Plain, Poll, PollOwn, Refusal, Run, Taker, Tick, Try, Yes}
 use Rattle.plain_scheduler.specs.Lists.{or}
 use Rattle.plain_scheduler.specs.Calls as plain
-use Rattle.plain_scheduler.specs.Calls.{Call, does, is_granted}
-use Rattle.solo_laws.specs.Alike.{calls, lets_go, takes_one}
+use Rattle.plain_scheduler.specs.Calls.{Call, is_granted}
+use Rattle.solo_laws.specs.Alike.{calls, lets_go}
 use Rattle.solo_laws.specs.Busy.{busy_in}
-use Rattle.solo_laws.specs.Courses.{Acts, Makes, ends_closed, ends_given, gives, loses, makes_no_run, makes_run, over_dropped, over_polled}
-use Rattle.solo_laws.specs.Courses.{own_ready, pends, run_dropped, run_drops, run_goes_on, run_leaves, run_looks, run_loses, run_polled}
+use Rattle.solo_laws.specs.Courses.{Makes, ends_closed, ends_given, gives, loses, makes_no_run, makes_run, over_dropped, over_polled}
+use Rattle.solo_laws.specs.Courses.{own_ready, pends, run_dropped, run_leaves, run_looks, run_polled}
 use Rattle.solo_laws.specs.Dropping.{after_drop}
-use Rattle.solo_laws.specs.Making.{Happens, IsKnown, IsKnownBy, IsKnownIf, MayEnd, MayGive, MayPend, behind, left_in}
-use Rattle.solo_laws.specs.Owner.{HasRunner, Owner}
-use Rattle.solo_laws.specs.Road.{HasLife, IsNamed, is_in, wakes}
+use Rattle.solo_laws.specs.Making.{EachPolledBy, Happens, IsKnown, MayEnd, MayPend, PolledBy, PolledIf, PolledIn, WakersAreKnown, left_in}
+use Rattle.solo_laws.specs.Owner.{Owner}
+use Rattle.solo_laws.specs.Road.{HasLife, is_in}
 use Rattle.solo_laws.specs.RunGoing.{Dropping, IsEnding, Losing, Polling, Stage, code_at, drop_ends, in_try, loss_ends, poll_ends}
-use Rattle.solo_laws.specs.Shown.{call_shows, drop_shows, end_shows, loses_or, rings, rings_of, rings_without}
-use Rattle.solo_laws.specs.Tabled.{goes_on, named}
-use Rattle.solo_laws.proofs.Prompt.{chosen}
-use Rattle.solo_laws.proofs.Following.Keeping.{keeps}
-use Rattle.solo_laws.proofs.Following.Lives.{released_lives, scheduled_lives, three_fewer, used_lives}
+use Rattle.solo_laws.specs.Shown.{call_shows, drop_shows, loses_or, rings, rings_of, rings_without}
+use Rattle.solo_laws.specs.Tabled.{goes_on}
 use Rattle.solo_laws.proofs.Showing.Courses.{Known}
-use Rattle.solo_laws.proofs.Happening.Behind.{end_long, same_end}
 use Rattle.solo_laws.proofs.Happening.Choosing.{fewer, is_made, wish}
-use Rattle.solo_laws.proofs.Happening.Searching.{IsRunOn, SomeChoice, run_on_happens, search_happens}
+use Rattle.solo_laws.proofs.Happening.Searching.{search_happens}
 use Rattle.solo_laws.proofs.Happening.Ticks.{is_acted}
 use Rattle.solo_laws.proofs.Happening.Ends.{after_lives, calls_lives, has, known_as, left_lives, more, pends_lives, run_drops_it, run_goes}
 use Rattle.solo_laws.proofs.Happening.Ends.{run_loses_it, runner_of}
@@ -73,7 +61,7 @@ module _ {F T X : Type 0} (its : ℕ → Lent) (future : F) (owner : Owner) (s :
 
   -- the poll of a future ends
   pend_happens : (f : ℕ) (by : Taker (SoloWaker X)) (rest : List (Code T (SoloWaker X))) → p.inside ≡ Poll f by ∷ rest
-      → IsKnownBy its owner s p by → HasLife 14 s.lines → wished plain.Pends
+      → PolledBy (IsKnown its owner s p) by → HasLife 14 s.lines → wished plain.Pends
   pend_happens f Try rest is w_known life =
       is_made its future owner s p known.stands refusal first second name refusal plain.Pends _ _
       (pends f Try rest future refl is (fewer 2 14 s.lines (omega arith) life)) refl
@@ -111,7 +99,8 @@ module _ {F T X : Type 0} (its : ℕ → Lent) (future : F) (owner : Owner) (s :
       let runner = runner_of its future owner s p known refusal first second name r in
       let out = record p { inside = rest } in
       let it =
-      search_happens its owner runner w s refusal first second out most (known_as its future owner s p known refusal first second name s out w refl w_known) (omega arith)
+      search_happens its owner runner w s refusal first second out most
+      (known_as its future owner s p known refusal first second name s out w refl w_known) (omega arith)
       (fewer 5 14 s.lines (omega arith) life) in
       record {
         choice = it.choice;
@@ -124,24 +113,30 @@ module _ {F T X : Type 0} (its : ℕ → Lent) (future : F) (owner : Owner) (s :
         tells = more its future owner s p known refusal first second name it.choice.tells it.tells_so;
         refused = it.so.heeds;
         starts = it.so.starts;
+        named_so = tt;
       }
 
-  pub pends_happen : MayPend its owner s p p.inside → HasLife 14 s.lines → wished plain.Pends
-  pends_happen may life = by p.inside refl may
+  -- the innermost one has a waker that is known
+  innermost : WakersAreKnown its owner s p → (code : Code T (SoloWaker X)) (rest : List (Code T (SoloWaker X)))
+      → p.inside ≡ code ∷ rest → PolledIn (IsKnown its owner s p) code
+  innermost all code rest is = (subst (EachPolledBy (IsKnown its owner s p)) is all).0
+
+  pub pends_happen : WakersAreKnown its owner s p → MayPend its owner s p p.inside → HasLife 14 s.lines → wished plain.Pends
+  pends_happen all may life = by p.inside refl may
     where
       by : (cs : List (Code T (SoloWaker X))) → p.inside ≡ cs → MayPend its owner s p cs → wished plain.Pends
       by [] is may = absurd may
-      by (Poll f taker ∷ rest) is may = pend_happens f taker rest is may life
+      by (Poll f taker ∷ rest) is may = pend_happens f taker rest is (innermost all (Poll f taker) rest is) life
       by (Drop f end taker ∷ rest) is may = absurd may
       by (Lose awaiter taker ∷ rest) is may = absurd may
-      by (PollOwn r w ∷ rest) is may = own_pend_happens r w rest is may life
+      by (PollOwn r w ∷ rest) is may = own_pend_happens r w rest is (innermost all (PollOwn r w) rest is) life
       by (DropOwn r answer ∷ rest) is may = absurd may
       by (Close fs all ∷ rest) is may = absurd may
 
-  pub gives_happen : (v : T) → MayGive its owner s p p.inside → wished (plain.EndsWith v)
+  pub gives_happen : (v : T) → MayPend its owner s p p.inside → wished (plain.EndsWith v)
   gives_happen v may = by p.inside refl may
     where
-      by : (cs : List (Code T (SoloWaker X))) → p.inside ≡ cs → MayGive its owner s p cs → wished (plain.EndsWith v)
+      by : (cs : List (Code T (SoloWaker X))) → p.inside ≡ cs → MayPend its owner s p cs → wished (plain.EndsWith v)
       by [] is may = absurd may
       by (Poll f taker ∷ rest) is may =
           is_made its future owner s p known.stands refusal first second name refusal (plain.EndsWith v) _ s (gives f taker rest v is) refl
@@ -149,7 +144,7 @@ module _ {F T X : Type 0} (its : ℕ → Lent) (future : F) (owner : Owner) (s :
       by (Lose awaiter taker ∷ rest) is may = absurd may
       by (PollOwn r w ∷ rest) is may =
           is_acted its future owner s p known.stands refusal first second name refusal (plain.EndsWith v) _ owner s
-          (own_ready r w v rest is) refl tt
+          (own_ready r w v rest is) refl tt tt
       by (DropOwn r answer ∷ rest) is may = absurd may
       by (Close fs all ∷ rest) is may = absurd may
 
@@ -188,7 +183,7 @@ module _ {F T X : Type 0} (its : ℕ → Lent) (future : F) (owner : Owner) (s :
               (last (rings owed.sleeper) (rings_without owed.old z) (rings_of owed.awaiter (lets_go owed.old z)) (Answers Yes))
               (tries None none c))
 
-    drop_happens : (end : End T) (by : Taker (SoloWaker X)) → p.inside ≡ Drop f end by ∷ rest → IsKnownBy its owner s p by
+    drop_happens : (end : End T) (by : Taker (SoloWaker X)) → p.inside ≡ Drop f end by ∷ rest → PolledBy (IsKnown its owner s p) by
         → wished plain.Ends
     drop_happens Closed Try is w_known =
         is_made its future owner s p known.stands refusal first second name refusal plain.Ends _ _
@@ -212,7 +207,7 @@ module _ {F T X : Type 0} (its : ℕ → Lent) (future : F) (owner : Owner) (s :
 
   -- and that of an output
   loss_happens : (awaiter : Option (SoloWaker X)) (by : Option (Taker (SoloWaker X))) (rest : List (Code T (SoloWaker X)))
-      → p.inside ≡ Lose awaiter by ∷ rest → IsKnownIf its owner s p by → HasLife 14 s.lines → wished plain.Ends
+      → p.inside ≡ Lose awaiter by ∷ rest → PolledIf (IsKnown its owner s p) by → HasLife 14 s.lines → wished plain.Ends
   loss_happens awaiter None rest is w_known life =
       is_made its future owner s p known.stands refusal first second name refusal plain.Ends _ _
       (loses awaiter None rest refl is (fewer 2 14 s.lines (omega arith) life)) refl
@@ -234,10 +229,11 @@ module _ {F T X : Type 0} (its : ℕ → Lent) (future : F) (owner : Owner) (s :
       is_acted its future owner s p known.stands refusal first second name refusal plain.Ends _ owner _
       (run_leaves runner answer rest (is ∙ ap (λ k. DropOwn k answer ∷ rest) (sym (known.tallied.number r)))
       (subst (λ k. HasLife (3 * count_of_own k s.runs + 5) s.lines) (sym (known.tallied.number r))
-      (fewer (3 * count_of_own r s.runs + 5) (3 * count_of_own r s.runs + 14) s.lines (omega arith) life))) refl tt
+      (fewer (3 * count_of_own r s.runs + 5) (3 * count_of_own r s.runs + 14) s.lines (omega arith) life))) refl tt tt
 
-  pub ends_happen : MayEnd its owner s p p.inside → HasLife (3 * left_in its owner s p p.inside + 14) s.lines → wished plain.Ends
-  ends_happen may life = by p.inside refl may
+  pub ends_happen : WakersAreKnown its owner s p → MayEnd its owner s p p.inside → HasLife (3 * left_in its owner s p p.inside + 14)
+      s.lines → wished plain.Ends
+  ends_happen all may life = by p.inside refl may
     where
       enough : HasLife 14 s.lines
       enough = fewer 14 (3 * left_in its owner s p p.inside + 14) s.lines (omega arith) life
@@ -245,8 +241,8 @@ module _ {F T X : Type 0} (its : ℕ → Lent) (future : F) (owner : Owner) (s :
       by : (cs : List (Code T (SoloWaker X))) → p.inside ≡ cs → MayEnd its owner s p cs → wished plain.Ends
       by [] is may = absurd may
       by (Poll f taker ∷ rest) is may = absurd may
-      by (Drop f end taker ∷ rest) is may = drop_happens f rest enough end taker is may
-      by (Lose awaiter taker ∷ rest) is may = loss_happens awaiter taker rest is may enough
+      by (Drop f end taker ∷ rest) is may = drop_happens f rest enough end taker is (innermost all (Drop f end taker) rest is)
+      by (Lose awaiter taker ∷ rest) is may = loss_happens awaiter taker rest is (innermost all (Lose awaiter taker) rest is) enough
       by (PollOwn r w ∷ rest) is may = absurd may
       by (DropOwn r answer ∷ rest) is may =
           leave_happens r answer rest is
@@ -259,12 +255,12 @@ module _ {F T X : Type 0} (its : ℕ → Lent) (future : F) (owner : Owner) (s :
     where
       no_run : is_granted refusal ≡ false → wished plain.NewRun
       no_run refused =
-          is_acted its future owner s p known.stands refusal first second name refusal plain.NewRun _ owner s (makes_no_run refused) refl tt
+          is_acted its future owner s p known.stands refusal first second name refusal plain.NewRun _ owner s (makes_no_run refused) refl tt tt
 
       by : (r : Refusal) → refusal ≡ r → wished plain.NewRun
       by Granted is =
           is_acted its future owner s p known.stands refusal first second name refusal plain.NewRun _ owner (runs.made s)
-          (makes_run is few) refl tt
+          (makes_run is few) refl tt tt
       by AtOnce is = no_run (ap (λ r. is_granted r) is)
       by Later is = no_run (ap (λ r. is_granted r) is)
 
@@ -274,10 +270,10 @@ module _ {F T X : Type 0} (its : ℕ → Lent) (future : F) (owner : Owner) (s :
       by : (b : Bool) → goes_on r p ≡ b → wished (plain.PollRun r w)
       by true going =
           is_acted its future owner s p known.stands refusal first second name refusal (plain.PollRun r w) _ owner _
-          (run_polled (runs.new_runner r) w going free) refl tt
+          (run_polled (runs.new_runner r) w going free) refl tt tt
       by false over =
           is_acted its future owner s p known.stands refusal first second name refusal (plain.PollRun r w) _ owner s
-          (over_polled r w over) refl tt
+          (over_polled r w over) refl tt tt
 
   pub drop_run_happens : (r : ℕ) → is_in r (busy_in p.inside) ≡ false → wished (plain.DropRun r)
   drop_run_happens r free = by (goes_on r p) refl
@@ -285,7 +281,7 @@ module _ {F T X : Type 0} (its : ℕ → Lent) (future : F) (owner : Owner) (s :
       by : (b : Bool) → goes_on r p ≡ b → wished (plain.DropRun r)
       by true going =
           is_acted its future owner s p known.stands refusal first second name refusal (plain.DropRun r) _ owner s
-          (run_dropped r going free) refl tt
+          (run_dropped r going free) refl tt tt
       by false over =
           is_acted its future owner s p known.stands refusal first second name refusal (plain.DropRun r) _ owner s
-          (over_dropped r over) refl tt
+          (over_dropped r over) refl tt tt

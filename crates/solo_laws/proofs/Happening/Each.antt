@@ -1,12 +1,12 @@
 -- Each call that may be made happens.
-use Rattle.std.proofs.Common.{◌≡◌, ℕ, List, []}
+use Rattle.std.proofs.Common.{ℕ}
 use Rattle.solo.specs.declared.names.SoloWaker.{SoloWaker}
 use Rattle.solo.specs.declared.owed.Lent.{Lent}
 use Rattle.solo.specs.declared.solo.Solo.{Solo}
 use Rattle.plain_scheduler.specs.State.{Plain, Refusal}
 use Rattle.plain_scheduler.specs.Calls.{Call, Cancel, Copy, Detach, DropExecutor, DropHandle, DropRun, DropTick, Ends, EndsWith, IsEmpty}
 use Rattle.plain_scheduler.specs.Calls.{Leak, NewRun, NewTick, Pends, PollHandle, PollRun, PollTick, Release, Spawn, TryTick, Use, Wake}
-use Rattle.solo_laws.specs.Making.{Allows, Happens, MayCall, NextIsFree, Wish, queues_with}
+use Rattle.solo_laws.specs.Making.{Allows, Happens, MayCall, NextIsFree, WakersAreKnown, Wish, queues_with}
 use Rattle.solo_laws.specs.Owner.{Owner}
 use Rattle.solo_laws.specs.Road.{HasLife}
 use Rattle.solo_laws.proofs.Showing.Courses.{Known}
@@ -16,7 +16,8 @@ use Rattle.solo_laws.proofs.Happening.Codes as codes
 use Rattle.solo_laws.proofs.Happening.Ticks as ticks
 
 module _ {F T X : Type 0} (its : ℕ → Lent) (future : F) (owner : Owner) (s : Solo F T X) (p : Plain T (SoloWaker X))
-    (known : Known its owner s p) (free : NextIsFree its owner s p) where
+    (known : Known its owner s p) (free : NextIsFree its owner s p)
+    (all : WakersAreKnown its owner s p) where
   by : (refusal : Refusal) (first second name : ℕ) (call : Call T (SoloWaker X)) → Allows its owner s p refusal name call
       → HasLife (queues_with its owner s p call) s.lines
       → Happens its owner s p (wish its future owner s p known.stands refusal first second name call)
@@ -37,13 +38,13 @@ module _ {F T X : Type 0} (its : ℕ → Lent) (future : F) (owner : Owner) (s :
       ticks.poll_tick_happens its future owner s p known.stands r one two n t w may.0 may.1 life
   by r one two n (DropTick t) may life = ticks.drop_tick_happens its future owner s p known.stands r one two n t may life
   by r one two n NewRun may life = codes.new_run_happens its future owner s p known r one two n may
-  by r one two n (PollRun k w) may life = codes.poll_run_happens its future owner s p known r one two n k w may
+  by r one two n (PollRun k w) may life = codes.poll_run_happens its future owner s p known r one two n k w may.0
   by r one two n (DropRun k) may life = codes.drop_run_happens its future owner s p known r one two n k may
   by r one two n Leak may life = choosing.leak_happens its future owner s p known.stands r one two n may life
   by r one two n DropExecutor may life = absurd may
-  by r one two n Pends may life = codes.pends_happen its future owner s p known r one two n may life
+  by r one two n Pends may life = codes.pends_happen its future owner s p known r one two n all may life
   by r one two n (EndsWith v) may life = codes.gives_happen its future owner s p known r one two n v may
-  by r one two n Ends may life = codes.ends_happen its future owner s p known r one two n may life
+  by r one two n Ends may life = codes.ends_happen its future owner s p known r one two n all may life
 
   pub happens : (x : Wish T (SoloWaker X)) → MayCall its owner s p x → Happens its owner s p x
   happens x may = by x.refusal x.first x.second x.name x.call may.allowed may.life

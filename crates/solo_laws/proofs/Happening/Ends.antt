@@ -1,7 +1,6 @@
 -- Behind the end of what a run ran the run goes on, or one is dropped first, or its output.
-use Rattle.std.proofs.Common.{◌≡◌, ℕ, suc, ◌+◌, ◌*◌, ◌<◌, ◌≤◌, Bool, true, false, List, [], ◌∷◌, ◌++◌, length, Option, Some, None, is_some}
-use Rattle.std.proofs.Common.{append_assoc, refl, sym, ap, subst, ◌∙◌, arith}
-use Rattle.queue_steps.specs.ClosableQueue.{most_accepted}
+use Rattle.std.proofs.Common.{◌≡◌, ℕ, suc, ◌<◌, ◌≤◌, List, [], ◌∷◌, ◌++◌, length, Option, Some, None, is_some}
+use Rattle.std.proofs.Common.{refl, sym, ap, subst, ◌∙◌, arith}
 use Rattle.executor_parts.specs.Places.{entry_in, parts_of}
 use Rattle.executor_parts.specs.declared.places.EntryPlace.{EntryPlace}
 use Rattle.solo.specs.declared.names.Task.{Task}
@@ -14,33 +13,27 @@ use Rattle.solo.specs.declared.owed.Owed.{Owed}
 use Rattle.solo.specs.declared.runs.Runner.{Runner}
 use Rattle.solo.specs.declared.solo.Solo.{Solo}
 use Rattle.solo.specs.Cells as cells
-use Rattle.solo.specs.OwnQueues.{count_of as count_of_own}
-use Rattle.solo.specs.Runs as runs
 use Rattle.solo.specs.Solo as solo
 use Rattle.solo.specs.Turns as turns
-use Rattle.plain_scheduler.specs.State.{Answer, Answers, AtOnce, Choice, Close, Closed, Code, Drop, DropOwn, Drops, End, Event, Gave, Granted, Later}
-use Rattle.plain_scheduler.specs.State.{Lose, Loses, Plain, Poll, PollOwn, Refusal, Run, Taker, Tick, Try, Yes}
-use Rattle.plain_scheduler.specs.Lists.{or}
-use Rattle.plain_scheduler.specs.Calls as plain
-use Rattle.plain_scheduler.specs.Calls.{Call, does, is_granted}
+use Rattle.plain_scheduler.specs.State.{Answers, Choice, Code, Drops, Event}
+use Rattle.plain_scheduler.specs.State.{Loses, Plain, Refusal, Run, Yes}
+use Rattle.plain_scheduler.specs.Calls.{Call}
 use Rattle.solo_laws.specs.Alike.{calls, lets_go}
-use Rattle.solo_laws.specs.Busy.{busy_in}
-use Rattle.solo_laws.specs.Courses.{Acts, Makes, ends_closed, ends_given, gives, loses, makes_no_run, makes_run, over_dropped, over_polled}
-use Rattle.solo_laws.specs.Courses.{own_ready, pends, run_dropped, run_drops, run_goes_on, run_leaves, run_looks, run_loses, run_polled}
+use Rattle.solo_laws.specs.Courses.{Makes}
+use Rattle.solo_laws.specs.Courses.{run_drops, run_goes_on, run_loses}
 use Rattle.solo_laws.specs.Dropping.{after_drop}
-use Rattle.solo_laws.specs.Making.{Happens, IsKnown, IsKnownBy, IsKnownIf, MayEnd, MayGive, MayPend, behind, left_in}
+use Rattle.solo_laws.specs.Making.{Happens, IsKnown, behind}
 use Rattle.solo_laws.specs.Owner.{HasRunner, Owner}
-use Rattle.solo_laws.specs.Road.{HasLife, IsNamed, is_in, wakes}
-use Rattle.solo_laws.specs.RunGoing.{Dropping, IsEnding, Losing, Polling, Stage, code_at, drop_ends, in_try, loss_ends, poll_ends}
-use Rattle.solo_laws.specs.Shown.{call_shows, drop_shows, end_shows, rings, rings_of, rings_without}
-use Rattle.solo_laws.specs.Tabled.{goes_on, named}
+use Rattle.solo_laws.specs.Road.{HasLife, IsNamed}
+use Rattle.solo_laws.specs.RunGoing.{IsEnding, Stage, code_at, in_try}
+use Rattle.solo_laws.specs.Tabled.{named}
 use Rattle.solo_laws.proofs.Prompt.{chosen}
 use Rattle.solo_laws.proofs.Following.Keeping.{keeps}
 use Rattle.solo_laws.proofs.Following.Lives.{released_lives, scheduled_lives, three_fewer, used_lives}
 use Rattle.solo_laws.proofs.Showing.Courses.{Known}
 use Rattle.solo_laws.proofs.Happening.Behind.{end_long, same_end}
-use Rattle.solo_laws.proofs.Happening.Choosing.{choosing, fewer, is_made, one_more, wish}
-use Rattle.solo_laws.proofs.Happening.Searching.{IsRunOn, SomeChoice, run_on_happens, search_happens}
+use Rattle.solo_laws.proofs.Happening.Choosing.{choosing, fewer, wish}
+use Rattle.solo_laws.proofs.Happening.Searching.{IsRunOn, run_on_happens}
 use Rattle.solo_laws.proofs.Happening.Ticks.{is_acted}
 
 -- how many more tasks may come behind the end of a poll, or of a drop
@@ -56,7 +49,8 @@ module _ {F T X : Type 0} where
   lets_go_lives n (Some (Outside w)) s life = three_fewer n s.lines life
   lets_go_lives n (Some (OfTask t)) s life = released_lives n t s life
 
-  pub left_lives : (n : ℕ) (place : EntryPlace) (s : Solo F T X) → HasLife (suc (suc (suc n))) s.lines → HasLife n (turns.left place s).lines
+  pub left_lives : (n : ℕ) (place : EntryPlace) (s : Solo F T X) → HasLife (suc (suc (suc n))) s.lines → HasLife n
+      (turns.left place s).lines
   left_lives n place s life = by (parts_of (entry_in place s.table.entries))
     where
       waker : (o : Option Task) → HasLife n (turns.let_go_if o (turns.without place s)).lines
@@ -144,6 +138,7 @@ module _ {F T X : Type 0} (its : ℕ → Lent) (future : F) (owner : Owner) (s :
           tells = more it.choice.tells it.tells_so;
           refused = so.heeds;
           starts = so.starts;
+          named_so = tt;
         }
       where
         few : (n : ℕ) → n ≡ length p.lying → suc n ≤ most
@@ -152,10 +147,9 @@ module _ {F T X : Type 0} (its : ℕ → Lent) (future : F) (owner : Owner) (s :
     pub run_drops_it : (shown : List (Event T (SoloWaker X))) (f : ℕ) → Tried (shown ++ Drops f ∷ []) → wished call
     run_drops_it shown f how =
         is_acted its future owner s p known.stands refusal first second name refusal call (shown ++ Drops f ∷ []) owner y
-        (run_drops stage r w rest call shown f y is ends (how base)) refl tt
+        (run_drops stage r w rest call shown f y is ends (how base)) refl tt tt
 
     pub run_loses_it : (shown : List (Event T (SoloWaker X))) (v : T) → Tried (shown ++ Loses v ∷ []) → wished call
     run_loses_it shown v how =
         is_acted its future owner s p known.stands refusal first second name refusal call (shown ++ Loses v ∷ []) owner y
-        (run_loses stage r w rest call shown v y is ends (how base)) refl tt
-
+        (run_loses stage r w rest call shown v y is ends (how base)) refl tt tt

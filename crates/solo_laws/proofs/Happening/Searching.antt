@@ -1,10 +1,9 @@
 -- A run that searches takes one, or lies down, or is refused: there is what its owner does.
-use Rattle.std.proofs.Common.{◌≡◌, ℕ, suc, ◌+◌, ◌≤◌, Bool, true, false, List, [], ◌∷◌, ◌++◌, length, Option, Some, None, refl, sym, ap}
-use Rattle.std.proofs.Common.{subst, ◌∙◌, arith}
+use Rattle.std.proofs.Common.{◌≡◌, ℕ, suc, ◌≤◌, Bool, true, false, List, [], ◌++◌, length, Option, Some, None, refl, ap}
+use Rattle.std.proofs.Common.{◌∙◌, arith}
 use Rattle.executor_parts.specs.declared.mark.Mark.{Mark}
 use Rattle.solo.specs.declared.names.Task.{Task}
 use Rattle.solo.specs.declared.names.SoloWaker.{SoloWaker}
-use Rattle.solo.specs.declared.names.SoloWaker.TheVariants.{Task as OfTask, Outside}
 use Rattle.solo.specs.declared.owed.Lent.{Lent}
 use Rattle.solo.specs.declared.runs.Runner.{Runner}
 use Rattle.solo.specs.declared.solo.Solo.{Solo}
@@ -19,13 +18,12 @@ use Rattle.plain_scheduler.specs.State.{ARun, AtOnce, Choice, Event, Granted, La
 use Rattle.solo_laws.specs.Making.{IsKnown, RunsFrom, WalksFrom, may_copy, ran_as, rest_refusal, searched_as}
 use Rattle.solo_laws.specs.Numbered.{ticker_of}
 use Rattle.solo_laws.specs.Owner.{Owner}
-use Rattle.solo_laws.specs.Road.{HasLife, IsNamed}
+use Rattle.solo_laws.specs.Road.{HasLife}
 use Rattle.solo_laws.specs.RunGoing.{RunsOn, Searches, gives_way, is_refused, lies_refused, looks_on, rests, robs_another, takes_common}
 use Rattle.solo_laws.specs.RunGoing.{takes_own}
 use Rattle.solo_laws.specs.RunResting.{sleep_answer, slept_from}
 use Rattle.solo_laws.specs.RunTaking.{searched_further}
 use Rattle.solo_laws.specs.Stealing.{share_of, so_many, stolen_marks}
-use Rattle.solo_laws.specs.Tabled.{named}
 use Rattle.solo_laws.specs.Ticking.{looks_again}
 use Rattle.solo_laws.specs.Walking.{robbed, robs_more, searched_none}
 use Rattle.solo_laws.proofs.Happening.Choosing.{fewer}

@@ -1,20 +1,18 @@
 -- Calls of ticks happen.
-use Rattle.std.proofs.Common.{◌≡◌, ℕ, suc, ◌≤◌, Bool, true, false, List, [], ◌∷◌, ◌++◌, length, Option, Some, None, refl, sym, ap, subst}
-use Rattle.std.proofs.Common.{◌∙◌, arith}
+use Rattle.std.proofs.Common.{◌≡◌, ℕ, Bool, true, false, List, length, Option, Some, None, refl, ap, subst}
+use Rattle.std.proofs.Common.{arith}
 use Rattle.solo.specs.declared.names.Task.{Task}
 use Rattle.solo.specs.declared.names.SoloWaker.{SoloWaker}
 use Rattle.solo.specs.declared.names.SoloWaker.TheVariants.{Task as OfTask, Outside}
 use Rattle.solo.specs.declared.owed.Lent.{Lent}
 use Rattle.solo.specs.declared.solo.Solo.{Solo}
-use Rattle.solo.specs.declared.ticks.Ticker.{Ticker}
-use Rattle.solo.specs.Lines.{mark_of_turn}
 use Rattle.solo.specs.Solo as solo
 use Rattle.solo.specs.Ticks as ticks
-use Rattle.plain_scheduler.specs.State.{Answers, ATick, AtOnce, Choice, Event, Granted, Later, Made, Plain, Refusal}
+use Rattle.plain_scheduler.specs.State.{ATick, AtOnce, Choice, Event, Granted, Later, Plain, Refusal}
 use Rattle.plain_scheduler.specs.Calls as plain
 use Rattle.plain_scheduler.specs.Calls.{Call, is_granted}
 use Rattle.solo_laws.specs.Courses.{Acts, makes_no_tick, makes_tick, tick_leaves, tick_lies_refused, tick_refused, tick_rests, tick_takes}
-use Rattle.solo_laws.specs.Making.{ActsFrom, Happens, IsKnown, acted_as, may_copy, rest_refusal}
+use Rattle.solo_laws.specs.Making.{ActsFrom, NamesTick, Happens, IsKnown, acted_as, may_copy, rest_refusal}
 use Rattle.solo_laws.specs.Numbered.{ticker_of}
 use Rattle.solo_laws.specs.Owner.{Owner, has_tick, with_tick}
 use Rattle.solo_laws.specs.Road.{HasLife, IsNamed}
@@ -70,8 +68,9 @@ module _ {F T X : Type 0} (its : ℕ → Lent) (future : F) (owner : Owner) (s :
   pub is_acted : (given : Refusal) (call : Call T (SoloWaker X)) (shown : List (Event T (SoloWaker X))) (now : Owner) (z : Solo F T X)
       (how : Acts its owner (given_so given) s p call shown now z)
       → given ≡ acted_as its (given_so given) s p owner call shown now z refusal how
-      → ActsFrom its (given_so given) s p first second owner call shown now z how → wished call
-  is_acted given call shown now z how heeds starts = record {
+      → ActsFrom its (given_so given) s p first second owner call shown now z how
+      → NamesTick its (given_so given) s p name owner call shown now z how → wished call
+  is_acted given call shown now z how heeds starts names_it = record {
     choice = given_so given;
     shown = shown;
     now = now;
@@ -80,22 +79,23 @@ module _ {F T X : Type 0} (its : ℕ → Lent) (future : F) (owner : Owner) (s :
     tells = one_more its future owner s p both refusal first second name (length p.lying);
     refused = heeds;
     starts = starts;
+    named_so = names_it;
   }
 
   pub new_tick_happens : has_tick name owner ≡ false → wished plain.NewTick
   new_tick_happens new = by refusal refl
     where
       no_tick : is_granted refusal ≡ false → wished plain.NewTick
-      no_tick refused = is_acted refusal plain.NewTick _ owner s (makes_no_tick refused) refl tt
+      no_tick refused = is_acted refusal plain.NewTick _ owner s (makes_no_tick refused) refl tt tt
 
       by : (r : Refusal) → refusal ≡ r → wished plain.NewTick
-      by Granted is = is_acted refusal plain.NewTick _ (with_tick name owner) (ticks.roomy s) (makes_tick name new is) refl tt
+      by Granted is = is_acted refusal plain.NewTick _ (with_tick name owner) (ticks.roomy s) (makes_tick name new is) refl tt refl
       by AtOnce is = no_tick (ap (λ r. is_granted r) is)
       by Later is = no_tick (ap (λ r. is_granted r) is)
 
   pub drop_tick_happens : (t : ℕ) → has_tick t owner ≡ true → HasLife 14 s.lines → wished (plain.DropTick t)
   drop_tick_happens t lives life =
-      is_acted refusal (plain.DropTick t) _ _ _ (tick_leaves t lives (fewer 5 14 s.lines (omega arith) life)) refl tt
+      is_acted refusal (plain.DropTick t) _ _ _ (tick_leaves t lives (fewer 5 14 s.lines (omega arith) life)) refl tt tt
 
   pub poll_tick_happens : (t : ℕ) (w : SoloWaker X) → has_tick t owner ≡ true → IsKnown its owner s p w → HasLife 14 s.lines
       → wished (plain.PollTick t w)
@@ -117,19 +117,19 @@ module _ {F T X : Type 0} (its : ℕ → Lent) (future : F) (owner : Owner) (s :
           is_acted (rest_refusal one again two refusal) (plain.PollTick t w) _ _ _
           (tick_rests t w lives none refl is
           (λ u of. (let it = can_copy its owner s (slept_once ticker w s) p again w known can.0 can.1 u of in (it.0, (it.1, it.2))))
-          (omega arith) (fewer 2 14 s.lines (omega arith) life)) refl tt
+          (omega arith) (fewer 2 14 s.lines (omega arith) life)) refl tt tt
       none_found none AtOnce is =
-          is_acted (rest_refusal one again two refusal) (plain.PollTick t w) _ owner _ (tick_refused t w lives none refl is) refl tt
+          is_acted (rest_refusal one again two refusal) (plain.PollTick t w) _ owner _ (tick_refused t w lives none refl is) refl tt tt
       none_found none Later is =
           let ticker = ticker_of owner.number (ATick t) p.lying in
           let can = later_so one again two refusal is in
           is_acted (rest_refusal one again two refusal) (plain.PollTick t w) _ _ _
           (tick_lies_refused t w lives none refl is
           (λ u of. (let it = can_copy its owner s s p false w known can.0 (λ no. absurd cc) u of in (it.0, it.1)))
-          can.1 (omega arith) (fewer 2 14 s.lines (omega arith) life)) refl tt
+          can.1 (omega arith) (fewer 2 14 s.lines (omega arith) life)) refl tt tt
 
       by : (o : Option Task) → solo.sought s ≡ o → wished (plain.PollTick t w)
       by (Some task) found =
           is_acted refusal (plain.PollTick t w) _ owner _
-          (tick_takes t w task lives found refl (fewer 5 14 s.lines (omega arith) life)) refl tt
+          (tick_takes t w task lives found refl (fewer 5 14 s.lines (omega arith) life)) refl tt tt
       by None none = none_found none (rest_refusal one again two refusal) refl

@@ -1,0 +1,126 @@
+-- Lists of calls happen: each future's name is free as it comes.
+use Rattle.std.proofs.Common.{◌≡◌, ℕ, ◌<◌, ◌≤◌, ◌==◌, cond, not, Bool, true, false, List, [], ◌∷◌, ◌++◌, length, map, Option, Some}
+use Rattle.std.proofs.Common.{None, slice_index_or, refl, sym, ap, subst, arith}
+use Rattle.std.proofs.lemmas.Bool.Decides.{nat_tests}
+use Rattle.executor_parts.specs.Places.{Entry, entry_at}
+use Rattle.solo.specs.declared.names.Kind.{Kind}
+use Rattle.solo.specs.declared.names.Task.{Task}
+use Rattle.solo.specs.declared.names.SoloWaker.{SoloWaker}
+use Rattle.solo.specs.declared.names.SoloWaker.TheVariants.{Task as OfTask, Outside}
+use Rattle.solo.specs.declared.solo.Solo.{Solo}
+use Rattle.solo.specs.Solo.{IsNew, counts}
+use Rattle.plain_scheduler.specs.State.{Choice, Plain, Who}
+use Rattle.plain_scheduler.specs.Calls.{Call, PollRun, does, living_from, new}
+use Rattle.solo_laws.specs.Courses.{Leads, leads, stays}
+use Rattle.solo_laws.specs.Making.{Allows, Goes, IsKnown, MayCall, MayGo, NextIsFree, WakersAreKnown, Wish, by_number}
+use Rattle.solo_laws.specs.Owner.{Owner, new_owner}
+use Rattle.solo_laws.specs.Road.{is_in, wakes}
+use Rattle.solo_laws.specs.Tabled.{Row, row, row_of}
+use Rattle.solo_laws.proofs.Following.Due.{equal}
+use Rattle.solo_laws.proofs.Following.Leaving.{heads, tails}
+use Rattle.solo_laws.proofs.Following.Rows.{living_below}
+use Rattle.solo_laws.proofs.Showing.Courses.{Known, leads_alike, new_known}
+use Rattle.solo_laws.proofs.Happening.Each.{happens}
+use Rattle.solo_laws.proofs.Happening.Free.{acts_vacant}
+use Rattle.solo_laws.proofs.Happening.Growing.{call_grows}
+use Rattle.solo_laws.proofs.Happening.Vacant.{IsVacant}
+use Rattle.solo_laws.proofs.Happening.Wakers.{PollsBy, call_all, more_all}
+
+-- no entry has a key that no living future has as its number
+none_has : {F : Type 0} (n : ℕ) (es : List (Entry F (Option Task))) (held : Bool) (home : ℕ → Bool) (fs : List ℕ)
+    → map row es ≡ map (row_of by_number held home) fs → ((f : ℕ) → is_in f fs ≡ true → f < n) → entry_at n es ≡ None
+none_has n [] held home fs rows below = refl
+none_has n (e ∷ es) held home [] rows below = absurd cc
+none_has {F} n (e ∷ es) held home (f ∷ fs) rows below =
+    by (n == e.key) refl
+    (none_has n es held home fs (tails (row e) (row_of by_number held home f) (map row es) (map (row_of by_number held home) fs) rows)
+    (λ j has. below j (later j (j == f) has)))
+  where
+    key_is : e.key ≡ f
+    key_is = ap (λ (r : Row). r.0.key) (heads (row e) (row_of by_number held home f) (map row es) (map (row_of by_number held home) fs)
+        rows)
+
+    later : (j : ℕ) (b : Bool) → is_in j fs ≡ true → cond b true (is_in j fs) ≡ true
+    later j true has = refl
+    later j false has = has
+
+    first : cond (f == f) true (is_in f fs) ≡ true
+    first = ap (λ b. cond b true (is_in f fs)) (equal f f refl)
+
+    apart : (n k : ℕ) → k < n → (n == k) ≡ true → ⊥
+    apart n k less same = absurd (grind (arith, nat_tests))
+
+    by : (b : Bool) → (n == e.key) ≡ b → entry_at n es ≡ None
+        → ◌≡◌ {A = Option (Entry F (Option Task))} (elim b [ true ↦ Some e | false ↦ entry_at n es ]) None
+    by true same rest = absurd (apart n e.key (subst (λ k. k < n) (sym key_is) (below f first)) same)
+    by false other rest = rest
+
+module _ {F T X : Type 0} where
+  next_free : (owner : Owner) (s : Solo F T X) (p : Plain T (SoloWaker X)) → Known by_number owner s p → IsVacant (length p.futures) s.cells
+      → NextIsFree by_number owner s p
+  next_free owner s p known vacant = record {
+    number = refl;
+    key = vacant (length p.futures) (omega arith);
+    place =
+        none_has (length p.futures) s.table.entries (not p.is_static) _ (living_from 0 p.futures) known.stands.1.rows
+        (λ f has. (let it = living_below p.futures 0 f has in omega (arith, it)));
+  }
+
+  -- runs are polled by known wakers still
+  still_known : (owner : Owner) (s : Solo F T X) (p : Plain T (SoloWaker X)) (now : Owner) (z : Solo F T X) (c : Choice)
+      (x : Wish T (SoloWaker X)) → MayCall by_number owner s p x → WakersAreKnown by_number owner s p
+      → WakersAreKnown by_number now z (does wakes c x.call p)
+  still_known owner s p now z c x may all =
+      let q = does wakes c x.call p in
+      more_all (IsKnown by_number owner s p) (IsKnown by_number now z q) (still (call_grows c x.call p).futures) q.inside
+      (call_all c (IsKnown by_number owner s p) x.call p (polls x.call may.allowed) all)
+    where
+      still : length p.futures ≤ length (does wakes c x.call p).futures → (w : SoloWaker X) → IsKnown by_number owner s p w
+          → IsKnown by_number now z (does wakes c x.call p) w
+      still more (Outside w) its = tt
+      still more (OfTask t) its = (let below = its.0 in omega (arith, below, more), its.1)
+
+      polls : (call : Call T (SoloWaker X)) → Allows by_number owner s p x.refusal x.name call
+          → PollsBy c (IsKnown by_number owner s p) call
+      polls (PollRun r w) its = its.1
+      polls call its = tt
+
+  go : (future : F) (xs : List (Wish T (SoloWaker X))) (owner : Owner) (s : Solo F T X) (p : Plain T (SoloWaker X))
+      → Known by_number owner s p → IsVacant (length p.futures) s.cells → WakersAreKnown by_number owner s p → MayGo by_number xs owner s
+      p → Goes by_number xs owner s p
+  go future [] owner s p known vacant all may = record {
+    calls = [];
+    shown = [];
+    now = owner;
+    after = s;
+    leads = stays owner s p;
+    wished = tt;
+  }
+  go future (x ∷ xs) owner s p known vacant all may =
+      let it = happens by_number future owner s p known (next_free owner s p known vacant) all x may.0 in
+      let q = does wakes it.choice x.call p in
+      let many : length p.lying ≤ it.choice.tells = (let more = it.tells in omega (arith, more)) in
+      let one : Leads by_number ((it.choice, x.call) ∷ []) owner s p (it.shown ++ []) it.now it.after =
+      leads it.choice x.call [] owner it.now it.now s it.after it.after p it.shown [] many it.acts (stays it.now it.after q) in
+      let known_on =
+      (leads_alike by_number ((it.choice, x.call) ∷ []) owner it.now s it.after p (it.shown ++ []) known one).0 in
+      let rest =
+      go future xs it.now it.after q known_on (acts_vacant owner it.choice s p it.now it.after x.call it.shown known many vacant it.acts)
+      (still_known owner s p it.now it.after it.choice x may.0 all) (may.1 it) in
+      record {
+        calls = (it.choice, x.call) ∷ rest.calls;
+        shown = it.shown ++ rest.shown;
+        now = rest.now;
+        after = rest.after;
+        leads =
+            leads it.choice x.call rest.calls owner it.now rest.now s it.after rest.after p it.shown rest.shown many it.acts rest.leads;
+        wished = (refl, it.refused, it.starts, it.named_so, rest.wished);
+      }
+
+  pub lists_happen : (future : F) (limit : ℕ) (kind : Kind) (is_static : Bool) (first : Solo F T X) (number : Who → ℕ)
+      (xs : List (Wish T (SoloWaker X))) → IsNew limit kind first → counts kind ≡ not is_static
+      → MayGo by_number xs (new_owner number) first (new limit is_static)
+      → Goes by_number xs (new_owner number) first (new limit is_static)
+  lists_happen future limit kind is_static first number xs is counted may =
+      go future xs (new_owner number) first (new limit is_static) (new_known by_number number limit kind is_static first is counted)
+      (λ k above. ap (λ slots. slice_index_or slots k None) is.cells) tt may

@@ -40,7 +40,7 @@ use Rattle.machine_roads.specs.Course.{IsChosen}
 use Rattle.machine_roads.specs.Losing.{StopsLosing, left_of}
 use Rattle.machine_roads.specs.Refused.{IsLaterAnew}
 use Rattle.machine_roads.specs.Stopped.{Stops}
-use Rattle.machine_roads.specs.Within.{ActsBy, GoesOnBy, IsCallIn, Nested, alike, by_tick, by_try, begins as begins_by, losing}
+use Rattle.machine_roads.specs.Within.{GoesOnBy, IsCallIn, Nested, alike, by_tick, by_try, begins as begins_by, losing}
 use Rattle.machine_roads.specs.Within.{may_stand_in, takes}
 use Rattle.machine_roads.specs.Within.{IsLeaving, going, listed, unlisted, drop_run}
 use Rattle.machine_roads.specs.Within.{cancel, copy, detach, drop_handle, drop_tick, is_empty, keep, leak, new_run, new_tick, poll_handle}
@@ -74,7 +74,7 @@ use Rattle.machine_roads.proofs.Ticking.{makes_tick, tick_goes}
 use Rattle.machine_roads.proofs.Trying.{tries_so, yes}
 use Rattle.machine_roads.proofs.Tying.{LeadsSo}
 use Rattle.machine_roads.proofs.Seeking.{try_turned}
-use Rattle.machine_roads.proofs.Unsearched.{TurnSaid, begun_so, takes_turn, unsaid}
+use Rattle.machine_roads.proofs.Unsearched.{ActsAnyhow, TurnSaid, begun_so, takes_turn, unsaid}
 
 some_kept : (o : Option ℕ) → is_some o ≡ true → (f : ℕ) × (o ≡ Some f)
 some_kept (Some f) is = (f, refl)
@@ -130,7 +130,7 @@ module _ (s : Machine) (reached : Reached s) (p : ℕ) (q : Plain Output Waker) 
   many = enough (length q.lying)
 
   abbrev Comes : Call → Done → Type 0
-  Comes c e = (r : Plain Output Waker) × ActsBy s p (Begin p c) q r e.world × StandsSo e r
+  Comes c e = (r : Plain Output Waker) × ActsAnyhow s p (Begin p c) q r e.world × StandsSo e r
 
   abbrev Leads : Call → Type 0
   Leads c = LeadsSo p (upon below (begins p here c s.world)) (Comes c)
@@ -138,15 +138,15 @@ module _ (s : Machine) (reached : Reached s) (p : ℕ) (q : Plain Output Waker) 
   acts : (c : Call) (x : plain_calls.Call Output Waker) (r : Refusal) → IsCallIn here s.world c x
       → IsLaterAnew (choice r) x q (does wakes (choice r) x q) → (hints : List Hint)
       → TurnSaid here s.world (choice r) q c (alone p hints (upon below (begins p here c s.world))).world
-      → ActsBy s p (Begin p c) q (does wakes (choice r) x q) (alone p hints (upon below (begins p here c s.world))).world
-  acts c x r is anew hints said = record {
+      → ActsAnyhow s p (Begin p c) q (does wakes (choice r) x q) (alone p hints (upon below (begins p here c s.world))).world
+  acts c x r is anew hints said = λ start. record {
     choice = choice r;
     made = x;
     chosen = chosen_in s q r;
     is = begins_by c x is;
     so = refl;
     anew = anew;
-    chooses = begun_so here s.world (choice r) q p hints c below under x is here said;
+    chooses = begun_so here s.world (choice r) q p hints c below under x is here said start;
   }
 
   -- it comes to this

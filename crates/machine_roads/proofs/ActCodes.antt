@@ -12,6 +12,7 @@ use Rattle.executor_model.specs.declared.op.TableOp.TheVariants as table_op
 use Rattle.executor_model.specs.declared.op.UserOp.TheVariants as user_op
 use Rattle.executor_model.specs.declared.op.Waker.{Waker}
 use Rattle.executor_model.specs.declared.step.Step.TheVariants.{Answer}
+use Rattle.executor_model.specs.declared.step.Hint.{Hint}
 use Rattle.executor_model.specs.declared.step.StepError.TheVariants.{WrongAnswer}
 use Rattle.executor_model.specs.declared.step.UserEnd.{UserEnd}
 use Rattle.executor_model.specs.declared.step.UserEnd.TheVariants as end
@@ -27,19 +28,19 @@ use Rattle.executor_laws.proofs.Termination.LoneEnds.{OthersRest}
 use Rattle.plain_scheduler.specs.State.{Choice, Closed, Code, Drop, End, Future, Granted, Lose, Plain, Poll}
 use Rattle.plain_scheduler.specs.State.{Taker}
 use Rattle.plain_scheduler.specs.Lists.{on}
-use Rattle.plain_scheduler.specs.Moves.{is_due, is_kept}
+use Rattle.plain_scheduler.specs.Moves.{is_kept}
 use Rattle.plain_scheduler.specs.Searches.{searches, searches_behind}
 use Rattle.plain_scheduler.specs.Moves as plain
 use Rattle.plain_scheduler.specs.Calls as plain_calls
 use Rattle.plain_scheduler.specs.Calls.{does, Ends, EndsWith, Pends}
 use Rattle.machine_roads.specs.View.{Output, wakes}
 use Rattle.machine_roads.specs.Road.{Follows, futures_in, waking_in}
-use Rattle.machine_roads.specs.Alone.{alone, is_resting}
+use Rattle.machine_roads.specs.Alone.{HasAll, alone, is_resting}
 use Rattle.machine_roads.specs.Choosing.{Chooses}
 use Rattle.machine_roads.specs.Dropped.{Drops, IsEnding, rest_of, without_run}
 use Rattle.machine_roads.specs.Forgotten.{IsForgotten, IsLastPoll, StopsForgetting, unawaited, without_awaiter}
 use Rattle.machine_roads.specs.Refused.{IsLaterAnew}
-use Rattle.machine_roads.specs.Searching.{goes_on_by}
+use Rattle.machine_roads.specs.Searching.{goes_on_by, start_of}
 use Rattle.machine_roads.specs.Stopped.{Finally, IsInPoll, given, of_last, of_tick, of_try, pended}
 use Rattle.machine_roads.specs.Within.{ActsBy, IsMade, Nested, alike, ends, gives, pends}
 use Rattle.machine_roads.specs.Within.{GoesOnBy, by_run, by_tick, by_try}
@@ -66,6 +67,7 @@ use Rattle.machine_roads.proofs.Standing.{IsGoing, IsTaken, StaysSo}
 use Rattle.machine_roads.proofs.Stepping.{Way}
 use Rattle.machine_roads.proofs.Still.{Still, alone_still, due_resting, reacts_still, still_on, stirs}
 use Rattle.machine_roads.proofs.Tying.{LeadsSo, top_of}
+use Rattle.machine_roads.proofs.Unsearched.{ActsAnyhow}
 use Rattle.machine_roads.proofs.Unseen.{stands_in}
 
 module _ (s : Machine) (reached : Reached s) (p : ℕ) (there : p < length s.parties) (open_still : s.world.gone ≡ false)
@@ -79,11 +81,23 @@ module _ (s : Machine) (reached : Reached s) (p : ℕ) (there : p < length s.par
   pub room : length q.lying < suc (length q.lying)
   room = more_by_one (length q.lying)
 
-  abbrev pub Comes : UserEnd → Done → Type 0
-  Comes u e = (r : Plain Output Waker) × ActsBy s p (Answer p u) q r e.world × StandsSo e r
+  abbrev pub Comes : ℕ → UserEnd → Done → Type 0
+  Comes start u e = (r : Plain Output Waker) × ActsBy s p (Answer p u) q r e.world start × StandsSo e r
+
+  -- whatever it is told from here on: from where it then reads the list of queues
+  abbrev pub LeadsTo : UserEnd → Done → Type 0
+  LeadsTo u d =
+      (hints : List Hint) → HasAll p hints d → is_resting (alone p hints d).next ≡ true → Comes (start_of p hints d) u (alone p hints d)
 
   abbrev pub Leads : UserEnd → Op → List Op → Type 0
-  Leads u o os = LeadsSo p (done (react p o u s.world).world ((react p o u s.world).next ++ os)) (Comes u)
+  Leads u o os = LeadsTo u (done (react p o u s.world).world ((react p o u s.world).next ++ os))
+
+  -- from wherever
+  pub leads_anyhow : (u : UserEnd) (d : Done)
+      → LeadsSo p d (λ e. (r : Plain Output Waker) × ActsAnyhow s p (Answer p u) q r e.world × StandsSo e r) → LeadsTo u d
+  leads_anyhow u d leads hints all rests =
+      let g = leads hints all rests in
+      (g.0, g.1 (start_of p hints d), g.2)
 
   -- it ends so
   pub record EndsSo (u : UserEnd) : Type 0 where
@@ -98,10 +112,10 @@ module _ (s : Machine) (reached : Reached s) (p : ℕ) (there : p < length s.par
       passed (accepts o u) WrongAnswer None
       (sym (ap (λ t. answer_refusal t u) (top_of (stack s p) o os is).0) ∙ (sym (refusal-there s (Answer p u) there) ∙ may))
 
-  pub came_by : (u : UserEnd) (x : plain_calls.Call Output Waker) → IsMade s p (Answer p u) x → (e : Done) (d : Choice)
-      → d.tells ≡ c1.tells → IsLaterAnew d x q (does wakes d x q) → Chooses s.world e.world d x q
-      → StandsSo e (does wakes d x q) → Comes u e
-  came_by u x is e d tells anew chooses so = (
+  pub came_by : (start : ℕ) (u : UserEnd) (x : plain_calls.Call Output Waker) → IsMade s p (Answer p u) x → (e : Done) (d : Choice)
+      → d.tells ≡ c1.tells → IsLaterAnew d x q (does wakes d x q) → Chooses start s.world e.world d x q
+      → StandsSo e (does wakes d x q) → Comes start u e
+  came_by start u x is e d tells anew chooses so = (
     does wakes d x q,
     record {
       choice = d;
@@ -134,18 +148,18 @@ module _ (s : Machine) (reached : Reached s) (p : ℕ) (there : p < length s.par
     follows0 code at quiet w follows = stands_in inside w q follows (sym (ap (λ codes. waking_in codes) at ∙ quiet))
 
     -- so it chooses, and where it searches in vain it is refused memory so
-    abbrev pub Says : plain_calls.Call Output Waker → Code Output Waker → Done → Choice → Type 0
-    Says x code e d = Chooses s.world e.world d x (r1 code) × LiesThere (r1 code) (does wakes d x (r1 code)) d x
+    abbrev pub Says : ℕ → plain_calls.Call Output Waker → Code Output Waker → Done → Choice → Type 0
+    Says start x code e d = Chooses start s.world e.world d x (r1 code) × LiesThere (r1 code) (does wakes d x (r1 code)) d x
 
     -- the call has ended, and no run has changed
-    pub back : (u : UserEnd) (x : plain_calls.Call Output Waker) → IsMade s p (Answer p u) x → (code : Code Output Waker)
-        → q.inside ≡ code ∷ inside → (e : Done) → Chooses s.world e.world c1 x (r1 code) → e.next ≡ below
+    pub back : (start : ℕ) (u : UserEnd) (x : plain_calls.Call Output Waker) → IsMade s p (Answer p u) x → (code : Code Output Waker)
+        → q.inside ≡ code ∷ inside → (e : Done) → Chooses start s.world e.world c1 x (r1 code) → e.next ≡ below
         → (does wakes c1 x (r1 code)).inside ≡ inside
-        → Counted below (does wakes c1 x (r1 code)).runs → Follows e.world (does wakes c1 x (r1 code)) → Comes u e
-    back u x is code at e chooses next stays count follows =
+        → Counted below (does wakes c1 x (r1 code)).runs → Follows e.world (does wakes c1 x (r1 code)) → Comes start u e
+    back start u x is code at e chooses next stays count follows =
         let z = does wakes c1 x (r1 code) in
-        came_by u x is e c1 refl (granted_anew q (does wakes c1 x q) c1 x refl)
-        (subst (λ y. Chooses s.world e.world c1 x y) (same code at) chooses)
+        came_by start u x is e c1 refl (granted_anew q (does wakes c1 x q) c1 x refl)
+        (subst (λ y. Chooses start s.world e.world c1 x y) (same code at) chooses)
         (subst (λ y. StandsSo e (does wakes c1 x y)) (same code at)
         (record {
           alike = alike (subst (λ os. Nested os z.inside) (sym next) (subst (λ codes. Nested below codes) (sym stays) nested)) follows;
@@ -153,31 +167,31 @@ module _ (s : Machine) (reached : Reached s) (p : ℕ) (there : p < length s.par
         }))
 
     -- where it lands, by a choice that tells alike
-    pub lands_so : (u : UserEnd) (x : plain_calls.Call Output Waker) → IsMade s p (Answer p u) x → (code : Code Output Waker)
+    pub lands_so : (start : ℕ) (u : UserEnd) (x : plain_calls.Call Output Waker) → IsMade s p (Answer p u) x → (code : Code Output Waker)
         → q.inside ≡ code ∷ inside → (e : Done) (rests : is_resting e.next ≡ true)
-        → Lands p below r0 nested under c1 room e rests (λ d. does wakes d x (r1 code)) (Says x code e) → Comes u e
-    lands_so u x is_made code at e rests lands =
+        → Lands p below r0 nested under c1 room e rests (λ d. does wakes d x (r1 code)) (Says start x code e) → Comes start u e
+    lands_so start u x is_made code at e rests lands =
         let d = lands.choice in
         let says =
-        subst (λ y. Chooses s.world e.world d x y × LiesThere y (does wakes d x y) d x) (same code at) lands.says in
-        came_by u x is_made e d lands.tells (ends_anew q (does wakes d x q) s p (Answer p u) d x refl is_made says.1) says.0
+        subst (λ y. Chooses start s.world e.world d x y × LiesThere y (does wakes d x y) d x) (same code at) lands.says in
+        came_by start u x is_made e d lands.tells (ends_anew q (does wakes d x q) s p (Answer p u) d x refl is_made says.1) says.0
         (subst (λ y. StandsSo e (does wakes d x y)) (same code at) lands.stands)
 
     -- of no search nothing is said
-    pub none_says : (x : plain_calls.Call Output Waker) (code : Code Output Waker) (e : Done) → looks_first x ≡ false
-        → searches wakes c1 x (r1 code) ≡ None → Still s.world e.world → Says x code e c1
-    none_says x code e other none still = (
-      still_so s.world e.world x (r1 code) c1 other none still.counted still.turn,
+    pub none_says : (start : ℕ) (x : plain_calls.Call Output Waker) (code : Code Output Waker) (e : Done) → looks_first x ≡ false
+        → searches wakes c1 x (r1 code) ≡ None → Still s.world e.world → Says start x code e c1
+    none_says start x code e other none still = (
+      still_so s.world e.world x (r1 code) c1 other none still.counted still.turn start,
       λ y is vain later. absurd (clash (ap is_some none) (ap is_some is)),
     )
 
     -- of a search it is
-    pub found_says : (x : plain_calls.Call Output Waker) (code : Code Output Waker) (e : Done) (d : Choice) (w : World) (r : ℕ) (a : Waker)
-        (b : Plain Output Waker) → Still s.world w → searches wakes d x (r1 code) ≡ Some (search_at r a b)
-        → Searched r a w b d e.world (does wakes d x (r1 code)) → Says x code e d
-    found_says x code e d w r a b still is so = (
-      found_so s.world e.world x (r1 code) d w r a b (does wakes d x (r1 code)) still is so,
-      λ y its vain later. later_so s.world e.world x (r1 code) d w r a b (does wakes d x (r1 code)) is so y its vain later,
+    pub found_says : (start : ℕ) (x : plain_calls.Call Output Waker) (code : Code Output Waker) (e : Done) (d : Choice) (w : World)
+        (r : ℕ) (a : Waker) (b : Plain Output Waker) → Still s.world w → searches wakes d x (r1 code) ≡ Some (search_at r a b)
+        → Searched start r a w b d e.world (does wakes d x (r1 code)) → Says start x code e d
+    found_says start x code e d w r a b still is so = (
+      found_so s.world e.world x (r1 code) d start w r a b (does wakes d x (r1 code)) still is so,
+      λ y its vain later. later_so s.world e.world x (r1 code) d start w r a b (does wakes d x (r1 code)) is so y its vain later,
     )
 
     pub count_at : (os xs : List Op) → reverse (stack s p) ≡ os → Alike os xs → Counted xs q.runs
@@ -227,26 +241,26 @@ module _ (s : Machine) (reached : Reached s) (p : ℕ) (there : p < length s.par
       facts v follows runs own = facts_by v q follows runs own refl refl
 
       -- where the call comes to, by a choice that tells alike
-      came : (u : UserEnd) (x : plain_calls.Call Output Waker) → IsMade s p (Answer p u) x → (code : Code Output Waker)
+      came : (start : ℕ) (u : UserEnd) (x : plain_calls.Call Output Waker) → IsMade s p (Answer p u) x → (code : Code Output Waker)
           → q.inside ≡ code ∷ inside → (e : Done) (rests : is_resting e.next ≡ true)
-          → Lands p below r0 nested under c1 room e rests (λ d. does wakes d x (r1 code)) (Says x code e) → Comes u e
-      came u x is_made code at e rests lands = lands_so u x is_made code at e rests lands
+          → Lands p below r0 nested under c1 room e rests (λ d. does wakes d x (r1 code)) (Says start x code e) → Comes start u e
+      came start u x is_made code at e rests lands = lands_so start u x is_made code at e rests lands
 
       -- where a run searches behind, it chooses so; and where none does nothing is counted
-      tells_so : (x : plain_calls.Call Output Waker) (code : Code Output Waker) (e : Done) (rests : is_resting e.next ≡ true)
+      tells_so : (start : ℕ) (x : plain_calls.Call Output Waker) (code : Code Output Waker) (e : Done) (rests : is_resting e.next ≡ true)
           → looks_first x ≡ false → (behind : Choice → Option (Plain Output Waker))
           → ((d : Choice) → searches wakes (telling c1.tells d) x (r1 code)
           ≡ searches_behind wakes (telling c1.tells d) taker (behind (telling c1.tells d)))
           → (pass : Passes p taker final below r0 c1.tells e (λ d. does wakes d x (r1 code)) behind) → Still s.world pass.so.world
-          → Tells p below r0 nested under c1 room e rests (λ d. does wakes d x (r1 code)) (Says x code e) taker final pass.so.world
-          pass.before
-      tells_so x code e rests other behind goes pass still = record {
+          → Tells p below r0 nested under c1 room e rests (λ d. does wakes d x (r1 code)) (Says start x code e) start taker final
+          pass.so.world pass.before
+      tells_so start x code e rests other behind goes pass still = record {
         searched = λ r a is d so.
             let c = telling c1.tells d in
-            found_says x code e c pass.so.world r a pass.before still
+            found_says start x code e c pass.so.world r a pass.before still
             (goes d ∙ (ap (searches_behind wakes c taker) (pass.at d) ∙ searches_so c r a pass.before taker is so.few)) so;
         unsearched = λ it none.
-            none_says x code e other (goes c1 ∙ (ap (searches_behind wakes c1 taker) (pass.at c1) ∙ none))
+            none_says start x code e other (goes c1 ∙ (ap (searches_behind wakes c1 taker) (pass.at c1) ∙ none))
             (still_on s.world pass.so.world e.world still (on taker final it pass.so.way));
       }
         where
@@ -282,46 +296,49 @@ module _ (s : Machine) (reached : Reached s) (p : ℕ) (there : p < length s.par
           behind : Choice → Option (Plain Output Waker)
           behind d = behind_pended p below under s.world taker final r0 c1 [] f d
 
-          unsearched : (e : Done) → behind c1 ≡ None → Still s.world e.world → Says Pends (Poll f taker) e c1
-          unsearched e none still =
-              none_says Pends (Poll f taker) e refl (ap (searches_behind wakes c1 taker) none) still
+          unsearched : (start : ℕ) (e : Done) → behind c1 ≡ None → Still s.world e.world → Says start Pends (Poll f taker) e c1
+          unsearched start e none still =
+              none_says start Pends (Poll f taker) e refl (ap (searches_behind wakes c1 taker) none) still
 
           by : (b : Bool) → is_last_waker move.EndPending (task s.world f) ≡ b
               → Leads (end.Polled answer.Pending) (op.User (user_op.Poll f)) (final ∷ below)
           by false left = λ hints all rests.
               let in_poll : IsInPoll s.world f =
               record { known = taken.known; polled = taken.polled; entered = taken.entered; reached = left } in
+              let n = start_of p hints (pended p f final below s.world) in
               let e = alone p hints (pended p f final below s.world) in
-              came (end.Polled answer.Pending) Pends pends (Poll f taker) at e rests
-              (goes_lands p below r0 nested under c1 room e rests will (Says Pends (Poll f taker) e) taker final it count its
-              (λ d. pends_ends d taker r0 f) (Still s.world) behind (StaysSo taker final below r0 e)
-              (tells_so Pends (Poll f taker) e rests refl behind (λ d. refl))
+              came n (end.Polled answer.Pending) Pends pends (Poll f taker) at e rests
+              (goes_lands p below r0 nested under c1 room e rests will (Says n Pends (Poll f taker) e) taker final it count its
+              (λ d. pends_ends d taker r0 f) n (Still s.world) behind (StaysSo taker final below r0 e)
+              (tells_so n Pends (Poll f taker) e rests refl behind (λ d. refl))
               (λ stays runs none still.
-              stays_lands p below r0 nested under c1 room e rests will (Says Pends (Poll f taker) e) taker final it count its
-              (λ d. pends_ends d taker r0 f) c1 refl stays runs.runs (unsearched e none still))
+              stays_lands p below r0 nested under c1 room e rests will (Says n Pends (Poll f taker) e) taker final it count its
+              (λ d. pends_ends d taker r0 f) c1 refl stays runs.runs (unsearched n e none still))
               (pended_still p below under s.world taker final r0 c1 hints f here in_poll many all rests))
           by true last = λ hints all rests.
               let last_poll : IsLastPoll s.world f =
               record { known = taken.known; polled = taken.polled; entered = taken.entered; last = last } in
+              let n = start_of p hints (pended p f final below s.world) in
               let e = alone p hints (pended p f final below s.world) in
-              came (end.Polled answer.Pending) Pends pends (Poll f taker) at e rests
-              (goes_lands p below r0 nested under c1 room e rests will (Says Pends (Poll f taker) e) taker final it count its
-              (λ d. pends_ends d taker r0 f) (Still s.world) behind (StopsForgetting taker final below f r0 e)
-              (tells_so Pends (Poll f taker) e rests refl behind (λ d. refl))
+              came n (end.Polled answer.Pending) Pends pends (Poll f taker) at e rests
+              (goes_lands p below r0 nested under c1 room e rests will (Says n Pends (Poll f taker) e) taker final it count its
+              (λ d. pends_ends d taker r0 f) n (Still s.world) behind (StopsForgetting taker final below f r0 e)
+              (tells_so n Pends (Poll f taker) e rests refl behind (λ d. refl))
               (λ stops runs none still.
-              forgets_lands p below r0 nested under c1 room e rests will (Says Pends (Poll f taker) e) taker final it count its
-              (λ d. pends_ends d taker r0 f) f c1 refl stops runs.runs (unsearched e none still))
+              forgets_lands p below r0 nested under c1 room e rests will (Says n Pends (Poll f taker) e) taker final it count its
+              (λ d. pends_ends d taker r0 f) f c1 refl stops runs.runs (unsearched n e none still))
               (forgets_still p below under s.world taker final r0 c1 hints f here last_poll all rests))
       from_poll f first at follows (end.Polled answer.Ready) ok = λ hints all rests.
           let taken : IsTaken s.world f = is_taken s p reached there open_still f (final ∷ below) (is ∙ first) in
+          let n = start_of p hints (given p f final below s.world) in
           let e = alone p hints (given p f final below s.world) in
-          came (end.Polled answer.Ready) (EndsWith tt) gives (Poll f taker) at e rests
+          came n (end.Polled answer.Ready) (EndsWith tt) gives (Poll f taker) at e rests
           (stays_lands p below r0 nested under c1 room e rests (λ d. does wakes d (EndsWith tt) (r1 (Poll f taker)))
-          (Says (EndsWith tt) (Poll f taker) e) taker final it count
+          (Says n (EndsWith tt) (Poll f taker) e) taker final it count
           (facts s.world follows refl refl) (λ d. gives_ends d taker r0 f tt) c1 refl
           ((gives_so p below s.world r0 under (follows0 (Poll f taker) at refl s.world follows) taker final f c1 hints all rests).0 taken)
           refl
-          (none_says (EndsWith tt) (Poll f taker) e refl refl
+          (none_says n (EndsWith tt) (Poll f taker) e refl refl
           (still_on s.world (given p f final below s.world).world e.world
           (reacts_still p (op.User (user_op.Poll f)) (end.Polled answer.Ready) s.world)
           (alone_still p hints (given p f final below s.world).world (given p f final below s.world).next refl))))
@@ -334,19 +351,20 @@ module _ (s : Machine) (reached : Reached s) (p : ℕ) (there : p < length s.par
           → Leads u (op.User (user_op.Drop f)) (op.Table (table_op.LeaveTable f) ∷ op.Move m f ∷ final ∷ below)
       from_drop f m why how first at follows end.Done ok = λ hints all rests.
           let going : IsGoing s.world f m why = is_going s p reached there open_still f m why (final ∷ below) how (is ∙ first) in
+          let n = start_of p hints (done s.world (op.Table (table_op.LeaveTable f) ∷ op.Move m f ∷ final ∷ below)) in
           let e = alone p hints (done s.world (op.Table (table_op.LeaveTable f) ∷ op.Move m f ∷ final ∷ below)) in
           let its = facts s.world follows refl refl in
           let code = Drop f why taker in
-          let says = Says Ends code e in
+          let says = Says n Ends code e in
           let behind = behind_dropped f why r0 in
-          came end.Done Ends ends code at e rests
+          came n end.Done Ends ends code at e rests
           (goes_lands p below r0 nested under c1 room e rests (λ d. does wakes d Ends (r1 code)) says taker final it count its
-          (λ d. drop_ends d taker r0 f why) (Still s.world) behind (Drops taker final below f r0 e)
-          (tells_so Ends code e rests refl behind (λ d. refl))
+          (λ d. drop_ends d taker r0 f why) n (Still s.world) behind (Drops taker final below f r0 e)
+          (tells_so n Ends code e rests refl behind (λ d. refl))
           (λ drops runs none still.
           drops_lands p below r0 nested under c1 room e rests (λ d. does wakes d Ends (r1 code)) says taker final it count its
           (λ d. drop_ends d taker r0 f why) f c1 refl drops runs.runs
-          (none_says Ends code e refl (ap (searches_behind wakes c1 taker) none) still))
+          (none_says n Ends code e refl (ap (searches_behind wakes c1 taker) none) still))
           (dropped_still p below under s.world taker final r0 c1 hints (follows0 code at refl s.world follows) f m why going.known
           going.entered going.ends many all rests))
       from_drop f m why how first at follows u ok = absurd cc
@@ -366,13 +384,14 @@ module _ (s : Machine) (reached : Reached s) (p : ℕ) (there : p < length s.par
             awaited = ending.awaited;
             follows = follows0 (Lose awaiter (Some taker)) at refl (without_run f s.world) ending.follows;
           } in
+          let n = start_of p hints (done s.world (rest_of (task s.world f).awaiter f final ++ below)) in
           let e = alone p hints (done s.world (rest_of (task s.world f).awaiter f final ++ below)) in
           let code = Lose awaiter (Some taker) in
           let behind = behind_lost awaiter r0 in
-          came end.Done Ends ends code at e rests
-          (goes_lands p below r0 nested under c1 room e rests (λ d. does wakes d Ends (r1 code)) (Says Ends code e) taker final it
-          count (facts (without_run f s.world) ending.follows refl refl) (λ d. loss_ends d taker r0 awaiter) (Still s.world) behind
-          (λ z. ⊥) (tells_so Ends code e rests refl behind (λ d. refl)) (λ stops runs none still. absurd stops)
+          came n end.Done Ends ends code at e rests
+          (goes_lands p below r0 nested under c1 room e rests (λ d. does wakes d Ends (r1 code)) (Says n Ends code e) taker final it
+          count (facts (without_run f s.world) ending.follows refl refl) (λ d. loss_ends d taker r0 awaiter) n (Still s.world) behind
+          (λ z. ⊥) (tells_so n Ends code e rests refl behind (λ d. refl)) (λ stops runs none still. absurd stops)
           (lost_still p below under s.world taker final r0 c1 hints f awaiter ending0 many all rests))
       from_loss f awaiter at ending u ok = absurd cc
 
@@ -413,12 +432,14 @@ module _ (s : Machine) (reached : Reached s) (p : ℕ) (there : p < length s.par
             awaited = it_is.awaited;
             follows = there_follows;
           } in
-          let e = alone p hints (done s.world (op.Table (table_op.LeaveTable f) ∷ op.Handle (handle_op.LetGo f) ∷ final ∷ below)) in
+          let first = done s.world (op.Table (table_op.LeaveTable f) ∷ op.Handle (handle_op.LetGo f) ∷ final ∷ below) in
+          let n = start_of p hints first in
+          let e = alone p hints first in
           let code = Drop f Closed taker in
           let behind = behind_dropped f Closed r0 in
-          came end.Done Ends ends code at e rests
-          (goes_lands p below r0 nested under c1 room e rests (λ d. does wakes d Ends (r1 code)) (Says Ends code e) taker final it count
-          (facts_forgotten f it_is) (λ d. drop_ends d taker r0 f Closed) (Still s.world) behind
-          (λ z. ⊥) (tells_so Ends code e rests refl behind (λ d. refl)) (λ stops runs none still. absurd stops)
+          came n end.Done Ends ends code at e rests
+          (goes_lands p below r0 nested under c1 room e rests (λ d. does wakes d Ends (r1 code)) (Says n Ends code e) taker final it count
+          (facts_forgotten f it_is) (λ d. drop_ends d taker r0 f Closed) n (Still s.world) behind
+          (λ z. ⊥) (tells_so n Ends code e rests refl behind (λ d. refl)) (λ stops runs none still. absurd stops)
           (forgotten_still p below under s.world taker final r0 c1 hints f forgotten0 many all rests))
       from_forgotten f at it_is u ok = absurd cc

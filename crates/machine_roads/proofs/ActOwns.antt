@@ -27,7 +27,6 @@ use Rattle.executor_laws.proofs.Termination.LoneEnds.{OthersRest}
 use Rattle.plain_scheduler.specs.State.{Choice, Code, DropOwn, Granted, Plain, PollOwn, Ready}
 use Rattle.plain_scheduler.specs.State.{Done as DoneAnswer, Run}
 use Rattle.plain_scheduler.specs.Lists.{or}
-use Rattle.plain_scheduler.specs.Moves.{is_due, is_kept}
 use Rattle.plain_scheduler.specs.Takes as plain_takes
 use Rattle.plain_scheduler.specs.Moves as plain
 use Rattle.plain_scheduler.specs.Calls as plain_calls
@@ -36,12 +35,13 @@ use Rattle.machine_roads.specs.View.{Output, wakes}
 use Rattle.machine_roads.specs.Road.{Follows, waking_in}
 use Rattle.machine_roads.specs.Alone.{HasAll, alone, is_resting}
 use Rattle.machine_roads.specs.Choosing.{Chooses}
-use Rattle.machine_roads.specs.Searching.{goes_on_by}
+use Rattle.machine_roads.specs.Searching.{goes_on_by, start_of}
 use Rattle.machine_roads.specs.Within.{ActsBy, Nested, alike, ends, gives, pends}
 use Rattle.machine_roads.specs.Within.{IsLeaving, drops_own, listed, unlisted}
 use Rattle.machine_roads.proofs.ActBegins.{choice_in, enough}
 use Rattle.machine_roads.proofs.ActLands.{Facts, after_lands, between}
-use Rattle.machine_roads.proofs.ActCodes.{back, came_by, count_at, follows0, found_says, lands_so, room as its_room, under as rests_under}
+use Rattle.machine_roads.proofs.ActCodes.{LeadsTo, back, came_by, count_at, follows0, found_says, lands_so, room as its_room}
+use Rattle.machine_roads.proofs.ActCodes.{under as rests_under}
 use Rattle.machine_roads.proofs.AloneKeeps.{due, due_resting}
 use Rattle.machine_roads.proofs.Calling.{idles}
 use Rattle.machine_roads.proofs.Chosen.{still_so}
@@ -60,7 +60,6 @@ use Rattle.machine_roads.proofs.Runs.{changed, ended_run, runs_is}
 use Rattle.machine_roads.proofs.RunsOn.{goes_from}
 use Rattle.machine_roads.proofs.Seeking.{alone_turn, seeks}
 use Rattle.machine_roads.proofs.Still.{still_here}
-use Rattle.machine_roads.proofs.Tying.{LeadsSo}
 use Rattle.machine_roads.proofs.Unseen.{stands_in}
 
 module _ (s : Machine) (reached : Reached s) (p : ℕ) (there : p < length s.parties) (open_still : s.world.gone ≡ false)
@@ -78,11 +77,12 @@ module _ (s : Machine) (reached : Reached s) (p : ℕ) (there : p < length s.par
   abbrev under : is_resting below ≡ true
   under = rests_under s reached p there open_still others q counted below inside nested
 
-  abbrev Comes : UserEnd → Done → Type 0
-  Comes u e = (r : Plain Output Waker) × ActsBy s p (Answer p u) q r e.world × StandsSo e r
+  abbrev Comes : ℕ → UserEnd → Done → Type 0
+  Comes start u e = (r : Plain Output Waker) × ActsBy s p (Answer p u) q r e.world start × StandsSo e r
 
   abbrev Leads : UserEnd → Op → List Op → Type 0
-  Leads u o os = LeadsSo p (done (react p o u s.world).world ((react p o u s.world).next ++ os)) (Comes u)
+  Leads u o os =
+      LeadsTo s reached p there open_still others q counted u (done (react p o u s.world).world ((react p o u s.world).next ++ os))
 
   abbrev r0 : Plain Output Waker
   r0 = record q { inside = inside }
@@ -93,8 +93,8 @@ module _ (s : Machine) (reached : Reached s) (p : ℕ) (there : p < length s.par
   same : (code : Code Output Waker) → q.inside ≡ code ∷ inside → r1 code ≡ q
   same code at = ap (λ (codes : List (Code Output Waker)). record q { inside = codes }) (sym at)
 
-  abbrev Says : plain_calls.Call Output Waker → Code Output Waker → Done → Choice → Type 0
-  Says x code e d = Chooses s.world e.world d x (r1 code) × LiesThere (r1 code) (does wakes d x (r1 code)) d x
+  abbrev Says : ℕ → plain_calls.Call Output Waker → Code Output Waker → Done → Choice → Type 0
+  Says start x code e d = Chooses start s.world e.world d x (r1 code) × LiesThere (r1 code) (does wakes d x (r1 code)) d x
 
   -- the poll of a run's own future: with an output, or without
   pub from_own_poll : (x : RunPoll) → reverse (stack s p) ≡ op.User (user_op.PollOwn x) ∷ below → q.inside ≡ PollOwn x.run x.waker ∷
@@ -103,14 +103,15 @@ module _ (s : Machine) (reached : Reached s) (p : ℕ) (there : p < length s.par
       → Leads u (op.User (user_op.PollOwn x)) below
   from_own_poll x is at follows (end.Polled answer.Ready) ok = λ hints all rests.
       let os = op.User (user_op.DropOwn x.run) ∷ op.List (list_op.LockWrite (section.Unregister x.run reply.Ready)) ∷ below in
+      let n = start_of p hints (done s.world os) in
       let e = alone p hints (done s.world os) in
       let stays : done s.world os ≡ e = sym (idles p hints os s.world refl) in
       let z : Plain Output Waker = r1 (DropOwn x.run Ready) in
-      came_by s reached p there open_still others q counted (end.Polled answer.Ready) (EndsWith tt) gives e c1 refl tt
-      (subst (λ y. Chooses s.world e.world c1 (EndsWith tt) y) (same (PollOwn x.run x.waker) at)
+      came_by s reached p there open_still others q counted n (end.Polled answer.Ready) (EndsWith tt) gives e c1 refl tt
+      (subst (λ y. Chooses n s.world e.world c1 (EndsWith tt) y) (same (PollOwn x.run x.waker) at)
       (still_so s.world e.world (EndsWith tt) (r1 (PollOwn x.run x.waker)) c1 refl refl
       (subst (λ (d : Done). CountsSo s.world d.world) stays (λ k. refl))
-      (ap (λ (d : Done). d.world.urgent_turns) (sym stays))))
+      (ap (λ (d : Done). d.world.urgent_turns) (sym stays)) n))
       (subst (λ y. StandsSo e (does wakes c1 (EndsWith tt) y)) (same (PollOwn x.run x.waker) at)
       (subst (λ (d : Done). StandsSo d z) stays
       (record {
@@ -168,22 +169,24 @@ module _ (s : Machine) (reached : Reached s) (p : ℕ) (there : p < length s.par
 
       -- where something is due it takes, and else it lies down, or is refused memory
       by : (hints : List Hint) → HasAll p hints search → is_resting (alone p hints search).next ≡ true
-          → Comes (end.Polled answer.Pending) (alone p hints search)
+          → Comes (start_of p hints search) (end.Polled answer.Pending) (alone p hints search)
       by hints all rests =
+          let n = start_of p hints search in
           let e = alone p hints search in
           let lands =
-          after_lands p below r0 nested under c1 room e rests will (Says Pends (PollOwn x.run x.waker) e) x false count facts0
+          after_lands p below r0 nested under c1 room e rests will (Says n Pends (PollOwn x.run x.waker) e) x false count facts0
           (λ d. take_ends d x.run x.waker r0 few) (taken_in x.run q.runs)
-          (goes_from p x below r0 c1.tells (taken_in x.run q.runs) e will (Says Pends (PollOwn x.run x.waker) e) under rests c1 s.world r0
+          (goes_from p x below r0 c1.tells (taken_in x.run q.runs) e will (Says n Pends (PollOwn x.run x.waker) e) under rests c1 n
+          s.world r0
           (follows0 s reached p there open_still others q counted below inside nested (PollOwn x.run x.waker) at refl s.world follows) room
-          (between p below r0 nested under c1 room e rests will (Says Pends (PollOwn x.run x.waker) e) x false count facts0) refl
-          (record { hints = hints; has = all; is = refl })
+          (between p below r0 nested under c1 room e rests will (Says n Pends (PollOwn x.run x.waker) e) x false count facts0) refl
+          (record { way = record { hints = hints; has = all; is = refl }; starts = refl })
           (λ d. sym (ap (λ b. if b then plain_takes.take wakes (telling c1.tells d) (Run x.run x.waker) r0
           else plain_takes.gives_way wakes (telling c1.tells d) x.run x.waker r0) few))
           (λ d so.
-          found_says s reached p there open_still others q counted below inside nested Pends (PollOwn x.run x.waker) e
+          found_says s reached p there open_still others q counted below inside nested n Pends (PollOwn x.run x.waker) e
           (telling c1.tells d) s.world x.run x.waker r0 (still_here s.world) refl so)) in
-          lands_so s reached p there open_still others q counted below inside nested (end.Polled answer.Pending) Pends pends
+          lands_so s reached p there open_still others q counted below inside nested n (end.Polled answer.Pending) Pends pends
           (PollOwn x.run x.waker) at e rests lands
   from_own_poll x is at follows u ok = absurd cc
 
@@ -210,17 +213,19 @@ module _ (s : Machine) (reached : Reached s) (p : ℕ) (there : p < length s.par
       → Leads u (op.User (user_op.DropOwn r)) (op.List (list_op.LockWrite (section.Unregister r reply.Ready)) ∷ below)
   from_own_drop r is at follows end.Done ok = λ hints all rests.
       let xs = op.User (user_op.DropOwn r) ∷ op.List (list_op.LockWrite (section.Unregister r reply.Ready)) ∷ below in
-      let e = alone p hints (done s.world (op.List (list_op.LockWrite (section.Unregister r reply.Ready)) ∷ below)) in
+      let first = done s.world (op.List (list_op.LockWrite (section.Unregister r reply.Ready)) ∷ below) in
+      let e = alone p hints first in
       let counted0 : Counted xs q.runs = subst (λ os. Counted os q.runs) is counted in
       let so =
       own_goes p below under s.world r0 (follows0 s reached p there open_still others q counted below inside nested (DropOwn r Ready) at
       refl s.world follows) c1 many r hints all rests in
-      back s reached p there open_still others q counted below inside nested end.Done Ends ends (DropOwn r Ready) at e
+      back s reached p there open_still others q counted below inside nested (start_of p hints first) end.Done Ends ends
+      (DropOwn r Ready) at e
       (still_so s.world e.world Ends (r1 (DropOwn r Ready)) c1 refl refl
       (alone_counts p hints s.world (op.List (list_op.LockWrite (section.Unregister r reply.Ready)) ∷ below)
       (omega (arith, due_resting counts below under)))
       (alone_turn p hints s.world (op.List (list_op.LockWrite (section.Unregister r reply.Ready)) ∷ below)
-      (omega (arith, due_resting seeks below under)))) so.0 so.2
+      (omega (arith, due_resting seeks below under))) (start_of p hints first)) so.0 so.2
       (gone_count r (omega (arith, used_once s reached p there xs is r, same_self r)) counted0.taken
       (λ k apart is_left. counted0.going k (ap (λ b. b || some_op (leaves k) below) apart ∙ is_left))) so.1
   from_own_drop r is at follows u ok = absurd cc
@@ -230,14 +235,16 @@ module _ (s : Machine) (reached : Reached s) (p : ℕ) (there : p < length s.par
       → q.inside ≡ DropOwn r DoneAnswer ∷ inside → Follows s.world (plain.runs ended_run r q)
       → (u : UserEnd) → accepts (op.User (user_op.DropOwn r)) u ≡ true → Leads u (op.User (user_op.DropOwn r)) (rest ∷ below)
   from_going r rest leaving is at follows end.Done ok = λ hints all rests.
-      let e = alone p hints (done s.world (rest ∷ below)) in
+      let first = done s.world (rest ∷ below) in
+      let e = alone p hints first in
       let so =
       own_went p below under s.world r0 r rest leaving
       (stands_in inside s.world (record q { runs = changed ended_run r q.runs }) (subst (Follows s.world) (runs_is ended_run r q) follows)
       (sym (ap (λ codes. waking_in codes) at))) c1 many hints all rests in
-      back s reached p there open_still others q counted below inside nested end.Done Ends ends (DropOwn r DoneAnswer) at e
+      back s reached p there open_still others q counted below inside nested (start_of p hints first) end.Done Ends ends
+      (DropOwn r DoneAnswer) at e
       (still_so s.world e.world Ends (r1 (DropOwn r DoneAnswer)) c1 refl refl (counts_on rest leaving hints)
-      (alone_turn p hints s.world (rest ∷ below) (light_on rest leaving))) so.0 so.2 (by rest leaving is) so.1
+      (alone_turn p hints s.world (rest ∷ below) (light_on rest leaving)) (start_of p hints first)) so.0 so.2 (by rest leaving is) so.1
     where
       counts_on : (rest : Op) → IsLeaving r rest → (hints : List Hint)
           → CountsSo s.world (alone p hints (done s.world (rest ∷ below))).world

@@ -27,7 +27,7 @@ module _ (stops : Op → Bool) (v : Op → ℕ) where
   unless_it_stops true n none = refl
   unless_it_stops false n none = none
 
-  pub of_both : (x : Op) (os : List Op) → v x ≡ 0 → due_to os ≡ 0 → due_to (x ∷ os) ≡ 0
+  of_both : (x : Op) (os : List Op) → v x ≡ 0 → due_to os ≡ 0 → due_to (x ∷ os) ≡ 0
   of_both x os none rest = unless_it_stops (stops x) (v x + due_to os) (omega (arith, none, rest))
 
   pub due_to_push : (xs ys : List Op) → weigh v xs ≡ 0 → due_to ys ≡ 0 → due_to (xs ++ ys) ≡ 0

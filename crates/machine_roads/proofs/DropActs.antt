@@ -36,13 +36,12 @@ use Rattle.machine_roads.specs.View.{Output, wakes}
 use Rattle.machine_roads.specs.Road.{Follows, waking_in}
 use Rattle.machine_roads.specs.Alone.{alone, is_resting, HasAll, HasIn}
 use Rattle.machine_roads.specs.Alike.{begins, upon}
-use Rattle.machine_roads.specs.Choosing.{Chooses}
 use Rattle.machine_roads.specs.Closing.{ComesOn, IsInDrop, loses}
 use Rattle.machine_roads.specs.Course.{IsCall}
 use Rattle.machine_roads.specs.InLoss.{AreLosing, IsCallInLoss, StopsInLoss, loss_codes, loss_ops, without_handles}
 use Rattle.machine_roads.specs.Losing.{left_of}
 use Rattle.machine_roads.specs.Lone.{EachLoneAlike, NoneWaits}
-use Rattle.machine_roads.specs.Within.{Act, ActsBy, IsCallIn, begins as begins_by, ends as ends_by, rests_after, standing}
+use Rattle.machine_roads.specs.Within.{Act, IsCallIn, begins as begins_by, ends as ends_by, rests_after, standing, start_in}
 use Rattle.machine_roads.specs.DropActs.{AreDropActs, AreLosingInDrop, DropActAlike, DropActsAlike, StandsDropping, behind, drops}
 use Rattle.machine_roads.specs.DropActs.{left_to_close}
 use Rattle.machine_roads.proofs.ActBegins.{choice_in, chosen_in, enough}
@@ -71,14 +70,15 @@ use Rattle.machine_roads.proofs.Named.{Named, named}
 use Rattle.machine_roads.proofs.OpenCalls.{AreOpen, HasOpen, of_calls, open_all}
 use Rattle.machine_roads.proofs.Seeking.{seeks}
 use Rattle.machine_roads.proofs.Tying.{LeadsSoOf, none_of as none_left, top_of}
-use Rattle.machine_roads.proofs.Unsearched.{ended_so, loss_so, off_so}
+use Rattle.machine_roads.proofs.Chosen.{ChoosesAnyhow}
+use Rattle.machine_roads.proofs.Unsearched.{ActsAnyhow, ended_so, loss_so, off_so}
 use Rattle.machine_roads.proofs.Waits.{HasOfTasks, NoTaskWaits, are_append, begins_calmly}
 use Rattle.machine_roads.proofs.Walked.{answer_leads_of, begun_leads_of, no_answer}
 
 module _ (s : Machine) (reached : Reached s) (p : ℕ) (there : p < length s.parties) (gone : s.world.gone ≡ true)
     (q : Plain Output Waker) (new : Machine) where
   abbrev Reaches : Step → Done → Type 0
-  Reaches t e = (r : Plain Output Waker) × ActsBy s p t q r e.world × StandsDropping e r
+  Reaches t e = (r : Plain Output Waker) × ActsAnyhow s p t q r e.world × StandsDropping e r
 
   abbrev choice : Refusal → Choice
   choice r = choice_in s q r
@@ -91,26 +91,27 @@ module _ (s : Machine) (reached : Reached s) (p : ℕ) (there : p < length s.par
 
   acts : (c : Call) (x : plain.Call Output Waker) (r : Refusal) → IsCallIn (mine its) s.world c x
       → is_on_executor c ≡ false → (os : List Op) → is_resting os ≡ true → (hints : List Hint)
-      → ActsBy s p (Begin p c) q (does wakes (choice r) x q) (alone p hints (upon os (begins p None c s.world))).world
-  acts c x r is off os under hints = record {
+      → ActsAnyhow s p (Begin p c) q (does wakes (choice r) x q) (alone p hints (upon os (begins p None c s.world))).world
+  acts c x r is off os under hints = λ start. record {
     choice = choice r;
     made = x;
     chosen = chosen_in s q r;
     is = begins_by c x is;
     so = refl;
     anew = off_anew q (does wakes (choice r) x q) (mine its) s.world c (choice r) x is off;
-    chooses = off_so (mine its) s.world (choice r) q p hints c off os under x is None;
+    chooses = off_so (mine its) s.world (choice r) q p hints c off os under x is None start;
   }
 
-  end_acts : (v : World) → Chooses s.world v granted plain.Ends q → ActsBy s p (Answer p IsDone) q (does wakes granted plain.Ends q) v
-  end_acts v chooses = record {
+  end_acts : (v : World) → ChoosesAnyhow s.world v plain.Ends q granted
+      → ActsAnyhow s p (Answer p IsDone) q (does wakes granted plain.Ends q) v
+  end_acts v chooses = λ start. record {
     choice = granted;
     made = plain.Ends;
     chosen = (chosen_in s q Granted).tells;
     is = ends_by;
     so = refl;
     anew = granted_anew q (does wakes granted plain.Ends q) granted plain.Ends refl;
-    chooses = chooses;
+    chooses = chooses start;
   }
 
   close_none : (fs ws : List ℕ) → due counts (closing_ops fs ws ++ op.End reply.Done hold.Nothing ∷ []) ≡ 0
@@ -443,7 +444,7 @@ drop_lists (a ∷ acts) s reached p others gone q so are =
     let now = subst (λ e. StandsDropping e q) (taken_over s p a.party others it.others (p == a.party) refl) so in
     let one = one_act s reached a.party there gone q a.left now a.first a.steps it.its it.rests it.made in (
       one.0,
-      one.1,
+      one.1 (start_in s a),
       one.2,
       drop_lists acts a.left next a.party (goes_rest a.steps (after s a.first) a.left a.party it.rests k.1
           (still-rest a.party s a.first it.its it.others)) (still_gone (a.first ∷ a.steps) s a.left reached it.made gone) one.0 one.2 are.1,

@@ -1,7 +1,5 @@
 -- What leaves the turn, the list of queues and what runs have counted as they are.
-use Rattle.std.proofs.Common.{◌≡◌, ◌≤◌, ◌+◌, ◌++◌, ℕ, List, [], true, refl, ◌∙◌, arith, subst}
-use Rattle.std.specs.Prelude.{Option}
-use Rattle.executor_model.specs.declared.call.Call.{Call}
+use Rattle.std.proofs.Common.{◌≡◌, ◌≤◌, ◌+◌, ◌++◌, ℕ, List, true, refl, ◌∙◌, arith}
 use Rattle.executor_model.specs.declared.op.Op.{Op}
 use Rattle.executor_model.specs.declared.op.Op.TheVariants as op
 use Rattle.executor_model.specs.declared.op.ListOp.TheVariants as list_op
@@ -9,18 +7,16 @@ use Rattle.executor_model.specs.declared.op.RunOp.TheVariants as run_op
 use Rattle.executor_model.specs.declared.op.TickOp.TheVariants as tick_op
 use Rattle.executor_model.specs.declared.op.TickOrRun.{TickOrRun}
 use Rattle.executor_model.specs.declared.op.TickOrRun.TheVariants as tick_or_run
-use Rattle.executor_model.specs.declared.op.Waker.{Waker}
 use Rattle.executor_model.specs.declared.step.Hint.{Hint}
 use Rattle.executor_model.specs.declared.step.UserEnd.{UserEnd}
-use Rattle.executor_model.specs.Steps.{begun, react}
-use Rattle.executor_model.specs.World.{Done, World, done, run_of}
+use Rattle.executor_model.specs.Steps.{react}
+use Rattle.executor_model.specs.World.{World, done, run_of}
 use Rattle.machine_roads.specs.Alone.{alone, is_resting}
 use Rattle.machine_roads.proofs.AloneKeeps.{calls_user, due, due_less}
 use Rattle.machine_roads.proofs.AloneKeeps as keeps
-use Rattle.machine_roads.proofs.Counted.{alone_counts, begins_count, counts, reacts_count, who_counts}
-use Rattle.machine_roads.proofs.Cut.{Comes}
-use Rattle.machine_roads.proofs.Enlisting.{alone_lists, begins_list, enlists, reacts_list}
-use Rattle.machine_roads.proofs.Seeking.{alone_turn, begins_turn, reacts_turn, seeks}
+use Rattle.machine_roads.proofs.Counted.{alone_counts, counts, reacts_count, who_counts}
+use Rattle.machine_roads.proofs.Enlisting.{alone_lists, enlists, reacts_list}
+use Rattle.machine_roads.proofs.Seeking.{alone_turn, reacts_turn, seeks}
 
 pub record Still (w v : World) : Type 0 where
   pub turn : v.urgent_turns ≡ w.urgent_turns
@@ -73,21 +69,7 @@ due_push xs ys none below = keeps.due_to_append calls_user stirs xs ys none belo
 pub due_resting : (os : List Op) → is_resting os ≡ true → due stirs os ≡ 0
 due_resting os rests = keeps.due_resting stirs os rests
 
--- so it is where it comes so far
-pub comes_still : (Asked : World → Op → Type 0) (p : ℕ) (hints : List Hint) (w : World) (os : List Op) (v : World) (left : List Op)
-    → Comes Asked p hints w os v left → due stirs os ≡ 0 → Still w v
-comes_still Asked p hints w os v left comes none =
-    subst (λ (d : Done). Still w d.world) (comes.to [])
-    (alone_still p hints w (os ++ []) (due_push os [] none refl))
-
--- as a call begins, and user code ends
-pub begins_still : (p : ℕ) (w : World) (here : Option Waker) (c : Call) → Still w (begun p w here c).world
-begins_still p w here c = record {
-  turn = begins_turn p w here c;
-  counted = begins_count p w here c;
-  listed = begins_list p w here c;
-}
-
+-- as user code ends
 pub reacts_still : (p : ℕ) (o : Op) (u : UserEnd) (w : World) → Still w (react p o u w).world
 reacts_still p o u w = record {
   turn = reacts_turn p o u w;

@@ -95,9 +95,12 @@ module _ {T A : Type 0} (wakes : A → Option ℕ) (c : Choice) where
       none [] is = cc
       none (code ∷ rest) is = cc
 
--- where none does, d's word on takes is nothing
+-- where none does, it is nothing what else is chosen as code ends: d, but who is told as in c
+abbrev pub telling_as : Choice → Choice → Choice
+telling_as c d = record d { tells = c.tells }
+
 module _ {T A : Type 0} (wakes : A → Option ℕ) (c d : Choice) where
-  next_none : (by : Taker A) (p : Plain T A) → searches_of wakes c by p ≡ None → takes.next wakes (taking_as d c) by p ≡ takes.next wakes
+  next_none : (by : Taker A) (p : Plain T A) → searches_of wakes c by p ≡ None → takes.next wakes (telling_as c d) by p ≡ takes.next wakes
       c by p
   next_none Try p is = refl
   next_none (Tick t w) p is = refl
@@ -107,14 +110,14 @@ module _ {T A : Type 0} (wakes : A → Option ℕ) (c d : Choice) where
       here = record { run = r; waker = w; at = p }
 
       split : (b : Bool) → cond b (Some here) None ≡ None
-          → cond b (takes.take wakes (taking_as d c) (Run r w) p) (takes.gives_way wakes (taking_as d c) r w p)
+          → cond b (takes.take wakes (telling_as c d) (Run r w) p) (takes.gives_way wakes (telling_as c d) r w p)
           ≡ cond b (takes.take wakes c (Run r w) p) (takes.gives_way wakes c r w p)
       split true is = absurd cc
       split false is = refl
 
   pending_none : (e : abstract.PendingEnd) (f : ℕ) (by : Taker A) (p : Plain T A)
       → searches_behind wakes c by (behind_pending wakes c e f p) ≡ None
-      → calls.pending_by wakes (taking_as d c) e f by p ≡ calls.pending_by wakes c e f by p
+      → calls.pending_by wakes (telling_as c d) e f by p ≡ calls.pending_by wakes c e f by p
   pending_none abstract.PendingEnd.Drops f by p is = refl
   pending_none abstract.PendingEnd.Forgets f by p is = refl
   pending_none abstract.PendingEnd.Queues f by p is =
@@ -123,32 +126,32 @@ module _ {T A : Type 0} (wakes : A → Option ℕ) (c d : Choice) where
       next_none by (moves.becomes wakes (takes.tell wakes c) f (abstract.end_pending (task f p)).task p) is
 
   out_none : (left : Left T A) (by : Taker A) (p : Plain T A) → searches_behind wakes c by (behind_out wakes c left p) ≡ None
-      → takes.out wakes (taking_as d c) left (Some by) p ≡ takes.out wakes c left (Some by) p
+      → takes.out wakes (telling_as c d) left (Some by) p ≡ takes.out wakes c left (Some by) p
   out_none left by p is = split left.dropped is
     where
       q : Plain T A
       q = behind_loss wakes c left.called (on left.let_go (moves.let_go wakes (takes.tell wakes c)) p)
 
       split : (o : Option T) → searches_behind wakes c by (or o (λ v. None) (Some q)) ≡ None
-          → or o (λ v. enters (Lose left.called (Some by)) (see (Loses v) p)) (takes.next wakes (taking_as d c) by q)
+          → or o (λ v. enters (Lose left.called (Some by)) (see (Loses v) p)) (takes.next wakes (telling_as c d) by q)
           ≡ or o (λ v. enters (Lose left.called (Some by)) (see (Loses v) p)) (takes.next wakes c by q)
       split (Some v) is = refl
       split None is = next_none by q is
 
   dropped_none : (f : ℕ) (end : End T) (by : Taker A) (p : Plain T A) → searches_behind wakes c by (behind_drop wakes c f end p) ≡ None
-      → takes.dropped wakes (taking_as d c) f end by p ≡ takes.dropped wakes c f end by p
+      → takes.dropped wakes (telling_as c d) f end by p ≡ takes.dropped wakes c f end by p
   dropped_none f end by p is = split end is
     where
       q : Plain T A
       q = takes.given_up wakes c f (changed (λ future. record future { is_dropped = true }) f p)
 
       split : (end : End T) → searches_behind wakes c by (behind_drop wakes c f end p) ≡ None
-          → takes.dropped wakes (taking_as d c) f end by p ≡ takes.dropped wakes c f end by p
+          → takes.dropped wakes (telling_as c d) f end by p ≡ takes.dropped wakes c f end by p
       split Closed is = let left = takes.left_by wakes c Closed (task f q) in out_none left by (put f left.task q) is
       split (Gave v) is = let left = takes.left_by wakes c (Gave v) (task f q) in out_none left by (put f left.task q) is
 
-  pends_none : (codes : List (Code T A)) (p : Plain T A) → searches_inside wakes c calls.Pends codes p ≡ None
-      → calls.innermost wakes (taking_as d c) codes (calls.pends wakes (taking_as d c)) p ≡ calls.innermost wakes c codes
+  pub pends_none : (codes : List (Code T A)) (p : Plain T A) → searches_inside wakes c calls.Pends codes p ≡ None
+      → calls.innermost wakes (telling_as c d) codes (calls.pends wakes (telling_as c d)) p ≡ calls.innermost wakes c codes
       (calls.pends wakes c) p
   pends_none [] p is = refl
   pends_none (PollOwn r w ∷ rest) p is = absurd cc
@@ -159,12 +162,12 @@ module _ {T A : Type 0} (wakes : A → Option ℕ) (c d : Choice) where
   pends_none (DropOwn r answer ∷ rest) p is = refl
   pends_none (Close fs all ∷ rest) p is = refl
 
-  closes_none : (fs all : List ℕ) (p : Plain T A) → calls.close wakes (taking_as d c) fs all p ≡ calls.close wakes c fs all p
+  pub closes_none : (fs all : List ℕ) (p : Plain T A) → calls.close wakes (telling_as c d) fs all p ≡ calls.close wakes c fs all p
   closes_none [] all p = refl
   closes_none (f ∷ fs) all p = refl
 
-  ends_none : (codes : List (Code T A)) (p : Plain T A) → searches_inside wakes c calls.Ends codes p ≡ None
-      → calls.innermost wakes (taking_as d c) codes (calls.ends wakes (taking_as d c)) p ≡ calls.innermost wakes c codes
+  pub ends_none : (codes : List (Code T A)) (p : Plain T A) → searches_inside wakes c calls.Ends codes p ≡ None
+      → calls.innermost wakes (telling_as c d) codes (calls.ends wakes (telling_as c d)) p ≡ calls.innermost wakes c codes
       (calls.ends wakes c) p
   ends_none [] p is = refl
   ends_none (Drop f end by ∷ rest) p is = dropped_none f end by (record p { inside = rest }) is
@@ -175,8 +178,8 @@ module _ {T A : Type 0} (wakes : A → Option ℕ) (c d : Choice) where
   ends_none (DropOwn r answer ∷ rest) p is = refl
   ends_none (Close fs all ∷ rest) p is = closes_none fs all (record p { inside = rest })
 
-  gives_none : (v : T) (codes : List (Code T A)) (p : Plain T A)
-      → calls.innermost wakes (taking_as d c) codes (calls.gives wakes (taking_as d c) v) p ≡ calls.innermost wakes c codes
+  pub gives_none : (v : T) (codes : List (Code T A)) (p : Plain T A)
+      → calls.innermost wakes (telling_as c d) codes (calls.gives wakes (telling_as c d) v) p ≡ calls.innermost wakes c codes
       (calls.gives wakes c v) p
   gives_none v [] p = refl
   gives_none v (Poll f by ∷ rest) p = refl
@@ -186,6 +189,7 @@ module _ {T A : Type 0} (wakes : A → Option ℕ) (c d : Choice) where
   gives_none v (DropOwn r answer ∷ rest) p = refl
   gives_none v (Close fs all ∷ rest) p = refl
 
+module _ {T A : Type 0} (wakes : A → Option ℕ) (c d : Choice) where
   handled : (f : ℕ) (w : A) (o : abstract.Polled T) (p : Plain T A)
       → calls.handle_by wakes (taking_as d c) f w o p ≡ calls.handle_by wakes c f w o p
   handled f w (abstract.Polled.Output v) p = refl
@@ -196,9 +200,9 @@ module _ {T A : Type 0} (wakes : A → Option ℕ) (c d : Choice) where
       → does wakes (taking_as d c) call p ≡ does wakes c call p
   not_searching calls.TryTick p is not = absurd cc
   not_searching (calls.PollTick t w) p is not = absurd cc
-  not_searching calls.Pends p is not = pends_none p.inside p is
-  not_searching calls.Ends p is not = ends_none p.inside p is
-  not_searching (calls.EndsWith v) p is not = gives_none v p.inside p
-  not_searching calls.DropExecutor p is not = closes_none (calls.living_from 0 p.futures) (calls.living_from 0 p.futures) p
+  not_searching calls.Pends p is not = pends_none wakes c (taking_as d c) p.inside p is
+  not_searching calls.Ends p is not = ends_none wakes c (taking_as d c) p.inside p is
+  not_searching (calls.EndsWith v) p is not = gives_none wakes c (taking_as d c) v p.inside p
+  not_searching calls.DropExecutor p is not = closes_none wakes c (taking_as d c) (calls.living_from 0 p.futures) (calls.living_from 0 p.futures) p
   not_searching (calls.PollHandle f w) p is not = handled f w (abstract.polled (task f p)) p
   not_searching _ p is not = refl

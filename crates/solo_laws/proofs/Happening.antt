@@ -8,6 +8,8 @@ pub mod Behind
 pub mod Ends
 pub mod Codes
 pub mod Each
+pub mod Spending
+pub mod Lasting
 pub mod Vacant
 pub mod Free
 pub mod Wakers

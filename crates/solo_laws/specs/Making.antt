@@ -18,7 +18,8 @@ use Rattle.plain_scheduler.specs.Calls.{Call, Cancel, Copy, Detach, DropExecutor
 use Rattle.plain_scheduler.specs.Calls.{Leak, NewRun, NewTick, Pends, PollHandle, PollRun, PollTick, Release, Spawn, TryTick, Use, Wake}
 use Rattle.plain_scheduler.specs.Calls.{does, is_granted}
 use Rattle.solo_laws.specs.Busy.{busy_in}
-use Rattle.solo_laws.specs.Courses.{Acts, Leads, Makes, copies, makes, makes_tick, polls, run_goes_on, run_looks, tick_lies_refused, tick_refused}
+use Rattle.solo_laws.specs.Courses.{Acts, Leads, Makes, copies, makes, makes_tick, polls, run_goes_on, run_looks, tick_lies_refused}
+use Rattle.solo_laws.specs.Courses.{tick_refused}
 use Rattle.solo_laws.specs.Courses.{leads, stays, tick_rests}
 use Rattle.solo_laws.specs.Numbered.{ticker_of}
 use Rattle.solo_laws.specs.Owner.{Owner, has_tick}
@@ -189,7 +190,7 @@ module _ {F T X : Type 0} (its : ℕ → Lent) (owner : Owner) (s : Solo F T X) 
   -- a call is on what is there: a future that came, a handle that isn't dropped, a tick that was made, a run on which no call is; and
   -- a tick that is made has a name of its own
   abbrev pub Allows : Refusal → ℕ → Call T (SoloWaker X) → Type 0
-  Allows refusal name (Spawn mark) = (length p.futures < most_accepted) × (is_granted refusal ≡ false → HasNoRoom)
+  Allows refusal name (Spawn mark) = is_granted refusal ≡ false → HasNoRoom
   Allows refusal name TryTick = Unit {0}
   Allows refusal name IsEmpty = Unit {0}
   Allows refusal name (Wake f) = f < length p.futures
@@ -203,7 +204,7 @@ module _ {F T X : Type 0} (its : ℕ → Lent) (owner : Owner) (s : Solo F T X) 
   Allows refusal name NewTick = has_tick name owner ≡ false
   Allows refusal name (PollTick t w) = (has_tick t owner ≡ true) × IsKnown w
   Allows refusal name (DropTick t) = has_tick t owner ≡ true
-  Allows refusal name NewRun = length p.runs < most_accepted
+  Allows refusal name NewRun = Unit {0}
   Allows refusal name (PollRun r w) = (is_in r (busy_in p.inside) ≡ false) × IsKnown w
   Allows refusal name (DropRun r) = is_in r (busy_in p.inside) ≡ false
   Allows refusal name Leak = p.is_static ≡ false
@@ -222,10 +223,12 @@ module _ {F T X : Type 0} (its : ℕ → Lent) (owner : Owner) (s : Solo F T X) 
   queues_with Ends = 3 * left_in p.inside + 14
   queues_with call = 14
 
-  -- a call may be made
+  -- a call may be made, and neither a queue nor a number comes to its end
   pub record MayCall (x : Wish T (SoloWaker X)) : Type 0 where
     pub allowed : Allows x.refusal x.name x.call
     pub life : HasLife (queues_with x.call) s.lines
+    pub futures : length p.futures < most_accepted
+    pub runs : length p.runs < most_accepted
 
   -- and happens: the executor's owner does something for it, as is decided; and whoever lay down last is told
   pub record Happens (x : Wish T (SoloWaker X)) : Type 0 where
@@ -249,12 +252,17 @@ module _ {F T X : Type 0} (its : ℕ → Lent) (owner : Owner) (s : Solo F T X) 
 abbrev pub by_number : ℕ → Lent
 by_number f = record { task = record { key = f; number = f }; place = record { key = f; stamp = 0 } }
 
+-- how many tasks a list of calls queues at most, and more than futures and runs come
+abbrev pub queued_by : {T A : Type 0} → ℕ → List (Wish T A) → ℕ
+queued_by limit [] = 0
+queued_by limit (x ∷ xs) = 6 * limit + 20 + queued_by limit xs
+
 module _ {F T X : Type 0} (its : ℕ → Lent) where
   -- each of these calls may be made where those before it have led, whatever was chosen in them
   abbrev pub MayGo : List (Wish T (SoloWaker X)) → Owner → Solo F T X → Plain T (SoloWaker X) → Type 0
   MayGo [] owner s p = Unit {0}
   MayGo (x ∷ xs) owner s p =
-      MayCall its owner s p x
+      Allows its owner s p x.refusal x.name x.call
       × ((it : Happens its owner s p x) → MayGo xs it.now it.after (does wakes it.choice x.call p))
 
   -- a list of calls is of those, each as it is decided

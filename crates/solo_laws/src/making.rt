@@ -1,5 +1,6 @@
 //! Each call that an owner may make happens: there is what the executor's owner does for it.
-ghost use Rattle.std.specs.Prelude.{◌≡◌, ℕ, Bool, List, not};
+ghost use Rattle.std.specs.Prelude.{◌≡◌, ◌≤◌, ℕ, Bool, List, not};
+ghost use Rattle.queue_steps.specs.ClosableQueue.{most_accepted};
 ghost use Rattle.solo.specs.Solo.{IsNew, counts};
 ghost use Rattle.solo.specs.declared.names.Kind.{Kind};
 ghost use Rattle.solo.specs.declared.names.SoloWaker.{SoloWaker};
@@ -8,7 +9,7 @@ ghost use Rattle.solo.specs.declared.solo.Solo.{Solo};
 ghost use Rattle.plain_scheduler.specs.Calls.{new};
 ghost use Rattle.plain_scheduler.specs.State.{Plain, Who};
 ghost use Rattle.solo_laws.specs.Led.{IsLed};
-ghost use Rattle.solo_laws.specs.Making.{Goes, Happens, MayCall, MayGo, NextIsFree, WakersAreKnown, Wish, by_number};
+ghost use Rattle.solo_laws.specs.Making.{Goes, Happens, MayCall, MayGo, NextIsFree, WakersAreKnown, Wish, by_number, queued_by};
 ghost use Rattle.solo_laws.specs.Owner.{Owner, new_owner};
 
 /// Wherever a list of calls leads both, the next future's name is free, and runs are polled by wakers of futures that came, each call that
@@ -19,11 +20,11 @@ pub fn each_call_happens<F, T, X>()
         → Happens its owner s p x }
 {}
 
-/// So, from new ones on, each list of calls of which each may be made where those before it have led is one of the executor's: there is
-/// what its owner does for each, and what is shown.
+/// So, from new ones on, each list of calls of which each may be made where those before it have led, and which queue no more tasks than a
+/// queue accepts in its life, is one of the executor's: there is what its owner does for each, and what is shown.
 pub fn lists_of_calls_happen<F, T, X>()
     ensures { (future : F) (limit : ℕ) (kind : Kind) (is_static : Bool) (first : Solo F T X) (number : Who → ℕ)
         (xs : List (Wish T (SoloWaker X))) → IsNew limit kind first → counts kind ≡ not is_static
-        → MayGo by_number xs (new_owner number) first (new limit is_static)
+        → queued_by limit xs ≤ most_accepted → MayGo by_number xs (new_owner number) first (new limit is_static)
         → Goes by_number xs (new_owner number) first (new limit is_static) }
 {}

@@ -19,7 +19,8 @@ use Rattle.two_roads.proofs.Inner.{seen_in}
 use Rattle.two_roads.proofs.Refusing.{Lie, lie_in, turns_seen}
 use Rattle.two_roads.proofs.Says.{ActSays}
 
-module _ (s : Machine) (q : Plain Output Waker) (a : Act) (r : Plain Output Waker) (by : ActsBy s a.party a.first q r a.left.world (start_in s a))
+module _ (s : Machine) (q : Plain Output Waker) (a : Act) (r : Plain Output Waker)
+    (by : ActsBy s a.party a.first q r a.left.world (start_in s a))
     (lie : Lie s.world q) (seen : heard_in a.left.world.trace ≡ map shown_alike r.events) (lie_then : Lie a.left.world r) where
   -- by what is seen to be refused as by what is
   turns_by : turns_of wakes_in (record by.choice { refusal = refused_in s a }) by.made q ≡ turns_of wakes_in by.choice by.made q

@@ -100,7 +100,8 @@ module _ {T A : Type 0} (wakes : A → Option ℕ) (c d : Choice) (p : Plain T A
 
 module _ {T X : Type 0} (number : X → ℕ) where
   -- one act
-  pub one_same : (s : Machine) (a : Act) (q r : Plain Output Waker) (by : ActsBy s a.party a.first q r a.left.world (start_in s a)) → Lie s.world q
+  pub one_same : (s : Machine) (a : Act) (q r : Plain Output Waker) (by : ActsBy s a.party a.first q r a.left.world (start_in s a)) → Lie
+      s.world q
       → heard_in a.left.world.trace ≡ map shown_alike r.events → Lie a.left.world r → (p : Plain T (SoloWaker X)) (c : Choice)
       (call : Call T (SoloWaker X)) → renamed nothing (numbered number) p ≡ q
       → IsMade s a.party a.first (call_as nothing (numbered number) call) → (asks_memory wakes c p call ≡ true → c.refusal ≡ refused_in s a)

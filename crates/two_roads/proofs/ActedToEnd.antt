@@ -112,7 +112,8 @@ module _ {F T X : Type 0} (its : ℕ → Lent) where
 
 module _ {T X : Type 0} (number : X → ℕ) where
   drop_acted : (s : Machine) (q : Plain Output Waker) (acts : List Act) (go : DropActAlike s q acts) (p : Plain T (SoloWaker X))
-      (cs : List (Choice × Call T (SoloWaker X))) → Lie s.world q → renamed nothing (numbered number) p ≡ q → AreEndsOfSteps number s acts p cs
+      (cs : List (Choice × Call T (SoloWaker X))) → Lie s.world q → renamed nothing (numbered number) p ≡ q → AreEndsOfSteps number s acts
+      p cs
       → AllAside cs p
       → renamed nothing (numbered number) (course wakes cs p) ≡ course wakes_in (drop_acts_by s q acts go) q
   drop_acted s q [] go p [] lie is are tell = is

@@ -1,5 +1,6 @@
 -- From new ones on what is refused, and whom runs rob, says it all: both look first at the same mark, count alike and take alike.
-use Rattle.std.proofs.Common.{◌≡◌, ℕ, ◌+◌, ◌%◌, ◌==◌, ◌≤◌, ◌<◌, not, List, [], ◌∷◌, ◌++◌, length, map, take, refl, sym, ap, ◌∙◌, subst, arith}
+use Rattle.std.proofs.Common.{◌≡◌, ℕ, ◌+◌, ◌%◌, ◌==◌, ◌≤◌, ◌<◌, not, List, [], ◌∷◌, ◌++◌, length, map, take, refl, sym, ap, ◌∙◌, subst}
+use Rattle.std.proofs.Common.{arith}
 use Rattle.std.proofs.Common.{get_or-set_other}
 use Rattle.std.specs.Prelude.{reverse}
 use Rattle.executor_model.specs.declared.kind.Kind.{Kind as MachineKind}
@@ -20,7 +21,6 @@ use Rattle.solo.specs.Solo.{IsNew, counts}
 use Rattle.plain_scheduler.specs.State.{Choice, Event, Plain, Who}
 use Rattle.plain_scheduler.specs.Usual.{order_by}
 use Rattle.plain_scheduler.specs.Calls.{Call, course, does, new}
-use Rattle.plain_scheduler.specs.Searches.{searches}
 use Rattle.machine_roads.specs.Seeing.{heard_in, shown as shown_alike}
 use Rattle.machine_roads.specs.View.{Output, wakes as wakes_in}
 use Rattle.machine_roads.specs.Within.{Act, ActAlike, AreActs, StandsAlike, alike, nowhere, standing, start_in}
@@ -68,13 +68,14 @@ module _ {F T X : Type 0} (its : ℕ → Lent) (number : X → ℕ) where
       → StandsAlike (standing s before) q → AreActs s acts → (go : ActAlike s q acts) → (p : Plain T (SoloWaker X))
       → renamed nothing (numbered number) p ≡ q → (cs : List (Choice × Call T (SoloWaker X))) (owner last : Owner) (y z : Solo F T X)
       (shown : List (Event T (SoloWaker X))) → (led : Leads its cs owner y p shown last z) → Known its owner y p
-      → IsInStep s.world.urgent_turns y.lines.turn → ((k : ℕ) → has_counted s.world k ≡ counts_of owner k) → Below owner → s.world.listed ≡ order_of y
-      → AreOfSteps number s acts led
+      → IsInStep s.world.urgent_turns y.lines.turn → ((k : ℕ) → has_counted s.world k ≡ counts_of owner k) → Below owner
+      → s.world.listed ≡ order_of y → AreOfSteps number s acts led
       → renamed nothing (numbered number) (course wakes cs p) ≡ course wakes_in (acts_by s q acts go) q
   in_step [] s reached before others q stands are go p is [] owner last y z shown (stays owner' y' p') known step same below ordered of = is
   in_step [] s reached before others q stands are go p is (x ∷ xs) owner last y z shown
       (leads c call rest b now e t y2 v r first more tells acts_so on) known step same below ordered of = absurd of
-  in_step (a ∷ acts) s reached before others q stands are go p is [] owner last y z shown (stays owner' y' p') known step same below ordered of = absurd of
+  in_step (a ∷ acts) s reached before others q stands are go p is [] owner last y z shown (stays owner' y' p') known step same below
+      ordered of = absurd of
   in_step (a ∷ acts) s reached before others q stands are go p is (x ∷ xs) owner last y z shown
       (leads c call rest b now e t y2 v r first more tells acts_so on) known step same below ordered of =
       let it = are.0 in

@@ -2,3 +2,4 @@
 pub mod Came
 pub mod Near
 pub mod Ending
+pub mod Allowed

@@ -7,20 +7,19 @@ use Rattle.executor_parts.specs.declared.mark.Mark.TheVariants.{Plain as PlainMa
 use Rattle.executor_model.specs.declared.op.Waker.{Waker}
 use Rattle.executor_model.specs.World.{Done, World}
 use Rattle.task_moves.specs.AbstractTask as abstract
-use Rattle.task_moves.specs.AbstractTask.{AbstractTask, Left}
-use Rattle.plain_scheduler.specs.State.{Answers, ARun, ATick, AtOnce, Choice, Close, Closed, Code, Drop, DropOwn, Due, End, Event, Full}
-use Rattle.plain_scheduler.specs.State.{Gave}
-use Rattle.plain_scheduler.specs.State.{Later, Lose, Loses, Lying, Made, NoMemory, Pending, Plain, Poll, PollOwn, Refusal, Run, Running}
-use Rattle.plain_scheduler.specs.State.{Taker, Tick, Try}
+use Rattle.task_moves.specs.AbstractTask.{AbstractTask}
+use Rattle.plain_scheduler.specs.State.{Answers, ARun, ATick, AtOnce, Choice, Code, Due, Event, Full}
+use Rattle.plain_scheduler.specs.State.{Later, Lying, Made, NoMemory, Pending, Plain, Refusal, Run, Running}
+use Rattle.plain_scheduler.specs.State.{Tick}
 use Rattle.plain_scheduler.specs.State.{Granted, Who}
 use Rattle.plain_scheduler.specs.Lists.{any, on, or, without}
-use Rattle.plain_scheduler.specs.Moves.{answers, appended, changed, chosen, copied, enters, is_common, looks, put, runs, see, task, tell}
+use Rattle.plain_scheduler.specs.Moves.{answers, appended, chosen, copied, is_common, looks, put, runs, task, tell}
 use Rattle.plain_scheduler.specs.Moves as moves
 use Rattle.plain_scheduler.specs.Takes as takes
 use Rattle.plain_scheduler.specs.Calls as calls
 use Rattle.plain_scheduler.specs.Calls.{Call, does, is_granted, living_from}
-use Rattle.plain_scheduler.specs.Searches.{Search, behind_drop, behind_loss, behind_out, behind_pending, finds, searches, searches_behind}
-use Rattle.plain_scheduler.specs.Searches.{searches_inside, searches_of}
+use Rattle.plain_scheduler.specs.Searches.{Search, finds, searches}
+use Rattle.plain_scheduler.specs.Searches.{searches_inside}
 use Rattle.plain_scheduler.specs.Turns.{turns_of}
 use Rattle.plain_scheduler.specs.Usual.{run_turns, vain_turns}
 use Rattle.executor_parts.specs.Sleepers.{Sleepers}
@@ -38,7 +37,7 @@ use Rattle.machine_roads.proofs.Puts.{put_by}
 use Rattle.machine_roads.proofs.RunLies.{none_due}
 use Rattle.machine_roads.proofs.Silent.{none_told, vain_at}
 use Rattle.machine_roads.proofs.TickPolls.{nothing_is}
-use Rattle.plain_laws.proofs.Searching.{searching}
+use Rattle.plain_laws.proofs.Searching.{closes_none, ends_none, gives_none, pends_none, searching}
 use Rattle.plain_laws.proofs.TakesDue.{chosen_found}
 use Rattle.two_roads.specs.Refusing.{asks_memory, ends_refused, has_to_wait, refused_so}
 use Rattle.two_roads.specs.Renaming.{call_as, is_refusal}
@@ -300,97 +299,6 @@ abbrev otherwise : Choice → Refusal → Choice
 otherwise c x = record c { refusal = x }
 
 module _ {T A : Type 0} (wakes : A → Option ℕ) (c : Choice) (x : Refusal) where
-  -- where no run searches
-  next_none : (by : Taker A) (p : Plain T A) → searches_of wakes c by p ≡ None
-      → takes.next wakes (otherwise c x) by p ≡ takes.next wakes c by p
-  next_none Try p is = refl
-  next_none (Tick t w) p is = refl
-  next_none (Run r w) p is = split (nat_lt (or (slice_get p.runs r) (λ run. run.taken) 0) 200) is
-    where
-      here : Search T A
-      here = record { run = r; waker = w; at = p }
-
-      split : (b : Bool) → cond b (Some here) None ≡ None
-          → cond b (takes.take wakes (otherwise c x) (Run r w) p) (takes.gives_way wakes (otherwise c x) r w p)
-          ≡ cond b (takes.take wakes c (Run r w) p) (takes.gives_way wakes c r w p)
-      split true is = absurd cc
-      split false is = refl
-
-  pending_none : (o : abstract.PendingEnd) (f : ℕ) (by : Taker A) (p : Plain T A)
-      → searches_behind wakes c by (behind_pending wakes c o f p) ≡ None
-      → calls.pending_by wakes (otherwise c x) o f by p ≡ calls.pending_by wakes c o f by p
-  pending_none abstract.PendingEnd.Drops f by p is = refl
-  pending_none abstract.PendingEnd.Forgets f by p is = refl
-  pending_none abstract.PendingEnd.Queues f by p is =
-      next_none by (moves.becomes wakes (tell wakes c) f (abstract.end_pending (task f p)).task p) is
-  pending_none abstract.PendingEnd.Rests f by p is =
-      next_none by (moves.becomes wakes (tell wakes c) f (abstract.end_pending (task f p)).task p) is
-
-  out_none : (left : Left T A) (by : Taker A) (p : Plain T A) → searches_behind wakes c by (behind_out wakes c left p) ≡ None
-      → takes.out wakes (otherwise c x) left (Some by) p ≡ takes.out wakes c left (Some by) p
-  out_none left by p is = split left.dropped is
-    where
-      q : Plain T A
-      q = behind_loss wakes c left.called (on left.let_go (moves.let_go wakes (tell wakes c)) p)
-
-      split : (o : Option T) → searches_behind wakes c by (or o (λ v. None) (Some q)) ≡ None
-          → or o (λ v. enters (Lose left.called (Some by)) (see (Loses v) p)) (takes.next wakes (otherwise c x) by q)
-          ≡ or o (λ v. enters (Lose left.called (Some by)) (see (Loses v) p)) (takes.next wakes c by q)
-      split (Some v) is = refl
-      split None is = next_none by q is
-
-  dropped_none : (f : ℕ) (end : End T) (by : Taker A) (p : Plain T A)
-      → searches_behind wakes c by (behind_drop wakes c f end p) ≡ None
-      → takes.dropped wakes (otherwise c x) f end by p ≡ takes.dropped wakes c f end by p
-  dropped_none f end by p is = split end is
-    where
-      q : Plain T A
-      q = takes.given_up wakes c f (changed (λ future. record future { is_dropped = true }) f p)
-
-      split : (end : End T) → searches_behind wakes c by (behind_drop wakes c f end p) ≡ None
-          → takes.dropped wakes (otherwise c x) f end by p ≡ takes.dropped wakes c f end by p
-      split Closed is = let left = takes.left_by wakes c Closed (task f q) in out_none left by (put f left.task q) is
-      split (Gave v) is = let left = takes.left_by wakes c (Gave v) (task f q) in out_none left by (put f left.task q) is
-
-  pends_none : (codes : List (Code T A)) (p : Plain T A) → searches_inside wakes c calls.Pends codes p ≡ None
-      → calls.innermost wakes (otherwise c x) codes (calls.pends wakes (otherwise c x)) p ≡ calls.innermost wakes c codes
-      (calls.pends wakes c) p
-  pends_none [] p is = refl
-  pends_none (Poll f by ∷ rest) p is =
-      let p0 : Plain T A = record p { inside = rest } in pending_none (abstract.pending_end (task f p0)) f by p0 is
-  pends_none (PollOwn r w ∷ rest) p is = absurd cc
-  pends_none (Drop f end by ∷ rest) p is = refl
-  pends_none (Lose awaiter by ∷ rest) p is = refl
-  pends_none (DropOwn r answer ∷ rest) p is = refl
-  pends_none (Close fs all ∷ rest) p is = refl
-
-  gives_on : (v : T) (codes : List (Code T A)) (p : Plain T A)
-      → calls.innermost wakes (otherwise c x) codes (calls.gives wakes (otherwise c x) v) p ≡ calls.innermost wakes c codes
-      (calls.gives wakes c v) p
-  gives_on v [] p = refl
-  gives_on v (Poll f by ∷ rest) p = refl
-  gives_on v (PollOwn r w ∷ rest) p = refl
-  gives_on v (Drop f end by ∷ rest) p = refl
-  gives_on v (Lose awaiter by ∷ rest) p = refl
-  gives_on v (DropOwn r answer ∷ rest) p = refl
-  gives_on v (Close fs all ∷ rest) p = refl
-
-  closes_on : (fs all : List ℕ) (p : Plain T A) → calls.close wakes (otherwise c x) fs all p ≡ calls.close wakes c fs all p
-  closes_on [] all p = refl
-  closes_on (f ∷ fs) all p = refl
-
-  ends_none : (codes : List (Code T A)) (p : Plain T A) → searches_inside wakes c calls.Ends codes p ≡ None
-      → calls.innermost wakes (otherwise c x) codes (calls.ends wakes (otherwise c x)) p ≡ calls.innermost wakes c codes
-      (calls.ends wakes c) p
-  ends_none [] p is = refl
-  ends_none (Poll f by ∷ rest) p is = refl
-  ends_none (PollOwn r w ∷ rest) p is = refl
-  ends_none (Drop f end by ∷ rest) p is = dropped_none f end by (record p { inside = rest }) is
-  ends_none (Lose awaiter None ∷ rest) p is = refl
-  ends_none (Lose awaiter (Some by) ∷ rest) p is = next_none by (behind_loss wakes c awaiter (record p { inside = rest })) is
-  ends_none (DropOwn r answer ∷ rest) p is = refl
-  ends_none (Close fs all ∷ rest) p is = closes_on fs all (record p { inside = rest })
-
   -- a run that finds one
   found_same : (call : Call T A) (p : Plain T A) (y : Search T A) → searches wakes c call p ≡ Some y → finds y ≡ true
       → does wakes (otherwise c x) call p ≡ does wakes c call p
@@ -446,10 +354,10 @@ module _ {T A : Type 0} (wakes : A → Option ℕ) (c : Choice) (x : Refusal) wh
   unasked (calls.PollRun r w) p asks = refl
   unasked (calls.DropRun r) p asks = refl
   unasked calls.Leak p asks = refl
-  unasked calls.DropExecutor p asks = closes_on (living_from 0 p.futures) (living_from 0 p.futures) p
-  unasked calls.Pends p asks = ended calls.Pends p asks (λ none. pends_none p.inside p none)
-  unasked (calls.EndsWith v) p asks = gives_on v p.inside p
-  unasked calls.Ends p asks = ended calls.Ends p asks (λ none. ends_none p.inside p none)
+  unasked calls.DropExecutor p asks = closes_none wakes c (otherwise c x) (living_from 0 p.futures) (living_from 0 p.futures) p
+  unasked calls.Pends p asks = ended calls.Pends p asks (λ none. pends_none wakes c (otherwise c x) p.inside p none)
+  unasked (calls.EndsWith v) p asks = gives_none wakes c (otherwise c x) v p.inside p
+  unasked calls.Ends p asks = ended calls.Ends p asks (λ none. ends_none wakes c (otherwise c x) p.inside p none)
   unasked call p asks = absurd cc
 
 -- wherever a party rests, the wakers of those that sleep are those of who lies and wasn't called

@@ -1,5 +1,5 @@
 -- Calls of the machine one inside another, as calls of the plain scheduler.
-use Rattle.std.specs.Prelude.{◌≡◌, ℕ, true, List, [], ◌∷◌, Option, Some}
+use Rattle.std.specs.Prelude.{◌≡◌, ℕ, true, List, [], ◌∷◌, Some}
 use Rattle.executor_model.specs.declared.op.Waker.{Waker}
 use Rattle.executor_model.specs.Steps.{Machine}
 use Rattle.solo.specs.declared.names.SoloWaker.{SoloWaker}

@@ -26,10 +26,12 @@ use Rattle.solo_laws.specs.Courses.{Acts, Makes}
 use Rattle.solo_laws.specs.Numbered.{ticker_of}
 use Rattle.solo_laws.specs.Owner.{Owner}
 use Rattle.solo_laws.specs.Road.{wakes}
-use Rattle.solo_laws.specs.RunGoing.{IsEnding, RunsOn, Stage, code_at, drop_ends, gives_way, in_try, looks_on, loss_ends, poll_ends, taken_by}
+use Rattle.solo_laws.specs.RunGoing.{IsEnding, RunsOn, Stage, code_at, drop_ends, gives_way, in_try, looks_on, loss_ends, poll_ends}
+use Rattle.solo_laws.specs.RunGoing.{taken_by}
 use Rattle.solo_laws.specs.RunTaking.{woken_by}
 use Rattle.solo_laws.specs.Tabled.{named}
-use Rattle.solo_laws.proofs.CallTurns.{after_at, calls_at, cancelled_at, detached_at, drains_at, ends_turn, finished_at, handle_at, leaked_at}
+use Rattle.solo_laws.proofs.CallTurns.{after_at, calls_at, cancelled_at, detached_at, drains_at, ends_turn, finished_at, handle_at}
+use Rattle.solo_laws.proofs.CallTurns.{leaked_at}
 use Rattle.solo_laws.proofs.CallTurns.{pending_at, ready_at, taken_by_at, used_at, woken_at}
 use Rattle.solo_laws.proofs.Choices.Searched.{Searched, a_search, acts_searched, goes_sought, no_search}
 use Rattle.solo_laws.proofs.Choices.Seeking.{silent}

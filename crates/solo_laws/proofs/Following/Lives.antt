@@ -27,7 +27,7 @@ module _ {F T X : Type 0} where
   lined_lives : (n : ℕ) (t : Task) (s : Solo F T X) → Lives (suc n) s → Lives n (turns.lined t s)
   lined_lives n t s life = life_pushed t n (turns.mark_of t s) s.lines life
 
-  lined_if_lives : (n : ℕ) (due : Bool) (t : Task) (s : Solo F T X) → Lives (suc n) s → Lives n (turns.lined_if due t s)
+  pub lined_if_lives : (n : ℕ) (due : Bool) (t : Task) (s : Solo F T X) → Lives (suc n) s → Lives n (turns.lined_if due t s)
   lined_if_lives n due t s life = chosen (Lives n) due (turns.lined t s) s (lined_lives n t s life) (younger n s.lines life)
 
   handed_by_lives : (n : ℕ) (w : Option (SoloWaker X)) (s : Solo F T X) → Lives (suc (suc n)) s → Lives n (turns.handed_by w s)
@@ -38,7 +38,7 @@ module _ {F T X : Type 0} where
   handed_by_lives n (Some (Outside w)) s life = two_fewer n s.lines life
   handed_by_lives n None s life = two_fewer n s.lines life
 
-  told_lives : (n : ℕ) (s : Solo F T X) → Lives (suc (suc n)) s → Lives n (turns.told s)
+  pub told_lives : (n : ℕ) (s : Solo F T X) → Lives (suc (suc n)) s → Lives n (turns.told s)
   told_lives n s life =
       let on : Solo F T X = record s { notified = true } in
       chosen (Lives n) s.notified s (turns.handed on) (two_fewer n s.lines life)

@@ -66,7 +66,8 @@ place_early r (q ∷ qs) n = by n (q.number == r) refl (λ n. place_early r qs n
     by zero false is rest = none_early (nat_lt (1 + k) (suc (length qs)))
     by (suc n) true is rest =
         ap (λ b. or (cond b (Some 0) None) (λ m. nat_lt m (suc n)) false) (before_all (length qs))
-        ∙ (before_all n ∙ sym (ap (λ b. if b then true else among r (take n (numbers qs))) (equal r q.number (sym (same_number q.number r is)))))
+        ∙ (before_all n
+        ∙ sym (ap (λ b. if b then true else among r (take n (numbers qs))) (equal r q.number (sym (same_number q.number r is)))))
       where
         equal : (a b : ℕ) → a ≡ b → (a == b) ≡ true
         equal a b same = grind (arith, nat_tests)

@@ -23,7 +23,7 @@ use Rattle.solo_laws.proofs.Following.Lines.{accepts_more}
 module _ {F T X : Type 0} (aside : Option Due) (name : ℕ → Task) (s : Solo F T X) (p : Plain T (SoloWaker X))
     (r : FollowsBut aside name s p) where
   -- one that is ready isn't dropped
-  living : (f : ℕ) → f < length p.futures → asked cells.may_start false (name f) s.cells ≡ true
+  pub living : (f : ℕ) → f < length p.futures → asked cells.may_start false (name f) s.cells ≡ true
       → is_in f (living_from 0 p.futures) ≡ true
   living f at is =
       let k = kept aside name cells.may_start f s p r at is in

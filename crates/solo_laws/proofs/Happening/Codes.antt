@@ -255,7 +255,8 @@ module _ {F T X : Type 0} (its : ℕ → Lent) (future : F) (owner : Owner) (s :
     where
       no_run : is_granted refusal ≡ false → wished plain.NewRun
       no_run refused =
-          is_acted its future owner s p known.stands refusal first second name refusal plain.NewRun _ owner s (makes_no_run refused) refl tt tt
+          is_acted its future owner s p known.stands refusal first second name refusal plain.NewRun _ owner s (makes_no_run refused) refl
+          tt tt
 
       by : (r : Refusal) → refusal ≡ r → wished plain.NewRun
       by Granted is =

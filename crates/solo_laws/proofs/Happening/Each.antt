@@ -1,5 +1,6 @@
 -- Each call that may be made happens.
-use Rattle.std.proofs.Common.{ℕ}
+use Rattle.std.proofs.Common.{ℕ, ◌<◌, length}
+use Rattle.queue_steps.specs.ClosableQueue.{most_accepted}
 use Rattle.solo.specs.declared.names.SoloWaker.{SoloWaker}
 use Rattle.solo.specs.declared.owed.Lent.{Lent}
 use Rattle.solo.specs.declared.solo.Solo.{Solo}
@@ -19,32 +20,33 @@ module _ {F T X : Type 0} (its : ℕ → Lent) (future : F) (owner : Owner) (s :
     (known : Known its owner s p) (free : NextIsFree its owner s p)
     (all : WakersAreKnown its owner s p) where
   by : (refusal : Refusal) (first second name : ℕ) (call : Call T (SoloWaker X)) → Allows its owner s p refusal name call
-      → HasLife (queues_with its owner s p call) s.lines
+      → HasLife (queues_with its owner s p call) s.lines → length p.futures < most_accepted → length p.runs < most_accepted
       → Happens its owner s p (wish its future owner s p known.stands refusal first second name call)
-  by r one two n (Spawn mark) may life = choosing.spawn_happens its future owner s p known.stands r one two n mark free may.0 may.1 life
-  by r one two n TryTick may life = choosing.try_happens its future owner s p known.stands r one two n life
-  by r one two n IsEmpty may life = choosing.look_happens its future owner s p known.stands r one two n
-  by r one two n (Wake f) may life = choosing.wake_happens its future owner s p known.stands r one two n f may life
-  by r one two n (Use f) may life = choosing.use_happens its future owner s p known.stands r one two n f may life
-  by r one two n (Copy f) may life = choosing.copy_happens its future owner s p known.stands r one two n f may
-  by r one two n (Release f) may life = choosing.release_happens its future owner s p known.stands r one two n f may life
-  by r one two n (PollHandle f w) may life =
+  by r one two n (Spawn mark) may life few fewer = choosing.spawn_happens its future owner s p known.stands r one two n mark free few may
+      life
+  by r one two n TryTick may life few fewer = choosing.try_happens its future owner s p known.stands r one two n life
+  by r one two n IsEmpty may life few fewer = choosing.look_happens its future owner s p known.stands r one two n
+  by r one two n (Wake f) may life few fewer = choosing.wake_happens its future owner s p known.stands r one two n f may life
+  by r one two n (Use f) may life few fewer = choosing.use_happens its future owner s p known.stands r one two n f may life
+  by r one two n (Copy f) may life few fewer = choosing.copy_happens its future owner s p known.stands r one two n f may
+  by r one two n (Release f) may life few fewer = choosing.release_happens its future owner s p known.stands r one two n f may life
+  by r one two n (PollHandle f w) may life few fewer =
       choosing.poll_happens its future owner s p known.stands r one two n f w may.0 may.1 may.2 life
-  by r one two n (Cancel f) may life = choosing.cancel_happens its future owner s p known.stands r one two n f may life
-  by r one two n (Detach f) may life = choosing.detach_happens its future owner s p known.stands r one two n f may life
-  by r one two n (DropHandle f) may life = choosing.drop_happens its future owner s p known.stands r one two n f may life
-  by r one two n NewTick may life = ticks.new_tick_happens its future owner s p known.stands r one two n may
-  by r one two n (PollTick t w) may life =
+  by r one two n (Cancel f) may life few fewer = choosing.cancel_happens its future owner s p known.stands r one two n f may life
+  by r one two n (Detach f) may life few fewer = choosing.detach_happens its future owner s p known.stands r one two n f may life
+  by r one two n (DropHandle f) may life few fewer = choosing.drop_happens its future owner s p known.stands r one two n f may life
+  by r one two n NewTick may life few fewer = ticks.new_tick_happens its future owner s p known.stands r one two n may
+  by r one two n (PollTick t w) may life few fewer =
       ticks.poll_tick_happens its future owner s p known.stands r one two n t w may.0 may.1 life
-  by r one two n (DropTick t) may life = ticks.drop_tick_happens its future owner s p known.stands r one two n t may life
-  by r one two n NewRun may life = codes.new_run_happens its future owner s p known r one two n may
-  by r one two n (PollRun k w) may life = codes.poll_run_happens its future owner s p known r one two n k w may.0
-  by r one two n (DropRun k) may life = codes.drop_run_happens its future owner s p known r one two n k may
-  by r one two n Leak may life = choosing.leak_happens its future owner s p known.stands r one two n may life
-  by r one two n DropExecutor may life = absurd may
-  by r one two n Pends may life = codes.pends_happen its future owner s p known r one two n all may life
-  by r one two n (EndsWith v) may life = codes.gives_happen its future owner s p known r one two n v may
-  by r one two n Ends may life = codes.ends_happen its future owner s p known r one two n all may life
+  by r one two n (DropTick t) may life few fewer = ticks.drop_tick_happens its future owner s p known.stands r one two n t may life
+  by r one two n NewRun may life few fewer = codes.new_run_happens its future owner s p known r one two n fewer
+  by r one two n (PollRun k w) may life few fewer = codes.poll_run_happens its future owner s p known r one two n k w may.0
+  by r one two n (DropRun k) may life few fewer = codes.drop_run_happens its future owner s p known r one two n k may
+  by r one two n Leak may life few fewer = choosing.leak_happens its future owner s p known.stands r one two n may life
+  by r one two n DropExecutor may life few fewer = absurd may
+  by r one two n Pends may life few fewer = codes.pends_happen its future owner s p known r one two n all may life
+  by r one two n (EndsWith v) may life few fewer = codes.gives_happen its future owner s p known r one two n v may
+  by r one two n Ends may life few fewer = codes.ends_happen its future owner s p known r one two n all may life
 
   pub happens : (x : Wish T (SoloWaker X)) → MayCall its owner s p x → Happens its owner s p x
-  happens x may = by x.refusal x.first x.second x.name x.call may.allowed may.life
+  happens x may = by x.refusal x.first x.second x.name x.call may.allowed may.life may.futures may.runs

@@ -43,7 +43,7 @@ module _ {F T X : Type 0} where
   calls_lives n (Some (Outside w)) s life = three_fewer n s.lines life
   calls_lives n (Some (OfTask t)) s life = used_lives n t s life
 
-  lets_go_lives : (n : ℕ) (o : Option (SoloWaker X)) (s : Solo F T X) → HasLife (suc (suc (suc n))) s.lines
+  pub lets_go_lives : (n : ℕ) (o : Option (SoloWaker X)) (s : Solo F T X) → HasLife (suc (suc (suc n))) s.lines
       → HasLife n (lets_go o s).lines
   lets_go_lives n None s life = three_fewer n s.lines life
   lets_go_lives n (Some (Outside w)) s life = three_fewer n s.lines life

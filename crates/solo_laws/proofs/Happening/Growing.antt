@@ -1,33 +1,30 @@
 -- No call takes a future or a run back, and lets one come at most; and the limit stays.
-use Rattle.std.proofs.Common.{◌≡◌, ℕ, zero, suc, ◌+◌, ◌≤◌, ◌==◌, count_by, nat_lt, if◌then◌else◌, Bool, true, false, List, [], ◌∷◌, ◌++◌}
-use Rattle.std.proofs.Common.{filter, find, map, length, Option, Some, None, slice_get, slice_set, refl, ap, ◌∙◌, arith}
+use Rattle.std.proofs.Common.{◌≡◌, ℕ, ◌+◌, ◌≤◌, nat_lt, if◌then◌else◌, Bool, true, false, List, [], ◌∷◌, ◌++◌}
+use Rattle.std.proofs.Common.{length, refl, ap, ◌∙◌, arith}
 use Rattle.executor_parts.specs.declared.mark.Mark.{Mark}
-use Rattle.executor_parts.specs.declared.mark.Mark.TheVariants.{Plain as PlainMark, Urgent}
 use Rattle.task_moves.specs.AbstractTask as abstract
 use Rattle.task_moves.specs.AbstractTask.{AbstractTask, Left}
 use Rattle.task_moves.specs.AbstractTask.PendingEnd.{Drops as EndDrops, Queues as EndQueues, Forgets as EndForgets, Rests as EndRests}
 use Rattle.solo.specs.declared.names.SoloWaker.{SoloWaker}
-use Rattle.plain_scheduler.specs.State.{ARun, ATick, AtOnce, Calls, Choice, Close, Closed, Code, Done, Drop, DropOwn, Due, End, Finished}
+use Rattle.plain_scheduler.specs.State.{ATick, Choice, Done, DropOwn, Finished}
 use Rattle.plain_scheduler.specs.State.{Full}
-use Rattle.plain_scheduler.specs.State.{Future, Granted}
-use Rattle.plain_scheduler.specs.State.{Later, Lose, Loses, Lying, Made, NoMemory, Plain, Poll, PollOwn, Polls, Refusal, Run, Running}
-use Rattle.plain_scheduler.specs.State.{Taker}
-use Rattle.plain_scheduler.specs.State.{Tick, Try, Who}
-use Rattle.plain_scheduler.specs.Lists.{each, on, or, repeat, without}
+use Rattle.plain_scheduler.specs.State.{Future}
+use Rattle.plain_scheduler.specs.State.{Made, NoMemory, Plain, PollOwn, Running}
+use Rattle.plain_scheduler.specs.State.{Tick, Try}
+use Rattle.plain_scheduler.specs.Lists.{each}
 use Rattle.plain_scheduler.specs.Moves.{answers, appended, becomes, called, changed, chosen, copied, enters, given_back, is_called}
 use Rattle.plain_scheduler.specs.Moves.{is_common}
 use Rattle.plain_scheduler.specs.Moves.{is_kept, let_go, lies, looks, moved, put, release, see, task, tell, up, wake}
 use Rattle.plain_scheduler.specs.Moves as moves
-use Rattle.plain_scheduler.specs.Takes as takes
 use Rattle.plain_scheduler.specs.Calls as plain
 use Rattle.plain_scheduler.specs.Calls.{Call, does, is_granted, living_from}
 use Rattle.solo_laws.specs.Road.{wakes}
 use Rattle.solo_laws.proofs.Following.Adding.{long_last}
 use Rattle.solo_laws.proofs.Following.Both.{handled_still}
 use Rattle.solo_laws.proofs.Following.Calling.{cancel_still}
-use Rattle.solo_laws.proofs.Following.Frames.{Still, becomes_still, called_still, copied_still, let_go_still, put_still, tell_still}
-use Rattle.solo_laws.proofs.Following.Lists.{length_set}
-use Rattle.solo_laws.proofs.Happening.Long.{AsMany, Long, ◌∘◌, becomes_long, close_long, copy_long, detach_long, each_long, ends_long, freed_long}
+use Rattle.solo_laws.proofs.Following.Frames.{tell_still}
+use Rattle.solo_laws.proofs.Happening.Long.{Long, ◌∘◌, becomes_long, close_long, copy_long, detach_long, each_long, ends_long}
+use Rattle.solo_laws.proofs.Happening.Long.{freed_long}
 use Rattle.solo_laws.proofs.Happening.Long.{gives_long, leaves_long, new_tick_long, of_still, over_long, pends_long, take_long}
 
 same_long : (n m : ℕ) → m ≡ n → n ≤ m
@@ -131,13 +128,17 @@ module _ {T X : Type 0} (c : Choice) where
   call_grows (Call.Use f) p = of_long p (does wakes c (Call.Use f) p) (becomes_answers f (abstract.release (abstract.wake (task f p))) p)
   call_grows (Call.Copy f) p = of_long p (does wakes c (Call.Copy f) p) (copy_long c f p)
   call_grows (Call.Release f) p = of_long p (does wakes c (Call.Release f) p) (becomes_answers f (abstract.release (task f p)) p)
-  call_grows (Call.PollHandle f w) p = of_long p (does wakes c (Call.PollHandle f w) p) (of_still c (handled_still c p f w (abstract.polled (task f p))))
-  call_grows (Call.Cancel f) p = of_long p (does wakes c (Call.Cancel f) p) (answered (plain.cancel wakes c f p) p (of_still c (cancel_still c f p)))
+  call_grows (Call.PollHandle f w) p = of_long p (does wakes c (Call.PollHandle f w) p)
+      (of_still c (handled_still c p f w (abstract.polled (task f p))))
+  call_grows (Call.Cancel f) p = of_long p (does wakes c (Call.Cancel f) p)
+      (answered (plain.cancel wakes c f p) p (of_still c (cancel_still c f p)))
   call_grows (Call.Detach f) p = of_long p (does wakes c (Call.Detach f) p) (detach_long c f p)
-  call_grows (Call.DropHandle f) p = of_long p (does wakes c (Call.DropHandle f) p) (detach_long c f (plain.cancel wakes c f p) ∘ of_still c (cancel_still c f p))
+  call_grows (Call.DropHandle f) p = of_long p (does wakes c (Call.DropHandle f) p)
+      (detach_long c f (plain.cancel wakes c f p) ∘ of_still c (cancel_still c f p))
   call_grows Call.NewTick p = of_long p (does wakes c Call.NewTick p) (new_tick_long c p)
   call_grows (Call.PollTick t w) p = of_long p (does wakes c (Call.PollTick t w) p) (take_long c (Tick t w) p)
-  call_grows (Call.DropTick t) p = of_long p (does wakes c (Call.DropTick t) p) (answered (moves.leaves wakes c (ATick t) p) p (leaves_long c (ATick t) p))
+  call_grows (Call.DropTick t) p = of_long p (does wakes c (Call.DropTick t) p)
+      (answered (moves.leaves wakes c (ATick t) p) p (leaves_long c (ATick t) p))
   call_grows Call.NewRun p = new_run_grows p
   call_grows (Call.PollRun r w) p =
       of_long p (does wakes c (Call.PollRun r w) p)
@@ -151,7 +152,8 @@ module _ {T X : Type 0} (c : Choice) where
       let q = each (living_from 0 p.futures) (plain.freed wakes c) (record p { is_static = true }) in
       let it = each_long c (living_from 0 p.futures) (plain.freed wakes c) (freed_long c) (record p { is_static = true }) in
       of_long p (does wakes c Call.Leak p) (record { futures = it.futures; runs = it.runs; limit = it.limit })
-  call_grows Call.DropExecutor p = of_long p (does wakes c Call.DropExecutor p) (close_long c (living_from 0 p.futures) (living_from 0 p.futures) p)
+  call_grows Call.DropExecutor p = of_long p (does wakes c Call.DropExecutor p)
+      (close_long c (living_from 0 p.futures) (living_from 0 p.futures) p)
   call_grows Call.Pends p = of_long p (does wakes c Call.Pends p) (pends_long c p)
   call_grows (Call.EndsWith v) p = of_long p (does wakes c (Call.EndsWith v) p) (gives_long c v p)
   call_grows Call.Ends p = of_long p (does wakes c Call.Ends p) (ends_long c p)

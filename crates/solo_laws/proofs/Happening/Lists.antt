@@ -1,25 +1,33 @@
 -- Lists of calls happen: each future's name is free as it comes.
-use Rattle.std.proofs.Common.{◌≡◌, ℕ, ◌<◌, ◌≤◌, ◌==◌, cond, not, Bool, true, false, List, [], ◌∷◌, ◌++◌, length, map, Option, Some}
-use Rattle.std.proofs.Common.{None, slice_index_or, refl, sym, ap, subst, arith}
+use Rattle.std.proofs.Common.{◌≡◌, ℕ, ◌+◌, ◌*◌, if◌then◌else◌, ◌<◌, ◌≤◌, ◌==◌, cond, not, Bool, true, false, List, [], ◌∷◌, ◌++◌, length}
+use Rattle.std.proofs.Common.{map, Option, Some}
+use Rattle.std.proofs.Common.{None, slice_index_or, refl, sym, ap, subst, ◌∙◌, arith}
 use Rattle.std.proofs.lemmas.Bool.Decides.{nat_tests}
+use Rattle.queue_steps.specs.ClosableQueue.{count_of_new, most_accepted}
+use Rattle.executor_parts.specs.declared.mark.Mark.{Mark}
+use Rattle.executor_parts.specs.declared.mark.Mark.TheVariants.{Plain as PlainMark, Urgent}
 use Rattle.executor_parts.specs.Places.{Entry, entry_at}
 use Rattle.solo.specs.declared.names.Kind.{Kind}
 use Rattle.solo.specs.declared.names.Task.{Task}
 use Rattle.solo.specs.declared.names.SoloWaker.{SoloWaker}
 use Rattle.solo.specs.declared.names.SoloWaker.TheVariants.{Task as OfTask, Outside}
 use Rattle.solo.specs.declared.solo.Solo.{Solo}
+use Rattle.solo.specs.Lines.{line_of, new_lines}
 use Rattle.solo.specs.Solo.{IsNew, counts}
-use Rattle.plain_scheduler.specs.State.{Choice, Plain, Who}
-use Rattle.plain_scheduler.specs.Calls.{Call, PollRun, does, living_from, new}
+use Rattle.plain_scheduler.specs.State.{Choice, Close, Code, Drop, DropOwn, Lose, Plain, Poll, PollOwn, Who}
+use Rattle.plain_scheduler.specs.Calls.{Call, Ends, Leak, PollRun, does, living_from, new}
 use Rattle.solo_laws.specs.Courses.{Leads, leads, stays}
-use Rattle.solo_laws.specs.Making.{Allows, Goes, IsKnown, MayCall, MayGo, NextIsFree, WakersAreKnown, Wish, by_number}
+use Rattle.solo_laws.specs.Making.{Allows, Goes, IsKnown, MayCall, MayGo, NextIsFree, WakersAreKnown, Wish, by_number, left_in, queued_by}
+use Rattle.solo_laws.specs.Making.{queues_with}
 use Rattle.solo_laws.specs.Owner.{Owner, new_owner}
-use Rattle.solo_laws.specs.Road.{is_in, wakes}
+use Rattle.solo_laws.specs.Road.{HasLife, count_of, is_in, wakes}
 use Rattle.solo_laws.specs.Tabled.{Row, row, row_of}
 use Rattle.solo_laws.proofs.Following.Due.{equal}
 use Rattle.solo_laws.proofs.Following.Leaving.{heads, tails}
 use Rattle.solo_laws.proofs.Following.Rows.{living_below}
 use Rattle.solo_laws.proofs.Showing.Courses.{Known, leads_alike, new_known}
+use Rattle.solo_laws.proofs.Happening.Choosing.{fewer}
+use Rattle.solo_laws.proofs.Happening.Lasting.{acts_live, few_entries, few_kept}
 use Rattle.solo_laws.proofs.Happening.Each.{happens}
 use Rattle.solo_laws.proofs.Happening.Free.{acts_vacant}
 use Rattle.solo_laws.proofs.Happening.Growing.{call_grows}
@@ -55,6 +63,19 @@ none_has {F} n (e ∷ es) held home (f ∷ fs) rows below =
     by true same rest = absurd (apart n e.key (subst (λ k. k < n) (sym key_is) (below f first)) same)
     by false other rest = rest
 
+-- new queues have accepted none
+none_yet : (limit n : ℕ) → n ≤ most_accepted → (mark : Mark) → count_of (line_of mark (new_lines limit)).accepted + n ≤ most_accepted
+none_yet limit n most mark = which mark (by (limit == 1))
+  where
+    by : (b : Bool) → count_of (if b then None else Some 0) + n ≤ most_accepted
+    by true = omega (arith, most)
+    by false = omega (arith, most)
+
+    which : (mark : Mark) → count_of (count_of_new limit) + n ≤ most_accepted
+        → count_of (line_of mark (new_lines limit)).accepted + n ≤ most_accepted
+    which PlainMark is = is
+    which Urgent is = is
+
 module _ {F T X : Type 0} where
   next_free : (owner : Owner) (s : Solo F T X) (p : Plain T (SoloWaker X)) → Known by_number owner s p → IsVacant (length p.futures) s.cells
       → NextIsFree by_number owner s p
@@ -68,12 +89,12 @@ module _ {F T X : Type 0} where
 
   -- runs are polled by known wakers still
   still_known : (owner : Owner) (s : Solo F T X) (p : Plain T (SoloWaker X)) (now : Owner) (z : Solo F T X) (c : Choice)
-      (x : Wish T (SoloWaker X)) → MayCall by_number owner s p x → WakersAreKnown by_number owner s p
+      (x : Wish T (SoloWaker X)) → Allows by_number owner s p x.refusal x.name x.call → WakersAreKnown by_number owner s p
       → WakersAreKnown by_number now z (does wakes c x.call p)
   still_known owner s p now z c x may all =
       let q = does wakes c x.call p in
       more_all (IsKnown by_number owner s p) (IsKnown by_number now z q) (still (call_grows c x.call p).futures) q.inside
-      (call_all c (IsKnown by_number owner s p) x.call p (polls x.call may.allowed) all)
+      (call_all c (IsKnown by_number owner s p) x.call p (polls x.call may) all)
     where
       still : length p.futures ≤ length (does wakes c x.call p).futures → (w : SoloWaker X) → IsKnown by_number owner s p w
           → IsKnown by_number now z (does wakes c x.call p) w
@@ -85,10 +106,37 @@ module _ {F T X : Type 0} where
       polls (PollRun r w) its = its.1
       polls call its = tt
 
-  go : (future : F) (xs : List (Wish T (SoloWaker X))) (owner : Owner) (s : Solo F T X) (p : Plain T (SoloWaker X))
-      → Known by_number owner s p → IsVacant (length p.futures) s.cells → WakersAreKnown by_number owner s p → MayGo by_number xs owner s
-      p → Goes by_number xs owner s p
-  go future [] owner s p known vacant all may = record {
+  -- what a call may queue may come, where so many more may
+  may_call : (limit n k : ℕ) (owner : Owner) (s : Solo F T X) (p : Plain T (SoloWaker X)) → Known by_number owner s p
+      → p.limit ≡ limit → (x : Wish T (SoloWaker X)) → Allows by_number owner s p x.refusal x.name x.call
+      → k ≡ 6 * limit + 20 + n → HasLife k s.lines → length p.futures + k ≤ most_accepted → length p.runs + k ≤ most_accepted
+      → MayCall by_number owner s p x
+  may_call limit n k owner s p known same x may is life futures runs = record {
+    allowed = may;
+    life = fewer (queues_with by_number owner s p x.call) k s.lines (enough x.call) life;
+    futures = omega (arith, futures, is);
+    runs = omega (arith, runs, is);
+  }
+    where
+      enough : (call : Call T (SoloWaker X)) → queues_with by_number owner s p call ≤ k
+      enough Leak = (let few = few_entries by_number s p known.stands in omega (arith, few, same, is))
+      enough Ends = left p.inside
+        where
+          left : (cs : List (Code T (SoloWaker X))) → 3 * left_in by_number owner s p cs + 14 ≤ k
+          left [] = omega (arith, is)
+          left (Poll f by ∷ cs) = omega (arith, is)
+          left (Drop f end by ∷ cs) = omega (arith, is)
+          left (Lose awaiter by ∷ cs) = omega (arith, is)
+          left (PollOwn r w ∷ cs) = omega (arith, is)
+          left (DropOwn r answer ∷ cs) = (let few = few_kept by_number s p known.stands r in omega (arith, few, same, is))
+          left (Close fs ns ∷ cs) = omega (arith, is)
+      enough call = omega (arith, is)
+
+  go : (limit : ℕ) (future : F) (xs : List (Wish T (SoloWaker X))) (owner : Owner) (s : Solo F T X) (p : Plain T (SoloWaker X))
+      → Known by_number owner s p → IsVacant (length p.futures) s.cells → WakersAreKnown by_number owner s p
+      → p.limit ≡ limit → HasLife (queued_by limit xs) s.lines → length p.futures + queued_by limit xs ≤ most_accepted
+      → length p.runs + queued_by limit xs ≤ most_accepted → MayGo by_number xs owner s p → Goes by_number xs owner s p
+  go limit future [] owner s p known vacant all same life futures runs may = record {
     calls = [];
     shown = [];
     now = owner;
@@ -96,17 +144,25 @@ module _ {F T X : Type 0} where
     leads = stays owner s p;
     wished = tt;
   }
-  go future (x ∷ xs) owner s p known vacant all may =
-      let it = happens by_number future owner s p known (next_free owner s p known vacant) all x may.0 in
+  go limit future (x ∷ xs) owner s p known vacant all same life futures runs may =
+      let it = happens by_number future owner s p known (next_free owner s p known vacant) all x
+      (may_call limit (queued_by limit xs) (queued_by limit (x ∷ xs)) owner s p known same x may.0 refl life futures runs) in
       let q = does wakes it.choice x.call p in
+      let grows = call_grows it.choice x.call p in
       let many : length p.lying ≤ it.choice.tells = (let more = it.tells in omega (arith, more)) in
       let one : Leads by_number ((it.choice, x.call) ∷ []) owner s p (it.shown ++ []) it.now it.after =
       leads it.choice x.call [] owner it.now it.now s it.after it.after p it.shown [] many it.acts (stays it.now it.after q) in
       let known_on =
       (leads_alike by_number ((it.choice, x.call) ∷ []) owner it.now s it.after p (it.shown ++ []) known one).0 in
       let rest =
-      go future xs it.now it.after q known_on (acts_vacant owner it.choice s p it.now it.after x.call it.shown known many vacant it.acts)
-      (still_known owner s p it.now it.after it.choice x may.0 all) (may.1 it) in
+      go limit future xs it.now it.after q known_on (acts_vacant owner it.choice s p it.now it.after x.call it.shown known many vacant
+      it.acts)
+      (still_known owner s p it.now it.after it.choice x may.0 all)
+      (grows.limit ∙ same)
+      (acts_live by_number owner it.choice s p (queued_by limit xs) (queued_by limit (x ∷ xs)) known.stands known.numbered many
+      (omega (arith, same)) life it.now it.after x.call it.shown it.acts)
+      (let most = grows.most_futures in omega (arith, most, futures)) (let most = grows.most_runs in omega (arith, most, runs))
+      (may.1 it) in
       record {
         calls = (it.choice, x.call) ∷ rest.calls;
         shown = it.shown ++ rest.shown;
@@ -119,8 +175,10 @@ module _ {F T X : Type 0} where
 
   pub lists_happen : (future : F) (limit : ℕ) (kind : Kind) (is_static : Bool) (first : Solo F T X) (number : Who → ℕ)
       (xs : List (Wish T (SoloWaker X))) → IsNew limit kind first → counts kind ≡ not is_static
-      → MayGo by_number xs (new_owner number) first (new limit is_static)
+      → queued_by limit xs ≤ most_accepted → MayGo by_number xs (new_owner number) first (new limit is_static)
       → Goes by_number xs (new_owner number) first (new limit is_static)
-  lists_happen future limit kind is_static first number xs is counted may =
-      go future xs (new_owner number) first (new limit is_static) (new_known by_number number limit kind is_static first is counted)
-      (λ k above. ap (λ slots. slice_index_or slots k None) is.cells) tt may
+  lists_happen future limit kind is_static first number xs is counted most may =
+      go limit future xs (new_owner number) first (new limit is_static) (new_known by_number number limit kind is_static first is counted)
+      (λ k above. ap (λ slots. slice_index_or slots k None) is.cells) tt refl
+      (subst (HasLife (queued_by limit xs)) (sym is.lines) (none_yet limit (queued_by limit xs) most)) (omega (arith, most))
+      (omega (arith, most)) may

@@ -1,14 +1,12 @@
 -- How many futures and runs came, and the limit: what changes none of these.
-use Rattle.std.proofs.Common.{◌≡◌, ℕ, zero, suc, ◌+◌, ◌≤◌, ◌==◌, count_by, nat_lt, if◌then◌else◌, Bool, true, false, List, [], ◌∷◌, ◌++◌}
-use Rattle.std.proofs.Common.{filter, find, map, length, Option, Some, None, slice_get, slice_set, refl, ap, ◌∙◌, arith}
-use Rattle.executor_parts.specs.declared.mark.Mark.{Mark}
+use Rattle.std.proofs.Common.{◌≡◌, ℕ, zero, suc, ◌+◌, ◌==◌, count_by, nat_lt, if◌then◌else◌, Bool, true, false, List, [], ◌∷◌, ◌++◌}
+use Rattle.std.proofs.Common.{filter, find, map, length, Option, Some, None, slice_get, slice_set, refl, ap, ◌∙◌}
 use Rattle.executor_parts.specs.declared.mark.Mark.TheVariants.{Plain as PlainMark, Urgent}
 use Rattle.task_moves.specs.AbstractTask as abstract
 use Rattle.task_moves.specs.AbstractTask.{AbstractTask, Left}
 use Rattle.task_moves.specs.AbstractTask.PendingEnd.{Drops as EndDrops, Queues as EndQueues, Forgets as EndForgets, Rests as EndRests}
 use Rattle.solo.specs.declared.names.SoloWaker.{SoloWaker}
-use Rattle.plain_scheduler.specs.State.{ARun, ATick, AtOnce, Calls, Choice, Close, Closed, Code, Done, Drop, DropOwn, Due, End, Finished}
-use Rattle.plain_scheduler.specs.State.{Full}
+use Rattle.plain_scheduler.specs.State.{ARun, ATick, AtOnce, Calls, Choice, Close, Closed, Code, Drop, DropOwn, Due, End}
 use Rattle.plain_scheduler.specs.State.{Future, Granted}
 use Rattle.plain_scheduler.specs.State.{Later, Lose, Loses, Lying, Made, NoMemory, Plain, Poll, PollOwn, Polls, Refusal, Run, Running}
 use Rattle.plain_scheduler.specs.State.{Taker}
@@ -22,9 +20,6 @@ use Rattle.plain_scheduler.specs.Takes as takes
 use Rattle.plain_scheduler.specs.Calls as plain
 use Rattle.plain_scheduler.specs.Calls.{Call, does, is_granted, living_from}
 use Rattle.solo_laws.specs.Road.{wakes}
-use Rattle.solo_laws.proofs.Following.Adding.{long_last}
-use Rattle.solo_laws.proofs.Following.Both.{handled_still}
-use Rattle.solo_laws.proofs.Following.Calling.{cancel_still}
 use Rattle.solo_laws.proofs.Following.Frames.{Still, becomes_still, called_still, copied_still, let_go_still, put_still, tell_still}
 use Rattle.solo_laws.proofs.Following.Lists.{length_set}
 
@@ -347,4 +342,3 @@ module _ {T X : Type 0} (c : Choice) where
       by (Lose awaiter taker ∷ rest) = lost_long awaiter taker (record p { inside = rest })
       by (DropOwn r answer ∷ rest) = gone_long r (record p { inside = rest })
       by (Close fs all ∷ rest) = close_long fs all (record p { inside = rest })
-

@@ -1,0 +1,225 @@
+-- A call queues so many tasks at most.
+use Rattle.std.proofs.Common.{ℕ, suc, ◌+◌, ◌*◌, ◌≤◌, Bool, true, false, List, [], ◌∷◌, ◌++◌, filter, is_some, length, not}
+use Rattle.std.proofs.Common.{None, sym, ap, subst, ◌∙◌, arith}
+use Rattle.solo.specs.declared.names.Task.{Task}
+use Rattle.solo.specs.declared.names.SoloWaker.{SoloWaker}
+use Rattle.solo.specs.declared.owed.Lent.{Lent}
+use Rattle.solo.specs.declared.owed.Owed.{Owed}
+use Rattle.solo.specs.declared.runs.Runner.{Runner}
+use Rattle.solo.specs.declared.solo.Solo.{Solo}
+use Rattle.solo.specs.Cells.{asked, choose}
+use Rattle.solo.specs.Cells as cells
+use Rattle.solo.specs.OwnQueues as own
+use Rattle.solo.specs.Solo as solo
+use Rattle.solo.specs.Turns as turns
+use Rattle.plain_scheduler.specs.State.{Answers, ARun, ATick, Choice, Drops, Event, Loses, Plain, Yes}
+use Rattle.plain_scheduler.specs.Calls.{Call, does, is_granted, living_from}
+use Rattle.plain_scheduler.specs.Moves.{is_kept}
+use Rattle.solo_laws.specs.Alike as alike
+use Rattle.solo_laws.specs.Courses.{Acts, Makes, cancels, copies, detaches, drops_handle, ends_closed, ends_given, gives, leaks, looks}
+use Rattle.solo_laws.specs.Courses.{loses, makes, makes_no_run, makes_no_tick, makes_run, makes_tick, over_dropped, over_polled}
+use Rattle.solo_laws.specs.Courses.{own_ready, pends, polls, refuses, releases, run_dropped, run_drops, run_goes_on, run_leaves}
+use Rattle.solo_laws.specs.Courses.{run_looks, run_loses, run_polled, spawns, takes, tick_leaves, tick_lies_refused, tick_refused}
+use Rattle.solo_laws.specs.Courses.{tick_rests, tick_takes, uses, wakes as wakes_it}
+use Rattle.solo_laws.specs.Dropping.{after_drop}
+use Rattle.solo_laws.specs.Numbered.{IsNumbered, ticker_of}
+use Rattle.solo_laws.specs.Owner.{Owner}
+use Rattle.solo_laws.specs.Road.{HasLife, due_task, wakes}
+use Rattle.solo_laws.specs.RunGoing.{RunsOn, Searches, gives_way, in_try, is_refused, lies_refused, looks_on, rests, robs_another}
+use Rattle.solo_laws.specs.RunGoing.{takes_common, takes_own}
+use Rattle.solo_laws.specs.RunResting.{slept_from}
+use Rattle.solo_laws.specs.Tabled.{Stands, at_home, goes_on, named, own_of, row, row_of}
+use Rattle.solo_laws.specs.Ticking.{slept_once}
+use Rattle.solo_laws.proofs.Prompt.{chosen}
+use Rattle.solo_laws.proofs.Following.Due.{filter_short, lives, room}
+use Rattle.solo_laws.proofs.Following.Lists.{length_map}
+use Rattle.solo_laws.proofs.Following.Lives.{cancelled_lives, released_lives, scheduled_if_lives, scheduled_lives, three_fewer, used_lives}
+use Rattle.solo_laws.proofs.Following.Lives.{woken_lives}
+use Rattle.solo_laws.proofs.Following.RunEnding.{tried_both}
+use Rattle.solo_laws.proofs.Following.Lines.{younger}
+use Rattle.solo_laws.proofs.Following.Placing.{living}
+use Rattle.solo_laws.proofs.Happening.Choosing.{fewer}
+use Rattle.solo_laws.proofs.Happening.Ends.{calls_lives, left_lives, lets_go_lives, pends_lives}
+use Rattle.solo_laws.proofs.Happening.Spending.{L, copies_lives, found_lives, leaked_lives, once_lives, popped_lives, rested_lives}
+use Rattle.solo_laws.proofs.Happening.Spending.{run_left_lives, run_rested_lives, search_lives, slept_from_lives, sought_lives}
+use Rattle.solo_laws.proofs.Happening.Spending.{tick_left_lives, tried_lives, woken_by_lives}
+
+module _ {F T X : Type 0} (its : ℕ → Lent) (s : Solo F T X) (p : Plain T (SoloWaker X)) (both : Stands its s p) where
+  -- there are no more entries than the limit, and no more tasks in a run's own queue
+  pub few_entries : length s.table.entries ≤ p.limit
+  few_entries =
+      let rows = sym (length_map row s.table.entries) ∙ (ap (λ rs. length rs) both.1.rows ∙ length_map
+      (row_of its (not p.is_static) (at_home its s.cells)) (living_from 0 p.futures)) in
+      let within = both.0.within in
+      omega (arith, rows, within)
+
+  few_due : length p.due ≤ p.limit
+  few_due =
+      let few =
+      room p.due (living_from 0 p.futures) both.0.once
+      (λ j due. (let can = both.0.ready j due in living None (named its) s p both.0 j can.0 can.1)) in
+      let within = both.0.within in
+      omega (arith, few, within)
+
+  pub few_kept : (r : ℕ) → own.count_of r s.runs ≤ p.limit
+  few_kept r = subst (λ o. own.count_in o ≤ p.limit) (sym (both.1.queues r)) (by (goes_on r p))
+    where
+      by : (b : Bool) → own.count_in (own_of its b (filter (is_kept r) p.due)) ≤ p.limit
+      by true =
+          let long = length_map (due_task (named its)) (filter (is_kept r) p.due) in
+          let short = filter_short (is_kept r) p.due in
+          let few = few_due in
+          omega (arith, long, short, few)
+      by false = omega arith
+
+module _ {F T X : Type 0} (its : ℕ → Lent) (c : Choice) (s : Solo F T X) (p : Plain T (SoloWaker X)) (n k : ℕ)
+    (both : Stands its s p) (most : 6 * p.limit + 10 + n ≤ k) (life : HasLife k s.lines) where
+  -- so many fewer
+  three : L (suc (suc (suc n))) s
+  three = fewer (suc (suc (suc n))) k s.lines (omega (arith, most)) life
+
+  six : L (suc (suc (suc (suc (suc (suc n)))))) s
+  six = fewer (suc (suc (suc (suc (suc (suc n)))))) k s.lines (omega (arith, most)) life
+
+  nine : L (suc (suc (suc (suc (suc (suc (suc (suc (suc n))))))))) s
+  nine = fewer (suc (suc (suc (suc (suc (suc (suc (suc (suc n))))))))) k s.lines (omega (arith, most)) life
+
+  none : L n s
+  none = fewer n k s.lines (omega (arith, most)) life
+
+  detached_live : (m : ℕ) (t : Task) (z : Solo F T X) → L (suc (suc (suc m))) z → L m (solo.detached t z)
+  detached_live m t z lives =
+      scheduled_if_lives m (is_some (asked cells.detach_queues None t z.cells)) t (turns.turned cells.detached t z) lives
+
+  cancelled_live : (m : ℕ) (t : Task) (z : Solo F T X) → L (suc (suc (suc (suc (suc (suc m)))))) z → L m (alike.cancelled t z)
+  cancelled_live m t z lives =
+      calls_lives m (solo.cancel_answer t z).awaiter (solo.cancelled t z) (cancelled_lives (suc (suc (suc m))) t z lives)
+
+  polled_live : (granted : Bool) (t : Task) (w : SoloWaker X) → L n (alike.handle_polled granted t w s)
+  polled_live granted t w =
+      let y = alike.copies w s in
+      let z = solo.polled t w y in
+      chosen (L n) (solo.must_wait t s) (choose granted (alike.registered t w y) s) (solo.polled t w s)
+      (chosen (L n) granted (alike.registered t w y) s
+      (lets_go_lives n (alike.replaced_by (solo.poll_answer t w y)) z (copies_lives (suc (suc (suc n))) w s three)) none) none
+
+  dropped_live : (owed : Owed F T X) (z : Solo F T X) → L (suc (suc (suc (suc (suc (suc n)))))) z → L n (after_drop owed z)
+  dropped_live owed z lives =
+      chosen (L n) (is_some owed.output) z (alike.calls owed.awaiter (alike.lets_go owed.old z))
+      (three_fewer n z.lines (three_fewer (suc (suc (suc n))) z.lines lives))
+      (calls_lives n owed.awaiter (alike.lets_go owed.old z) (lets_go_lives (suc (suc (suc n))) owed.old z lives))
+
+  pub makes_live : (call : Call T (SoloWaker X)) (shown : List (Event T (SoloWaker X))) (z : Solo F T X)
+      → Makes its c s p call shown z → L n z
+  makes_live call shown z (spawns mark future spawned z' so is granted life few) =
+      let one = so.0 in
+      let same : L (suc (suc (suc n))) one = subst (λ (z : Solo F T X). L (suc (suc (suc n))) z) (sym so.1.1) three in
+      subst (λ (z : Solo F T X). L n z) (sym so.2) (scheduled_lives n spawned.task one same)
+  makes_live call shown z (refuses mark future refused z' so fits) = subst (λ (z : Solo F T X). L n z) (sym so.1) none
+  makes_live call shown z (takes first lives_it) = tried_lives n s (fewer (suc (suc n)) k s.lines (omega (arith, most)) life)
+  makes_live call shown z looks = none
+  makes_live call shown z (wakes_it f at life) = woken_lives n (named its f) s three
+  makes_live call shown z (uses f at life) = used_lives n (named its f) s three
+  makes_live call shown z (releases f at life) = released_lives n (named its f) s three
+  makes_live call shown z (copies f at says) = none
+  makes_live call shown z (polls f w at handle names life) = polled_live (is_granted c.refusal) (named its f) w
+  makes_live call shown z (cancels f at life) = cancelled_live n (named its f) s six
+  makes_live call shown z (detaches f at life) = detached_live n (named its f) s three
+  makes_live call shown z (drops_handle f at life) =
+      detached_live n (named its f) (alike.cancelled (named its f) s) (cancelled_live (suc (suc (suc n))) (named its f) s nine)
+  makes_live call shown z (leaks owned lives_it) =
+      let few = few_entries its s p both in leaked_lives (length s.table.entries) n k (omega (arith, few, most)) s life
+  makes_live call shown z (pends f by rest future one is life) = pends_lives n (its f) future s three
+  makes_live call shown z (gives f by rest v is) = none
+  makes_live call shown z (ends_given f v by rest one is life) =
+      dropped_live (solo.settle_ready_answer (its f) v s) (solo.settled_ready (its f) v s)
+      (left_lives (suc (suc (suc (suc (suc (suc n)))))) (its f).place s nine)
+  makes_live call shown z (ends_closed f by rest one is life) =
+      dropped_live (solo.finish_answer (its f) s) (solo.finished (its f) s)
+      (left_lives (suc (suc (suc (suc (suc (suc n)))))) (its f).place s nine)
+  makes_live call shown z (loses awaiter by rest one is life) = calls_lives n awaiter s three
+
+module _ {F T X : Type 0} (its : ℕ → Lent) (owner : Owner) (c : Choice) (runner : Runner) (w : SoloWaker X) (s : Solo F T X)
+    (p : Plain T (SoloWaker X)) (n : ℕ) (six : L (suc (suc (suc (suc (suc (suc n)))))) s) where
+  five : L (suc (suc (suc (suc (suc n))))) s
+  five = younger (suc (suc (suc (suc (suc n))))) s.lines six
+
+  none_more : L n s
+  none_more = three_fewer n s.lines (three_fewer (suc (suc (suc n))) s.lines six)
+
+  searches_live : (shown : List (Event T (SoloWaker X))) (now : Owner) (z : Solo F T X)
+      → Searches its owner c runner w s p shown now z → L n z
+  searches_live shown now z (takes_own start found first keeps life) =
+      search_lives n runner (ticker_of owner.number (ARun runner.number) p.lying) start s five
+  searches_live shown now z (takes_common start found alone first turn keeps life) =
+      search_lives n runner (ticker_of owner.number (ARun runner.number) p.lying) start s five
+  searches_live shown now z (robs_another start found alone nothing turn walks robs moves keeps life) =
+      search_lives n runner (ticker_of owner.number (ARun runner.number) p.lying) start s five
+  searches_live shown now z (rests one two missed turn granted names more life) =
+      run_rested_lives n runner.number one two (ticker_of owner.number (ARun runner.number) p.lying) w s six
+  searches_live shown now z (is_refused start missed turn refused) = sought_lives n runner.number start s none_more
+  searches_live shown now z (lies_refused one two missed turn refused names again more life) =
+      let ticker = ticker_of owner.number (ARun runner.number) p.lying in
+      sought_lives n runner.number two (slept_from runner.number one ticker w s)
+      (slept_from_lives n runner.number one ticker w s (three_fewer (suc (suc (suc n))) s.lines six))
+
+  runs_on_live : (shown : List (Event T (SoloWaker X))) (now : Owner) (z : Solo F T X) → RunsOn its owner c runner w s p shown now z
+      → L n z
+  runs_on_live shown now z (looks_on shown' now' z' less how) = searches_live shown' now' z' how
+  runs_on_live shown now z (gives_way enough names life) = woken_by_lives n w s (three_fewer (suc (suc (suc n))) s.lines six)
+
+module _ {F T X : Type 0} (its : ℕ → Lent) (owner : Owner) (c : Choice) (s : Solo F T X) (p : Plain T (SoloWaker X)) (n k : ℕ)
+    (both : Stands its s p) (numbered : IsNumbered owner.number s.sleepers p.lying) (many : length p.lying ≤ c.tells)
+    (most : 6 * p.limit + 20 + n ≤ k) (life : HasLife k s.lines) where
+  its_six : L (suc (suc (suc (suc (suc (suc n)))))) s
+  its_six = fewer (suc (suc (suc (suc (suc (suc n)))))) k s.lines (omega (arith, most)) life
+
+  its_five : L (suc (suc (suc (suc (suc n))))) s
+  its_five = fewer (suc (suc (suc (suc (suc n))))) k s.lines (omega (arith, most)) life
+
+  its_three : L (suc (suc (suc n))) s
+  its_three = fewer (suc (suc (suc n))) k s.lines (omega (arith, most)) life
+
+  its_none : L n s
+  its_none = fewer n k s.lines (omega (arith, most)) life
+
+  pub acts_live : (now : Owner) (z : Solo F T X) (call : Call T (SoloWaker X)) (shown : List (Event T (SoloWaker X)))
+      → Acts its owner c s p call shown now z → L n z
+  acts_live now z call shown (makes call' shown' z' how) = makes_live its c s p n k both (omega (arith, most)) life call' shown' z' how
+  acts_live now z call shown (makes_tick t new granted) = its_none
+  acts_live now z call shown (tick_takes t w task lives_it found first enough) =
+      found_lives n (ticker_of owner.number (ATick t) p.lying) task s its_five
+  acts_live now z call shown (tick_rests t w lives_it none first granted names more enough) =
+      rested_lives n (ticker_of owner.number (ATick t) p.lying) w s its_six
+  acts_live now z call shown (makes_run granted few) = its_none
+  acts_live now z call shown (makes_no_run refused) = its_none
+  acts_live now z call shown (run_polled runner w going free) = its_none
+  acts_live now z call shown (over_polled r w over) = its_none
+  acts_live now z call shown (own_ready r w u rest is) = its_none
+  acts_live now z call shown (run_looks runner w rest shown' now' z' its_runner is how) =
+      searches_live its owner c runner w s (record p { inside = rest }) n its_six shown' now' z' how
+  acts_live now z call shown (run_goes_on stage runner w rest call' before others now' y z' its_runner is ends how on) =
+      let tried = in_try stage rest p in
+      let tries = tried_both its owner c s p both numbered many stage runner.number w rest call' is ends in
+      let there =
+      makes_live its c s tried (suc (suc (suc (suc (suc (suc n)))))) k tries (omega (arith, most)) life call'
+      (before ++ Answers Yes ∷ []) y how in
+      runs_on_live its owner c runner w y (record (does wakes c call' tried) { events = p.events ++ before }) n there others now' z' on
+  acts_live now z call shown (run_drops stage r w rest call' before f z' is ends how) =
+      let tries = tried_both its owner c s p both numbered many stage r w rest call' is ends in
+      makes_live its c s (in_try stage rest p) n k tries (omega (arith, most)) life call' (before ++ Drops f ∷ []) z' how
+  acts_live now z call shown (run_loses stage r w rest call' before u z' is ends how) =
+      let tries = tried_both its owner c s p both numbered many stage r w rest call' is ends in
+      makes_live its c s (in_try stage rest p) n k tries (omega (arith, most)) life call' (before ++ Loses u ∷ []) z' how
+  acts_live now z call shown (run_dropped r going free) = its_none
+  acts_live now z call shown (over_dropped r over) = its_none
+  acts_live now z call shown (run_leaves runner answer rest is enough) =
+      let few = few_kept its s p both runner.number in
+      run_left_lives n k (ticker_of owner.number (ARun runner.number) p.lying) runner s (omega (arith, few, most)) life
+  acts_live now z call shown (makes_no_tick refused) = its_none
+  acts_live now z call shown (tick_refused t w lives_it none first refused) = popped_lives n s its_none
+  acts_live now z call shown (tick_lies_refused t w lives_it none first refused names again more enough) =
+      let ticker = ticker_of owner.number (ATick t) p.lying in
+      popped_lives n (slept_once ticker w s) (once_lives n ticker w s its_three)
+  acts_live now z call shown (tick_leaves t lives_it enough) =
+      tick_left_lives n (ticker_of owner.number (ATick t) p.lying) s its_three

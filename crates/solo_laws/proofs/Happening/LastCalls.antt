@@ -1,5 +1,6 @@
 -- The last calls of an executor happen.
-use Rattle.std.proofs.Common.{◌≡◌, ℕ, suc, ◌+◌, ◌*◌, ◌<◌, ◌≤◌, Bool, true, false, List, [], ◌∷◌, ◌++◌, length, refl, sym, ap, subst, ◌∙◌, arith}
+use Rattle.std.proofs.Common.{◌≡◌, ℕ, suc, ◌+◌, ◌*◌, ◌<◌, ◌≤◌, Bool, true, false, List, [], ◌∷◌, ◌++◌, length, refl, sym, ap, subst, ◌∙◌}
+use Rattle.std.proofs.Common.{arith}
 use Rattle.executor_parts.specs.declared.mark.Mark.TheVariants.{Plain as PlainMark}
 use Rattle.solo.specs.declared.names.Task.{Task}
 use Rattle.solo.specs.declared.names.SoloWaker.{SoloWaker}
@@ -8,12 +9,14 @@ use Rattle.solo.specs.declared.owed.Lent.{Lent}
 use Rattle.solo.specs.declared.solo.Solo.{Solo}
 use Rattle.solo.specs.Closing as closing
 use Rattle.solo.specs.Solo as solo
-use Rattle.plain_scheduler.specs.State.{Answers, Choice, Close, Code, Done, Drop, DropOwn, Drops, Event, Lose, Plain, Poll, PollOwn, Refusal}
+use Rattle.plain_scheduler.specs.State.{Answers, Choice, Close, Code, Done, Drop, DropOwn, Drops, Event, Lose, Plain, Poll, PollOwn}
+use Rattle.plain_scheduler.specs.State.{Refusal}
 use Rattle.plain_scheduler.specs.Calls as plain
 use Rattle.plain_scheduler.specs.Calls.{Call, DropExecutor, Ends, does, is_granted, living_from}
 use Rattle.solo_laws.specs.Closing.{Drains, Finishes, GoesOn, IsClosed, IsClosing}
 use Rattle.solo_laws.specs.Courses.{Makes, cancels, copies, detaches, drops_handle, polls, releases, uses, wakes}
-use Rattle.solo_laws.specs.LastCalls.{After, Closes, IsDropped, LastCalls, Meanwhile, and_then, drops_output, first_drop, last_drop, meanwhile, next_drop}
+use Rattle.solo_laws.specs.LastCalls.{After, Closes, IsDropped, LastCalls, Meanwhile, and_then, drops_output, first_drop, last_drop}
+use Rattle.solo_laws.specs.LastCalls.{meanwhile, next_drop}
 use Rattle.solo_laws.specs.LastCalls.{is_on_task, no_drop, on_task, over}
 use Rattle.solo_laws.specs.LastMaking.{AllowsMeanwhile, AreWished, HappensMeanwhile, IsLosing, MayClose, MayDrop, MayGoAfter, MayGoOn}
 use Rattle.solo_laws.specs.LastMaking.{MayMeanwhile, calls_meanwhile, drops_last, drops_next, fits}

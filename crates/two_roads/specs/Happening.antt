@@ -1,5 +1,5 @@
 -- Acts of the machine, as calls that the owner of an executor makes.
-use Rattle.std.specs.Prelude.{◌≡◌, ℕ, ◌<◌, Bool, true, false, List, [], ◌∷◌, length}
+use Rattle.std.specs.Prelude.{◌≡◌, ℕ, ◌<◌, true, false, List, [], ◌∷◌, length}
 use Rattle.queue_steps.specs.ClosableQueue.{most_accepted}
 use Rattle.executor_model.specs.declared.op.Waker.{Waker}
 use Rattle.executor_model.specs.declared.op.Waker.TheVariants.{Task as TaskWaker, Outside as OutsideWaker}
@@ -9,7 +9,7 @@ use Rattle.solo.specs.declared.names.SoloWaker.{SoloWaker}
 use Rattle.solo.specs.declared.names.SoloWaker.TheVariants.{Task as OfTask, Outside}
 use Rattle.solo.specs.declared.solo.Solo.{Solo}
 use Rattle.plain_scheduler.specs.State.{Choice, Code, Event, Plain}
-use Rattle.plain_scheduler.specs.Calls.{Call, Copy, Ends, NewRun, Pends, PollHandle, PollTick, Spawn, does, is_granted}
+use Rattle.plain_scheduler.specs.Calls.{Call, Copy, Ends, Pends, PollHandle, PollTick, Spawn, does, is_granted}
 use Rattle.machine_roads.specs.Refused.{in_vain}
 use Rattle.machine_roads.specs.View.{Output}
 use Rattle.machine_roads.specs.Within.{Act, IsMade}
@@ -19,7 +19,7 @@ use Rattle.solo_laws.specs.Owner.{Owner, has_tick}
 use Rattle.solo_laws.specs.Road.{HasLife, wakes}
 use Rattle.solo_laws.specs.Tabled.{named}
 use Rattle.two_roads.specs.Acting.{IsOfStep, WalksAlike}
-use Rattle.two_roads.specs.Refusing.{asks_memory, refused_in}
+use Rattle.two_roads.specs.Refusing.{refused_in}
 use Rattle.two_roads.specs.Renaming.{call_as}
 
 -- a call of the machine's as one of the executor's: an output is this one, and of each waker from outside there is one by its number
@@ -62,16 +62,11 @@ module _ {F T X : Type 0} (number : X → ℕ) (s : Machine) (a : Act) (owner : 
   FitsMemory Ends = (c : Choice) → in_vain wakes c Ends p ≡ true → IsPolledFromOutside p.inside
   FitsMemory call = Unit {0}
 
-  -- fewer futures, and runs, came than may
-  abbrev pub IsFew : Call T (SoloWaker X) → Type 0
-  IsFew (Spawn mark) = length p.futures < most_accepted
-  IsFew NewRun = length p.runs < most_accepted
-  IsFew call = Unit {0}
-
-  -- the executor has what the call takes
+  -- its queues may accept as many tasks as the call may queue, and fewer futures and runs came than may
   pub record HasMeans (call : Call T (SoloWaker X)) : Type 0 where
     pub life : HasLife (queues_with by_number owner y p call) y.lines
-    pub few : IsFew call
+    pub futures : length p.futures < most_accepted
+    pub runs : length p.runs < most_accepted
     pub memory : FitsMemory call
 
   -- the owner makes the call that the act is, and both name alike behind it

@@ -37,7 +37,7 @@ use Rattle.plain_scheduler.specs.Moves.{no_task, task}
 use Rattle.plain_scheduler.specs.Calls as plain
 use Rattle.machine_roads.specs.View.{Output}
 use Rattle.machine_roads.specs.Within as within
-use Rattle.machine_roads.specs.Within.{Act, IsCallIn, IsMade, StandsAlike, standing}
+use Rattle.machine_roads.specs.Within.{IsCallIn, IsMade, StandsAlike, standing}
 use Rattle.machine_roads.proofs.ActLosses.{spares_all}
 use Rattle.machine_roads.proofs.Inmost.{whole}
 use Rattle.machine_roads.proofs.LoneRuns.{both_true, passed}
@@ -47,7 +47,7 @@ use Rattle.solo_laws.specs.Busy.{busy_in, run_if, run_of as run_in}
 use Rattle.solo_laws.specs.Making.{Allows, HasNoRoom, IsKnown, MayEnd, MayPend, by_number}
 use Rattle.solo_laws.specs.Owner.{Owner, has_tick as has_its_tick}
 use Rattle.solo_laws.specs.Road.{is_in}
-use Rattle.two_roads.specs.Happening.{IsFew, NamesAlike, call_by, waker_by}
+use Rattle.two_roads.specs.Happening.{NamesAlike, call_by, waker_by}
 use Rattle.two_roads.specs.Renaming.{code_as, future_as, renamed, taker_as}
 use Rattle.two_roads.specs.Together.{nothing, numbered}
 use Rattle.two_roads.proofs.Meeting.Came.{Came, WakerCame, came}
@@ -157,7 +157,7 @@ module _ (s : Machine) (reached : Reached s) (p : ℕ) (there : p < length s.par
       (sym (ap (λ t. answer_refusal t u) (top_of (stack s p) o os is).0) ∙ (sym (refusal-there s (Answer p u) there) ∙ may))
 
   module _ {F T X : Type 0} (number : X → ℕ) (value : T) (outside : ℕ → X) (owner : Owner) (y : Solo F T X) (z : Plain T (SoloWaker X))
-      (is : as_its number z ≡ q) (names : NamesAlike s owner y z) (a : Act) (refusal_is : Refusal) where
+      (is : as_its number z ≡ q) (names : NamesAlike s owner y z) (refusal_is : Refusal) where
     many : length s.world.tasks ≡ length z.futures
     many =
         as_many (standing s p) q stands
@@ -197,47 +197,45 @@ module _ (s : Machine) (reached : Reached s) (p : ℕ) (there : p < length s.par
     lives_still : (t : ℕ) → has_tick s.world s.parties t ≡ true → has_its_tick t owner ≡ true
     lives_still t has = names.ticks t ∙ (both_true (lives (tick_of s.world t)) (is_unused (ticking_of t) s.parties) has).0
 
-    begun : (c : Call) (x : plain.Call Output Waker) → IsCallIn (mine o) s.world c x → IsFew number s a owner y z (call_by value outside x)
-        → FitsSpawn (call_by value outside x)
+    begun : (c : Call) (x : plain.Call Output Waker) → IsCallIn (mine o) s.world c x → FitsSpawn (call_by value outside x)
         → begin_refusal s.world s.parties o c ≡ None
         → May x
-    begun c x made few fits may = by c x made few fits (there_all s.world s.parties o c may)
+    begun c x made fits may = by c x made fits (there_all s.world s.parties o c may)
         (came s reached p there c x made (there_all s.world s.parties o c may)) may
       where
-        by : (c : Call) (x : plain.Call Output Waker) → IsCallIn (mine o) s.world c x → IsFew number s a owner y z (call_by value outside x)
-            → FitsSpawn (call_by value outside x) → has_all s.world s.parties o c ≡ true → Came (length s.world.tasks) x
+        by : (c : Call) (x : plain.Call Output Waker) → IsCallIn (mine o) s.world c x → FitsSpawn (call_by value outside x) → has_all s.world s.parties o c ≡ true → Came (length s.world.tasks) x
             → begin_refusal s.world s.parties o c ≡ None → May x
-        by c x (within.spawn m) few fits has here may = (few, fits)
-        by c x within.try_tick few fits has here may = tt
-        by c x within.is_empty few fits has here may = tt
-        by c x (within.use_waker k f at) few fits has here may = below f here
-        by c x (within.wake k f at) few fits has here may = below f here
-        by c x (within.copy k f at) few fits has here may = below f here
-        by c x (within.release k f at) few fits has here may = below f here
-        by c x (within.keep f at) few fits has here may = below f here
-        by c x (within.wake_self f at) few fits has here may = below f here
-        by c x (within.poll_handle f b) few fits has here may = (
+        by c x (within.spawn m) fits has here may = fits
+        by c x within.try_tick fits has here may = tt
+        by c x within.is_empty fits has here may = tt
+        by c x (within.use_waker k f at) fits has here may = below f here
+        by c x (within.wake k f at) fits has here may = below f here
+        by c x (within.copy k f at) fits has here may = below f here
+        by c x (within.release k f at) fits has here may = below f here
+        by c x (within.keep f at) fits has here may = below f here
+        by c x (within.wake_self f at) fits has here may = below f here
+        by c x (within.poll_handle f b) fits has here may = (
           below f here.0,
           sym (handle_as number f z) ∙ (ap (λ (q : Plain Output Waker). (task f q).handle) is ∙ handled f b has),
           known (waker_of (mine o) b) here.1,
         )
-        by c x (within.cancel f) few fits has here may = below f here
-        by c x (within.detach f) few fits has here may = below f here
-        by c x (within.drop_handle f) few fits has here may = below f here
-        by c x within.new_tick few fits has here may = new_name
-        by c x (within.poll_tick t b) few fits has here may =
+        by c x (within.cancel f) fits has here may = below f here
+        by c x (within.detach f) fits has here may = below f here
+        by c x (within.drop_handle f) fits has here may = below f here
+        by c x within.new_tick fits has here may = new_name
+        by c x (within.poll_tick t b) fits has here may =
             (lives_still t (both_true (has_tick s.world s.parties t) (is_known o b) has).0, known (waker_of (mine o) b) here)
-        by c x (within.drop_tick t) few fits has here may = lives_still t has
-        by c x within.new_run few fits has here may = few
-        by c x (within.poll_run r b) few fits has here may =
+        by c x (within.drop_tick t) fits has here may = lives_still t has
+        by c x within.new_run fits has here may = tt
+        by c x (within.poll_run r b) fits has here may =
             (busy r (both_true (has_run s.world s.parties r) (is_known o b) has).0, known (waker_of (mine o) b) here)
-        by c x (within.drop_run r) few fits has here may = busy r has
-        by c x within.leak few fits has here may =
+        by c x (within.drop_run r) fits has here may = busy r has
+        by c x within.leak fits has here may =
             ap (λ (q : Plain Output Waker). q.is_static) is ∙ unstatic (owned_by s.world s.parties o call.Leak refl refl may)
 
     pub allowed : (t : Step) (x : plain.Call Output Waker) → IsMade s p t x → refusal s t ≡ None → party_of t ≡ p
-        → IsFew number s a owner y z (call_by value outside x) → FitsSpawn (call_by value outside x) → May x
-    allowed t x (within.begins c x' made) may its few fits = begun c x made few fits (may_begin s p c may)
-    allowed t x within.pends may its few fits = may_pend number owner y z Pending z.inside (ends_here (Polled Pending) may)
-    allowed t x within.gives may its few fits = may_pend number owner y z Ready z.inside (ends_here (Polled Ready) may)
-    allowed t x within.ends may its few fits = may_end number owner y z z.inside (ends_here Over may)
+        → FitsSpawn (call_by value outside x) → May x
+    allowed t x (within.begins c x' made) may its fits = begun c x made fits (may_begin s p c may)
+    allowed t x within.pends may its fits = may_pend number owner y z Pending z.inside (ends_here (Polled Pending) may)
+    allowed t x within.gives may its fits = may_pend number owner y z Ready z.inside (ends_here (Polled Ready) may)
+    allowed t x within.ends may its fits = may_end number owner y z z.inside (ends_here Over may)

@@ -3,3 +3,4 @@ pub mod Came
 pub mod Near
 pub mod Ending
 pub mod Allowed
+pub mod Lain

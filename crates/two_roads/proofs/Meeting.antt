@@ -4,3 +4,4 @@ pub mod Near
 pub mod Ending
 pub mod Allowed
 pub mod Lain
+pub mod Refused

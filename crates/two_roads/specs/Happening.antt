@@ -1,5 +1,5 @@
 -- Acts of the machine, as calls that the owner of an executor makes.
-use Rattle.std.specs.Prelude.{◌≡◌, ℕ, ◌<◌, true, false, List, [], ◌∷◌, length}
+use Rattle.std.specs.Prelude.{◌≡◌, ℕ, ◌<◌, true, false, List, length, Some}
 use Rattle.queue_steps.specs.ClosableQueue.{most_accepted}
 use Rattle.executor_model.specs.declared.op.Waker.{Waker}
 use Rattle.executor_model.specs.declared.op.Waker.TheVariants.{Task as TaskWaker, Outside as OutsideWaker}
@@ -8,18 +8,20 @@ use Rattle.executor_model.specs.World.{tick_of}
 use Rattle.solo.specs.declared.names.SoloWaker.{SoloWaker}
 use Rattle.solo.specs.declared.names.SoloWaker.TheVariants.{Task as OfTask, Outside}
 use Rattle.solo.specs.declared.solo.Solo.{Solo}
-use Rattle.plain_scheduler.specs.State.{Choice, Code, Event, Plain}
+use Rattle.task_moves.specs.AbstractTask as abstract
+use Rattle.plain_scheduler.specs.Moves.{task}
+use Rattle.plain_scheduler.specs.State.{Choice, Event, Plain}
 use Rattle.plain_scheduler.specs.Calls.{Call, Copy, Ends, Pends, PollHandle, PollTick, Spawn, does, is_granted}
-use Rattle.machine_roads.specs.Refused.{in_vain}
+use Rattle.plain_scheduler.specs.Searches.{Search, finds, searches}
 use Rattle.machine_roads.specs.View.{Output}
 use Rattle.machine_roads.specs.Within.{Act, IsMade}
 use Rattle.solo_laws.specs.Courses.{Acts}
-use Rattle.solo_laws.specs.Making.{HasNoRoom, PolledIn, WakersAreKnown, by_number, may_copy, queues_with}
+use Rattle.solo_laws.specs.Making.{HasNoRoom, WakersAreKnown, by_number, may_copy, queues_with}
 use Rattle.solo_laws.specs.Owner.{Owner, has_tick}
 use Rattle.solo_laws.specs.Road.{HasLife, wakes}
 use Rattle.solo_laws.specs.Tabled.{named}
 use Rattle.two_roads.specs.Acting.{IsOfStep, WalksAlike}
-use Rattle.two_roads.specs.Refusing.{refused_in}
+use Rattle.two_roads.specs.Refusing.{has_to_wait, refused_in}
 use Rattle.two_roads.specs.Renaming.{call_as}
 
 -- a call of the machine's as one of the executor's: an output is this one, and of each waker from outside there is one by its number
@@ -41,25 +43,25 @@ abbrev pub IsOutside : {X : Type 0} → SoloWaker X → Type 0
 IsOutside (OfTask t) = ⊥
 IsOutside (Outside x) = Unit {0}
 
--- so is the one by which the run is polled whose poll the innermost code is in
-abbrev pub IsPolledFromOutside : {T X : Type 0} → List (Code T (SoloWaker X)) → Type 0
-IsPolledFromOutside [] = Unit {0}
-IsPolledFromOutside (code ∷ codes) = PolledIn IsOutside code
-
 module _ {F T X : Type 0} (number : X → ℕ) (s : Machine) (a : Act) (owner : Owner) (y : Solo F T X) (p : Plain T (SoloWaker X)) where
   -- a copy of a task's waker is refused in the act if the task has as many references as it may, and only then
   abbrev pub CopiesAlike : SoloWaker X → Type 0
   CopiesAlike (OfTask t) = is_granted (refused_in s a) ≡ may_copy (OfTask t) y
   CopiesAlike (Outside x) = Unit {0}
 
+  -- a run that searches in vain does so in its poll by a waker from outside
+  abbrev pub VainFromOutside : Call T (SoloWaker X) → Type 0
+  VainFromOutside call =
+      (c : Choice) (x : Search T (SoloWaker X)) → searches wakes c call p ≡ Some x → finds x ≡ false → IsOutside x.waker
+
   -- memory for a future is refused in it only if the executor has no room; and who searches in vain does so by a waker from outside
   abbrev pub FitsMemory : Call T (SoloWaker X) → Type 0
   FitsMemory (Spawn mark) = is_granted (refused_in s a) ≡ false → HasNoRoom by_number owner y p
   FitsMemory (Copy f) = CopiesAlike (OfTask (named by_number f))
-  FitsMemory (PollHandle f w) = CopiesAlike w
+  FitsMemory (PollHandle f w) = has_to_wait (abstract.polled (task f p)) ≡ true → CopiesAlike w
   FitsMemory (PollTick t w) = IsOutside w
-  FitsMemory Pends = (c : Choice) → in_vain wakes c Pends p ≡ true → IsPolledFromOutside p.inside
-  FitsMemory Ends = (c : Choice) → in_vain wakes c Ends p ≡ true → IsPolledFromOutside p.inside
+  FitsMemory Pends = VainFromOutside Pends
+  FitsMemory Ends = VainFromOutside Ends
   FitsMemory call = Unit {0}
 
   -- its queues may accept as many tasks as the call may queue, and fewer futures and runs came than may

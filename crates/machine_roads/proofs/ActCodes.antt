@@ -186,8 +186,8 @@ module _ (s : Machine) (reached : Reached s) (p : ℕ) (there : p < length s.par
     )
 
     -- of a search it is
-    pub found_says : (start : ℕ) (x : plain_calls.Call Output Waker) (code : Code Output Waker) (e : Done) (d : Choice) (w : World) (r : ℕ) (a : Waker)
-        (b : Plain Output Waker) → Still s.world w → searches wakes d x (r1 code) ≡ Some (search_at r a b)
+    pub found_says : (start : ℕ) (x : plain_calls.Call Output Waker) (code : Code Output Waker) (e : Done) (d : Choice) (w : World)
+        (r : ℕ) (a : Waker) (b : Plain Output Waker) → Still s.world w → searches wakes d x (r1 code) ≡ Some (search_at r a b)
         → Searched start r a w b d e.world (does wakes d x (r1 code)) → Says start x code e d
     found_says start x code e d w r a b still is so = (
       found_so s.world e.world x (r1 code) d start w r a b (does wakes d x (r1 code)) still is so,
@@ -252,8 +252,8 @@ module _ (s : Machine) (reached : Reached s) (p : ℕ) (there : p < length s.par
           → ((d : Choice) → searches wakes (telling c1.tells d) x (r1 code)
           ≡ searches_behind wakes (telling c1.tells d) taker (behind (telling c1.tells d)))
           → (pass : Passes p taker final below r0 c1.tells e (λ d. does wakes d x (r1 code)) behind) → Still s.world pass.so.world
-          → Tells p below r0 nested under c1 room e rests (λ d. does wakes d x (r1 code)) (Says start x code e) start taker final pass.so.world
-          pass.before
+          → Tells p below r0 nested under c1 room e rests (λ d. does wakes d x (r1 code)) (Says start x code e) start taker final
+          pass.so.world pass.before
       tells_so start x code e rests other behind goes pass still = record {
         searched = λ r a is d so.
             let c = telling c1.tells d in

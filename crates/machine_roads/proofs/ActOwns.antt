@@ -40,7 +40,8 @@ use Rattle.machine_roads.specs.Within.{ActsBy, Nested, alike, ends, gives, pends
 use Rattle.machine_roads.specs.Within.{IsLeaving, drops_own, listed, unlisted}
 use Rattle.machine_roads.proofs.ActBegins.{choice_in, enough}
 use Rattle.machine_roads.proofs.ActLands.{Facts, after_lands, between}
-use Rattle.machine_roads.proofs.ActCodes.{LeadsTo, back, came_by, count_at, follows0, found_says, lands_so, room as its_room, under as rests_under}
+use Rattle.machine_roads.proofs.ActCodes.{LeadsTo, back, came_by, count_at, follows0, found_says, lands_so, room as its_room}
+use Rattle.machine_roads.proofs.ActCodes.{under as rests_under}
 use Rattle.machine_roads.proofs.AloneKeeps.{due, due_resting}
 use Rattle.machine_roads.proofs.Calling.{idles}
 use Rattle.machine_roads.proofs.Chosen.{still_so}
@@ -175,7 +176,8 @@ module _ (s : Machine) (reached : Reached s) (p : ℕ) (there : p < length s.par
           let lands =
           after_lands p below r0 nested under c1 room e rests will (Says n Pends (PollOwn x.run x.waker) e) x false count facts0
           (λ d. take_ends d x.run x.waker r0 few) (taken_in x.run q.runs)
-          (goes_from p x below r0 c1.tells (taken_in x.run q.runs) e will (Says n Pends (PollOwn x.run x.waker) e) under rests c1 n s.world r0
+          (goes_from p x below r0 c1.tells (taken_in x.run q.runs) e will (Says n Pends (PollOwn x.run x.waker) e) under rests c1 n
+          s.world r0
           (follows0 s reached p there open_still others q counted below inside nested (PollOwn x.run x.waker) at refl s.world follows) room
           (between p below r0 nested under c1 room e rests will (Says n Pends (PollOwn x.run x.waker) e) x false count facts0) refl
           (record { way = record { hints = hints; has = all; is = refl }; starts = refl })
@@ -217,7 +219,8 @@ module _ (s : Machine) (reached : Reached s) (p : ℕ) (there : p < length s.par
       let so =
       own_goes p below under s.world r0 (follows0 s reached p there open_still others q counted below inside nested (DropOwn r Ready) at
       refl s.world follows) c1 many r hints all rests in
-      back s reached p there open_still others q counted below inside nested (start_of p hints first) end.Done Ends ends (DropOwn r Ready) at e
+      back s reached p there open_still others q counted below inside nested (start_of p hints first) end.Done Ends ends
+      (DropOwn r Ready) at e
       (still_so s.world e.world Ends (r1 (DropOwn r Ready)) c1 refl refl
       (alone_counts p hints s.world (op.List (list_op.LockWrite (section.Unregister r reply.Ready)) ∷ below)
       (omega (arith, due_resting counts below under)))
@@ -238,7 +241,8 @@ module _ (s : Machine) (reached : Reached s) (p : ℕ) (there : p < length s.par
       own_went p below under s.world r0 r rest leaving
       (stands_in inside s.world (record q { runs = changed ended_run r q.runs }) (subst (Follows s.world) (runs_is ended_run r q) follows)
       (sym (ap (λ codes. waking_in codes) at))) c1 many hints all rests in
-      back s reached p there open_still others q counted below inside nested (start_of p hints first) end.Done Ends ends (DropOwn r DoneAnswer) at e
+      back s reached p there open_still others q counted below inside nested (start_of p hints first) end.Done Ends ends
+      (DropOwn r DoneAnswer) at e
       (still_so s.world e.world Ends (r1 (DropOwn r DoneAnswer)) c1 refl refl (counts_on rest leaving hints)
       (alone_turn p hints s.world (rest ∷ below) (light_on rest leaving)) (start_of p hints first)) so.0 so.2 (by rest leaving is) so.1
     where

@@ -207,8 +207,8 @@ module _ (s : Machine) (reached : Reached s) (p : ℕ) (q : Plain Output Waker) 
     where
       begins : Nested (reverse (stack s p)) q.inside → Follows s.world q → Anyhow (Begin p c)
       begins nested follows =
-          begun_leads p (λ e. (r : Plain Output Waker) × ActsAnyhow s p (Begin p c) q r e.world × StandsSo e r) new later c ts s reached there
-          (one_begins s reached p q follows nested stands.counted c on (may_begin s p c (run-first (Begin p c) ts s new made).0)) rests made
+          begun_leads p (λ e. (r : Plain Output Waker) × ActsAnyhow s p (Begin p c) q r e.world × StandsSo e r) new later c ts s reached
+          there (one_begins s reached p q follows nested stands.counted c on (may_begin s p c (run-first (Begin p c) ts s new made).0)) rests made
 
       inside_of : (taker : Taker Waker) (final : Op) (below : List Op) (f : ℕ) (awaiter : Option Waker)
           (codes : List (Code Output Waker)) → GoesOnBy taker final → Nested below codes → (gs : List ℕ)
@@ -226,8 +226,8 @@ module _ (s : Machine) (reached : Reached s) (p : ℕ) (q : Plain Output Waker) 
           → Nested below codes → (gs : List ℕ) → StopsForgotten taker final below f gs codes (standing s p) q → Anyhow (Begin p c)
       within_drop taker final below f codes it nested gs stops =
           let off = forgotten_off gs f (final ∷ below) c (sym (ap (λ os. may_begin_in os c) stops.left) ∙ even) in
-          begun_leads p (λ e. (r : Plain Output Waker) × ActsAnyhow s p (Begin p c) q r e.world × StandsSo e r) new later c ts s reached there
-          (begins_forgotten taker final below f codes it nested s p q stands.counted gs stops reached there c off
+          begun_leads p (λ e. (r : Plain Output Waker) × ActsAnyhow s p (Begin p c) q r e.world × StandsSo e r) new later c ts s reached
+          there (begins_forgotten taker final below f codes it nested s p q stands.counted gs stops reached there c off
           (may_begin s p c (run-first (Begin p c) ts s new made).0))
           rests made
 
@@ -236,15 +236,15 @@ module _ (s : Machine) (reached : Reached s) (p : ℕ) (q : Plain Output Waker) 
       by (losing f fs below codes nested stops) =
           let off : is_on_executor c ≡ false =
           (neither (is_on_executor c) (polls_untaken (loss_ops fs below) c) (sym (ap (λ os. may_begin_in os c) stops.left) ∙ even)).0 in
-          begun_leads p (λ e. (r : Plain Output Waker) × ActsAnyhow s p (Begin p c) q r e.world × StandsSo e r) new later c ts s reached there
-          (begins_in_loss s reached p there q f fs below codes nested stops stands.counted c off
+          begun_leads p (λ e. (r : Plain Output Waker) × ActsAnyhow s p (Begin p c) q r e.world × StandsSo e r) new later c ts s reached
+          there (begins_in_loss s reached p there q f fs below codes nested stops stands.counted c off
           (may_begin s p c (run-first (Begin p c) ts s new made).0))
           rests made
       by (going r fs below codes nested stops) =
           let off =
           going_off fs r stops.rest stops.leaving below c (sym (ap (λ os. may_begin_in os c) stops.left) ∙ even) in
-          begun_leads p (λ e. (r : Plain Output Waker) × ActsAnyhow s p (Begin p c) q r e.world × StandsSo e r) new later c ts s reached there
-          (begins_in_going s reached p there q r fs below codes nested stops stands.counted c off
+          begun_leads p (λ e. (r : Plain Output Waker) × ActsAnyhow s p (Begin p c) q r e.world × StandsSo e r) new later c ts s reached
+          there (begins_in_going s reached p there q r fs below codes nested stops stands.counted c off
           (may_begin s p c (run-first (Begin p c) ts s new made).0))
           rests made
       by (dropping taker final below f b it nested (answered next inside follows)) =

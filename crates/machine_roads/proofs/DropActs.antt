@@ -102,7 +102,8 @@ module _ (s : Machine) (reached : Reached s) (p : ℕ) (there : p < length s.par
     chooses = off_so (mine its) s.world (choice r) q p hints c off os under x is None start;
   }
 
-  end_acts : (v : World) → ChoosesAnyhow s.world v plain.Ends q granted → ActsAnyhow s p (Answer p IsDone) q (does wakes granted plain.Ends q) v
+  end_acts : (v : World) → ChoosesAnyhow s.world v plain.Ends q granted
+      → ActsAnyhow s p (Answer p IsDone) q (does wakes granted plain.Ends q) v
   end_acts v chooses = λ start. record {
     choice = granted;
     made = plain.Ends;

@@ -168,8 +168,8 @@ module _ (p : ℕ) (below : List Op) (under : is_resting below ≡ true) (w : Wo
       subst
       (λ os. GoesStill (start_of p hints (done w os)) (Still w) p taker final below q c.tells (alone p hints (done w os))
       (loses_with taker awaiter q) (behind_lost awaiter q) Nothing) (sym (lost_is b f final))
-      (goes_still (Still w) p w (lost_ops b f) (lost_unread b f) (lost_none b f) below under taker final q c.tells (loses_with taker awaiter q)
-      (behind_lost awaiter q) (λ o e z. Nothing z) c hints goes (λ e z is so. so)
+      (goes_still (Still w) p w (lost_ops b f) (lost_unread b f) (lost_none b f) below under taker final q c.tells
+      (loses_with taker awaiter q) (behind_lost awaiter q) (λ o e z. Nothing z) c hints goes (λ e z is so. so)
       (subst (λ os. HasAll p hints (done w os)) (lost_is b f final) all)
       (subst (λ os. is_resting (alone p hints (done w os)).next ≡ true) (lost_is b f final) rests))
     where

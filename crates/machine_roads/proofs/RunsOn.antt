@@ -72,17 +72,17 @@ abbrev pub search_at : ℕ → Waker → Plain Output Waker → Search Output Wa
 search_at r a b = record { run = r; waker = a; at = b }
 
 -- how it chose that searched there in this world, and what it left of that world
-pub record Searched (start r : ℕ) (a : Waker) (w : World) (b : Plain Output Waker) (d : Choice) (v : World) (z : Plain Output Waker) : Type 0
-  where
-    pub few : nat_lt (taken_by r b) 200 ≡ true
-    pub usual : any is_due b.due ≡ true → TakesAsUsual wakes d (first_of w.urgent_turns) (has_counted w r) (search_at r a b)
-    pub robs : any is_due b.due ≡ true → RobsAsUsual wakes d w.listed start (search_at r a b)
-    pub keeper : any is_due b.due ≡ true → IsKeptByOthers r b.due → any (is_kept d.robs) b.due ≡ true
-    pub counted : (k : ℕ)
-        → has_counted v k ≡ (if (k == r) && any is_due b.due then one_counted (has_counted w k) else has_counted w k)
-    pub turns : v.urgent_turns ≡ turned (run_turns d.refusal (search_at r a b)) w.urgent_turns
-    pub listed : v.listed ≡ w.listed
-    pub later : any is_due b.due ≡ false → d.refusal ≡ Later → OneMoreLies b z
+pub record Searched (start r : ℕ) (a : Waker) (w : World) (b : Plain Output Waker) (d : Choice) (v : World)
+    (z : Plain Output Waker) : Type 0 where
+  pub few : nat_lt (taken_by r b) 200 ≡ true
+  pub usual : any is_due b.due ≡ true → TakesAsUsual wakes d (first_of w.urgent_turns) (has_counted w r) (search_at r a b)
+  pub robs : any is_due b.due ≡ true → RobsAsUsual wakes d w.listed start (search_at r a b)
+  pub keeper : any is_due b.due ≡ true → IsKeptByOthers r b.due → any (is_kept d.robs) b.due ≡ true
+  pub counted : (k : ℕ)
+      → has_counted v k ≡ (if (k == r) && any is_due b.due then one_counted (has_counted w k) else has_counted w k)
+  pub turns : v.urgent_turns ≡ turned (run_turns d.refusal (search_at r a b)) w.urgent_turns
+  pub listed : v.listed ≡ w.listed
+  pub later : any is_due b.due ≡ false → d.refusal ≡ Later → OneMoreLies b z
 
 module _ (p : ℕ) (x : RunPoll) (below : List Op) (q : Plain Output Waker) (n t : ℕ) (end : Done) (new : Choice → Plain Output Waker)
     (Says : Choice → Type 0) where
@@ -168,8 +168,8 @@ module _ (p : ℕ) (x : RunPoll) (below : List Op) (q : Plain Output Waker) (n t
         left_so d k false apart over = takes_none x.run k apart d x.waker b (so.left k over)
 
     -- from a search on
-    pub goes_from : (start : ℕ) (w : World) (b : Plain Output Waker) → Follows w b → length b.lying < n → Between x.run false t b → b.inside ≡ q.inside
-        → From start p end w (goes_on_by x false ∷ below)
+    pub goes_from : (start : ℕ) (w : World) (b : Plain Output Waker) → Follows w b → length b.lying < n → Between x.run false t b
+        → b.inside ≡ q.inside → From start p end w (goes_on_by x false ∷ below)
         → ((d : Choice) → new (telling n d) ≡ plain_takes.next wakes (telling n d) taker b) → Tells start w b → After
     goes_from start w b follows fit now inside from is tells = by (any is_due b.due) refl
       where
@@ -209,7 +209,8 @@ module _ (p : ℕ) (x : RunPoll) (below : List Op) (q : Plain Output Waker) (n t
 
     -- behind what it took; with its 200th it searches no more
     pub goes_on : (behind : Choice → Option (Plain Output Waker)) (last : Bool) → length q.lying < n → Between x.run last t q
-        → (pass : Passes p taker (goes_on_by x last) below q n end new behind) → Tells (start_in p end pass.so.world (goes_on_by x last ∷ below) pass.so.way) pass.so.world pass.before
+        → (pass : Passes p taker (goes_on_by x last) below q n end new behind)
+        → Tells (start_in p end pass.so.world (goes_on_by x last ∷ below) pass.so.way) pass.so.world pass.before
         → (Finally q taker (goes_on_by x last) → searches_of wakes c taker pass.before ≡ None → Says (telling n c)) → After
     goes_on behind true fit so pass tells unsaid =
         let it : Finally q taker (goes_on_by x true) = of_last x (so.taken ∙ all_of t so.most so.early) in
@@ -219,6 +220,7 @@ module _ (p : ℕ) (x : RunPoll) (below : List Op) (q : Plain Output Waker) (n t
         (ap (λ b. if b then Some (search_at x.run x.waker pass.before) else None)
         (ap (λ k. nat_lt k 200) ((between_stays x.run true t q pass.before pass.stay so).taken) ∙ so.early)))
     goes_on behind false fit so pass tells unsaid =
-        goes_from (start_in p end pass.so.world (goes_on_by x false ∷ below) pass.so.way) pass.so.world pass.before pass.so.follows (omega (arith, fit, pass.stay.lying))
+        goes_from (start_in p end pass.so.world (goes_on_by x false ∷ below) pass.so.way) pass.so.world pass.before pass.so.follows
+        (omega (arith, fit, pass.stay.lying))
         (between_stays x.run false t q pass.before pass.stay so) pass.inside
         (from_way p end pass.so.world (goes_on_by x false ∷ below) pass.so.way) pass.is tells

@@ -135,7 +135,8 @@ module _ (here : Option Waker) (w : World) (d : Choice) (q : Plain Output Waker)
 
   -- and one that isn't on the executor
   pub off_so : (p : ℕ) (hints : List Hint) (c : Call) → is_on_executor c ≡ false → (below : List Op) (under : is_resting below ≡ true)
-      (x : plain.Call Output Waker) → IsCallIn here w c x → (asks : Option Waker) → ChoosesAnyhow w (called p hints c below under asks) x q d
+      (x : plain.Call Output Waker) → IsCallIn here w c x → (asks : Option Waker)
+      → ChoosesAnyhow w (called p hints c below under asks) x q d
   off_so p hints c off below under x is asks =
       begun_so p hints c below under x is asks (unsaid c (off_takes c off) (called p hints c below under asks))
 

@@ -16,8 +16,8 @@ use Rattle.machine_roads.specs.View.{Output, wakes}
 abbrev pub has_counted : World → ℕ → ℕ
 has_counted w r = (run_of w r).counted
 
--- a run chooses as both executors do, from this starting word on, and robs one that keeps any; each counts what it takes, and the call takes
--- its turns
+-- a run chooses as both executors do, from this starting word on, and robs one that keeps any; each counts what it takes, and the
+-- call takes its turns
 pub record Chooses (start : ℕ) (w v : World) (d : Choice) (call : Call Output Waker) (q : Plain Output Waker) : Type 0 where
   pub usual : IsUsual wakes d (first_of w.urgent_turns) (has_counted w) call q
   pub robs : (x : Search Output Waker) → searches wakes d call q ≡ Some x → finds x ≡ true → RobsAsUsual wakes d w.listed start x

@@ -164,7 +164,8 @@ abbrev pub IsChosenAt : Step → World → Plain Output Waker → Choice → Typ
 IsChosenAt (Begin p c) w q d = IsChosen w q d
 IsChosenAt t w q d = length q.lying < d.tells
 
--- the plain scheduler makes that, and where a run searches in it the machine chooses as told, from this starting word on; this world it leaves
+-- the plain scheduler makes that, and where a run searches in it the machine chooses as told, from this starting word on; this world
+-- it leaves
 pub record ActsBy (s : Machine) (p : ℕ) (t : Step) (q r : Plain Output Waker) (v : World) (start : ℕ) : Type 0 where
   pub choice : Choice
   pub made : plain.Call Output Waker

@@ -152,8 +152,10 @@ pub fn a_run_is_made_alike()
 
 /// A poll of a run whose own future gave no output comes, where some future is due, to the poll or the
 /// drop of the one that it takes, where both stand alike: the first of its own queue, or of the
-/// executor's as the turn names them, or of another run's; with what it steals beside. Behind that it
-/// searches again, or calls its own waker where that was the 200th.
+/// executor's as the turn names them, or of another run's; with what it steals beside. It chooses as both
+/// executors do, from the starting word that its hint names; it has counted one more, and a turn was taken
+/// unless it kept that one itself. Behind that it searches again, or calls its own waker where that was the
+/// 200th.
 pub fn a_run_takes_alike()
     ensures { EachAlike RunTakesAlike }
 {}

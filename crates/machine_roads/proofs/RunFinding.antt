@@ -161,8 +161,6 @@ module _ (p : ℕ) (below : List Op) (under : is_resting below ≡ true) (end : 
       ∙ ap (λ f. plain_takes.run wakes c f taker (after qr)) it.one.is)) in
       let new : Plain Output Waker = plain_takes.run wakes c f taker (takes_so p below under end rests c x qr it.fit ms) in
       let b = is_64th (run_of w r).counted in
-      let robbed : Plain Output Waker =
-      plain_takes.robbed wakes d r it.one.due_one.keeper (with_due (without test q.due) q) in
       let kept_so : ms ≡ usual.usual_keeps wakes d r b it.one.due_one (with_due (without test q.due) q) =
       kept
       ∙ (ap (λ marks. keeps_with b marks (up_and_told qr)) (sym it.beside_is)

@@ -43,16 +43,17 @@ pub record CanTake (q : Plain Output Waker) (r : ℕ) : Type 0 where
   pub going : or (slice_get q.runs r) (λ run. nat_lt run.taken 200) true ≡ true
   pub left : (k : ℕ) → or (slice_get q.runs k) (λ run. run.is_over) true ≡ true → futures_in (is_kept k) q.due ≡ []
 
--- where the party reads the list of queues first: the place that its hint names
+-- it reads the list of the runs' own queues next
 abbrev pub reads_list : List Op → Bool
 reads_list (op.List (list_op.LockRead x) ∷ os) = true
 reads_list _ = false
 
+-- the starting word of what a party does alone: that of the hint by which it first does so
 abbrev pub start_of : ℕ → List Hint → Done → ℕ
 start_of p [] d = 0
 start_of p (h ∷ hs) d = if reads_list d.next then h.start else start_of p hs (one p h d)
 
--- and among the steps of an act
+-- and of the steps of an act
 abbrev pub named_by : Step → ℕ
 named_by (Go q h) = h.start
 named_by _ = 0

@@ -133,31 +133,31 @@ module _ (s : Machine) (reached : Reached s) (p : ℕ) (there : p < length s.par
     pub under : is_resting below ≡ true
     under = rests_in below inside nested
 
-    abbrev pub r0 : Plain Output Waker
-    r0 = record q { inside = inside }
+    abbrev pub outer : Plain Output Waker
+    outer = record q { inside = inside }
 
     -- as the plain scheduler stands in this code
-    abbrev r1 : Code Output Waker → Plain Output Waker
-    r1 code = record q { inside = code ∷ inside }
+    abbrev inner : Code Output Waker → Plain Output Waker
+    inner code = record q { inside = code ∷ inside }
 
-    same : (code : Code Output Waker) → q.inside ≡ code ∷ inside → r1 code ≡ q
+    same : (code : Code Output Waker) → q.inside ≡ code ∷ inside → inner code ≡ q
     same code at = ap (λ (codes : List (Code Output Waker)). record q { inside = codes }) (sym at)
 
     pub follows0 : (code : Code Output Waker) → q.inside ≡ code ∷ inside → waking_in (code ∷ inside) ≡ waking_in inside → (w : World)
-        → Follows w q → Follows w r0
+        → Follows w q → Follows w outer
     follows0 code at quiet w follows = stands_in inside w q follows (sym (ap (λ codes. waking_in codes) at ∙ quiet))
 
     -- so it chooses, and where it searches in vain it is refused memory so
     abbrev pub Says : ℕ → plain_calls.Call Output Waker → Code Output Waker → Done → Choice → Type 0
-    Says start x code e d = Chooses start s.world e.world d x (r1 code) × LiesThere (r1 code) (does wakes d x (r1 code)) d x
+    Says start x code e d = Chooses start s.world e.world d x (inner code) × LiesThere (inner code) (does wakes d x (inner code)) d x
 
     -- the call has ended, and no run has changed
     pub back : (start : ℕ) (u : UserEnd) (x : plain_calls.Call Output Waker) → IsMade s p (Answer p u) x → (code : Code Output Waker)
-        → q.inside ≡ code ∷ inside → (e : Done) → Chooses start s.world e.world c1 x (r1 code) → e.next ≡ below
-        → (does wakes c1 x (r1 code)).inside ≡ inside
-        → Counted below (does wakes c1 x (r1 code)).runs → Follows e.world (does wakes c1 x (r1 code)) → Comes start u e
+        → q.inside ≡ code ∷ inside → (e : Done) → Chooses start s.world e.world c1 x (inner code) → e.next ≡ below
+        → (does wakes c1 x (inner code)).inside ≡ inside
+        → Counted below (does wakes c1 x (inner code)).runs → Follows e.world (does wakes c1 x (inner code)) → Comes start u e
     back start u x is code at e chooses next stays count follows =
-        let z = does wakes c1 x (r1 code) in
+        let z = does wakes c1 x (inner code) in
         came_by start u x is e c1 refl (granted_anew q (does wakes c1 x q) c1 x refl)
         (subst (λ y. Chooses start s.world e.world c1 x y) (same code at) chooses)
         (subst (λ y. StandsSo e (does wakes c1 x y)) (same code at)
@@ -169,7 +169,7 @@ module _ (s : Machine) (reached : Reached s) (p : ℕ) (there : p < length s.par
     -- where it lands, by a choice that tells alike
     pub lands_so : (start : ℕ) (u : UserEnd) (x : plain_calls.Call Output Waker) → IsMade s p (Answer p u) x → (code : Code Output Waker)
         → q.inside ≡ code ∷ inside → (e : Done) (rests : is_resting e.next ≡ true)
-        → Lands p below r0 nested under c1 room e rests (λ d. does wakes d x (r1 code)) (Says start x code e) → Comes start u e
+        → Lands p below outer nested under c1 room e rests (λ d. does wakes d x (inner code)) (Says start x code e) → Comes start u e
     lands_so start u x is_made code at e rests lands =
         let d = lands.choice in
         let says =
@@ -179,19 +179,19 @@ module _ (s : Machine) (reached : Reached s) (p : ℕ) (there : p < length s.par
 
     -- of no search nothing is said
     pub none_says : (start : ℕ) (x : plain_calls.Call Output Waker) (code : Code Output Waker) (e : Done) → looks_first x ≡ false
-        → searches wakes c1 x (r1 code) ≡ None → Still s.world e.world → Says start x code e c1
+        → searches wakes c1 x (inner code) ≡ None → Still s.world e.world → Says start x code e c1
     none_says start x code e other none still = (
-      still_so s.world e.world x (r1 code) c1 other none still.counted still.turn start,
+      still_so s.world e.world x (inner code) c1 other none still.counted still.turn start,
       λ y is vain later. absurd (clash (ap is_some none) (ap is_some is)),
     )
 
     -- of a search it is
     pub found_says : (start : ℕ) (x : plain_calls.Call Output Waker) (code : Code Output Waker) (e : Done) (d : Choice) (w : World)
-        (r : ℕ) (a : Waker) (b : Plain Output Waker) → Still s.world w → searches wakes d x (r1 code) ≡ Some (search_at r a b)
-        → Searched start r a w b d e.world (does wakes d x (r1 code)) → Says start x code e d
+        (r : ℕ) (a : Waker) (b : Plain Output Waker) → Still s.world w → searches wakes d x (inner code) ≡ Some (search_at r a b)
+        → Searched start r a w b d e.world (does wakes d x (inner code)) → Says start x code e d
     found_says start x code e d w r a b still is so = (
-      found_so s.world e.world x (r1 code) d start w r a b (does wakes d x (r1 code)) still is so,
-      λ y its vain later. later_so s.world e.world x (r1 code) d start w r a b (does wakes d x (r1 code)) is so y its vain later,
+      found_so s.world e.world x (inner code) d start w r a b (does wakes d x (inner code)) still is so,
+      λ y its vain later. later_so s.world e.world x (inner code) d start w r a b (does wakes d x (inner code)) is so y its vain later,
     )
 
     pub count_at : (os xs : List Op) → reverse (stack s p) ≡ os → Alike os xs → Counted xs q.runs
@@ -212,10 +212,11 @@ module _ (s : Machine) (reached : Reached s) (p : ℕ) (there : p < length s.par
 
       -- what is so of a run that takes, by what holds of the machine
       facts_by : (v : World) (y : Plain Output Waker) → Follows v y → v.runs ≡ s.world.runs → v.own ≡ s.world.own → y.runs ≡ q.runs
-          → y.due ≡ q.due → FactsOf below r0 taker final it
+          → y.due ≡ q.due → FactsOf below outer taker final it
       facts_by v y follows runs own same_runs same_due = by taker final it above
         where
-          by : (taker : Taker Waker) (final : Op) (it : GoesOnBy taker final) → Above os (final ∷ below) → FactsOf below r0 taker final it
+          by : (taker : Taker Waker) (final : Op) (it : GoesOnBy taker final) → Above os (final ∷ below) → FactsOf below outer taker final
+              it
           by taker final by_try above = tt
           by taker final (by_tick t a) above = tt
           by taker final (by_run x last) above = record {
@@ -237,22 +238,22 @@ module _ (s : Machine) (reached : Reached s) (p : ℕ) (there : p < length s.par
               polls true = same_self x.run
               polls false = same_self x.run
 
-      facts : (v : World) → Follows v q → v.runs ≡ s.world.runs → v.own ≡ s.world.own → FactsOf below r0 taker final it
+      facts : (v : World) → Follows v q → v.runs ≡ s.world.runs → v.own ≡ s.world.own → FactsOf below outer taker final it
       facts v follows runs own = facts_by v q follows runs own refl refl
 
       -- where the call comes to, by a choice that tells alike
       came : (start : ℕ) (u : UserEnd) (x : plain_calls.Call Output Waker) → IsMade s p (Answer p u) x → (code : Code Output Waker)
           → q.inside ≡ code ∷ inside → (e : Done) (rests : is_resting e.next ≡ true)
-          → Lands p below r0 nested under c1 room e rests (λ d. does wakes d x (r1 code)) (Says start x code e) → Comes start u e
+          → Lands p below outer nested under c1 room e rests (λ d. does wakes d x (inner code)) (Says start x code e) → Comes start u e
       came start u x is_made code at e rests lands = lands_so start u x is_made code at e rests lands
 
       -- where a run searches behind, it chooses so; and where none does nothing is counted
       tells_so : (start : ℕ) (x : plain_calls.Call Output Waker) (code : Code Output Waker) (e : Done) (rests : is_resting e.next ≡ true)
           → looks_first x ≡ false → (behind : Choice → Option (Plain Output Waker))
-          → ((d : Choice) → searches wakes (telling c1.tells d) x (r1 code)
+          → ((d : Choice) → searches wakes (telling c1.tells d) x (inner code)
           ≡ searches_behind wakes (telling c1.tells d) taker (behind (telling c1.tells d)))
-          → (pass : Passes p taker final below r0 c1.tells e (λ d. does wakes d x (r1 code)) behind) → Still s.world pass.so.world
-          → Tells p below r0 nested under c1 room e rests (λ d. does wakes d x (r1 code)) (Says start x code e) start taker final
+          → (pass : Passes p taker final below outer c1.tells e (λ d. does wakes d x (inner code)) behind) → Still s.world pass.so.world
+          → Tells p below outer nested under c1 room e rests (λ d. does wakes d x (inner code)) (Says start x code e) start taker final
           pass.so.world pass.before
       tells_so start x code e rests other behind goes pass still = record {
         searched = λ r a is d so.
@@ -268,7 +269,7 @@ module _ (s : Machine) (reached : Reached s) (p : ℕ) (there : p < length s.par
           stays_on final none way =
               subst (λ (d : Done). Still pass.so.world d.world) way.is (alone_still p way.hints pass.so.world (final ∷ below) none)
 
-          on : (taker : Taker Waker) (final : Op) → Finally r0 taker final → Way p e pass.so.world (final ∷ below)
+          on : (taker : Taker Waker) (final : Op) → Finally outer taker final → Way p e pass.so.world (final ∷ below)
               → Still pass.so.world e.world
           on taker final of_try way = stays_on final (omega (arith, due_resting below under)) way
           on taker final (of_tick t a) way = stays_on final (omega (arith, due_resting below under)) way
@@ -284,17 +285,17 @@ module _ (s : Machine) (reached : Reached s) (p : ℕ) (there : p < length s.par
           taken : IsTaken s.world f
           taken = is_taken s p reached there open_still f (final ∷ below) (is ∙ first)
 
-          here : Follows s.world r0
+          here : Follows s.world outer
           here = follows0 (Poll f taker) at refl s.world follows
 
-          its : FactsOf below r0 taker final it
+          its : FactsOf below outer taker final it
           its = facts s.world follows refl refl
 
           will : Choice → Plain Output Waker
-          will d = does wakes d Pends (r1 (Poll f taker))
+          will d = does wakes d Pends (inner (Poll f taker))
 
           behind : Choice → Option (Plain Output Waker)
-          behind d = behind_pended p below under s.world taker final r0 c1 [] f d
+          behind d = behind_pended p below under s.world taker final outer c1 [] f d
 
           unsearched : (start : ℕ) (e : Done) → behind c1 ≡ None → Still s.world e.world → Says start Pends (Poll f taker) e c1
           unsearched start e none still =
@@ -308,35 +309,36 @@ module _ (s : Machine) (reached : Reached s) (p : ℕ) (there : p < length s.par
               let n = start_of p hints (pended p f final below s.world) in
               let e = alone p hints (pended p f final below s.world) in
               came n (end.Polled answer.Pending) Pends pends (Poll f taker) at e rests
-              (goes_lands p below r0 nested under c1 room e rests will (Says n Pends (Poll f taker) e) taker final it count its
-              (λ d. pends_ends d taker r0 f) n (Still s.world) behind (StaysSo taker final below r0 e)
+              (goes_lands p below outer nested under c1 room e rests will (Says n Pends (Poll f taker) e) taker final it count its
+              (λ d. pends_ends d taker outer f) n (Still s.world) behind (StaysSo taker final below outer e)
               (tells_so n Pends (Poll f taker) e rests refl behind (λ d. refl))
               (λ stays runs none still.
-              stays_lands p below r0 nested under c1 room e rests will (Says n Pends (Poll f taker) e) taker final it count its
-              (λ d. pends_ends d taker r0 f) c1 refl stays runs.runs (unsearched n e none still))
-              (pended_still p below under s.world taker final r0 c1 hints f here in_poll many all rests))
+              stays_lands p below outer nested under c1 room e rests will (Says n Pends (Poll f taker) e) taker final it count its
+              (λ d. pends_ends d taker outer f) c1 refl stays runs.runs (unsearched n e none still))
+              (pended_still p below under s.world taker final outer c1 hints f here in_poll many all rests))
           by true last = λ hints all rests.
               let last_poll : IsLastPoll s.world f =
               record { known = taken.known; polled = taken.polled; entered = taken.entered; last = last } in
               let n = start_of p hints (pended p f final below s.world) in
               let e = alone p hints (pended p f final below s.world) in
               came n (end.Polled answer.Pending) Pends pends (Poll f taker) at e rests
-              (goes_lands p below r0 nested under c1 room e rests will (Says n Pends (Poll f taker) e) taker final it count its
-              (λ d. pends_ends d taker r0 f) n (Still s.world) behind (StopsForgetting taker final below f r0 e)
+              (goes_lands p below outer nested under c1 room e rests will (Says n Pends (Poll f taker) e) taker final it count its
+              (λ d. pends_ends d taker outer f) n (Still s.world) behind (StopsForgetting taker final below f outer e)
               (tells_so n Pends (Poll f taker) e rests refl behind (λ d. refl))
               (λ stops runs none still.
-              forgets_lands p below r0 nested under c1 room e rests will (Says n Pends (Poll f taker) e) taker final it count its
-              (λ d. pends_ends d taker r0 f) f c1 refl stops runs.runs (unsearched n e none still))
-              (forgets_still p below under s.world taker final r0 c1 hints f here last_poll all rests))
+              forgets_lands p below outer nested under c1 room e rests will (Says n Pends (Poll f taker) e) taker final it count its
+              (λ d. pends_ends d taker outer f) f c1 refl stops runs.runs (unsearched n e none still))
+              (forgets_still p below under s.world taker final outer c1 hints f here last_poll all rests))
       from_poll f first at follows (end.Polled answer.Ready) ok = λ hints all rests.
           let taken : IsTaken s.world f = is_taken s p reached there open_still f (final ∷ below) (is ∙ first) in
           let n = start_of p hints (given p f final below s.world) in
           let e = alone p hints (given p f final below s.world) in
           came n (end.Polled answer.Ready) (EndsWith tt) gives (Poll f taker) at e rests
-          (stays_lands p below r0 nested under c1 room e rests (λ d. does wakes d (EndsWith tt) (r1 (Poll f taker)))
+          (stays_lands p below outer nested under c1 room e rests (λ d. does wakes d (EndsWith tt) (inner (Poll f taker)))
           (Says n (EndsWith tt) (Poll f taker) e) taker final it count
-          (facts s.world follows refl refl) (λ d. gives_ends d taker r0 f tt) c1 refl
-          ((gives_so p below s.world r0 under (follows0 (Poll f taker) at refl s.world follows) taker final f c1 hints all rests).0 taken)
+          (facts s.world follows refl refl) (λ d. gives_ends d taker outer f tt) c1 refl
+          ((gives_so p below s.world outer under (follows0 (Poll f taker) at refl s.world follows) taker final f c1 hints all rests).0
+          taken)
           refl
           (none_says n (EndsWith tt) (Poll f taker) e refl refl
           (still_on s.world (given p f final below s.world).world e.world
@@ -356,16 +358,16 @@ module _ (s : Machine) (reached : Reached s) (p : ℕ) (there : p < length s.par
           let its = facts s.world follows refl refl in
           let code = Drop f why taker in
           let says = Says n Ends code e in
-          let behind = behind_dropped f why r0 in
+          let behind = behind_dropped f why outer in
           came n end.Done Ends ends code at e rests
-          (goes_lands p below r0 nested under c1 room e rests (λ d. does wakes d Ends (r1 code)) says taker final it count its
-          (λ d. drop_ends d taker r0 f why) n (Still s.world) behind (Drops taker final below f r0 e)
+          (goes_lands p below outer nested under c1 room e rests (λ d. does wakes d Ends (inner code)) says taker final it count its
+          (λ d. drop_ends d taker outer f why) n (Still s.world) behind (Drops taker final below f outer e)
           (tells_so n Ends code e rests refl behind (λ d. refl))
           (λ drops runs none still.
-          drops_lands p below r0 nested under c1 room e rests (λ d. does wakes d Ends (r1 code)) says taker final it count its
-          (λ d. drop_ends d taker r0 f why) f c1 refl drops runs.runs
+          drops_lands p below outer nested under c1 room e rests (λ d. does wakes d Ends (inner code)) says taker final it count its
+          (λ d. drop_ends d taker outer f why) f c1 refl drops runs.runs
           (none_says n Ends code e refl (ap (searches_behind wakes c1 taker) none) still))
-          (dropped_still p below under s.world taker final r0 c1 hints (follows0 code at refl s.world follows) f m why going.known
+          (dropped_still p below under s.world taker final outer c1 hints (follows0 code at refl s.world follows) f m why going.known
           going.entered going.ends many all rests))
       from_drop f m why how first at follows u ok = absurd cc
 
@@ -374,7 +376,7 @@ module _ (s : Machine) (reached : Reached s) (p : ℕ) (there : p < length s.par
           → (u : UserEnd) → accepts (op.User (user_op.DropOutput f)) u ≡ true
           → Leads u (op.User (user_op.DropOutput f)) (rest_of (task s.world f).awaiter f final ++ below)
       from_loss f awaiter at ending end.Done ok = λ hints all rests.
-          let ending0 : IsEnding s.world f awaiter r0 =
+          let ending0 : IsEnding s.world f awaiter outer =
           record {
             known = ending.known;
             over = ending.over;
@@ -387,15 +389,15 @@ module _ (s : Machine) (reached : Reached s) (p : ℕ) (there : p < length s.par
           let n = start_of p hints (done s.world (rest_of (task s.world f).awaiter f final ++ below)) in
           let e = alone p hints (done s.world (rest_of (task s.world f).awaiter f final ++ below)) in
           let code = Lose awaiter (Some taker) in
-          let behind = behind_lost awaiter r0 in
+          let behind = behind_lost awaiter outer in
           came n end.Done Ends ends code at e rests
-          (goes_lands p below r0 nested under c1 room e rests (λ d. does wakes d Ends (r1 code)) (Says n Ends code e) taker final it
-          count (facts (without_run f s.world) ending.follows refl refl) (λ d. loss_ends d taker r0 awaiter) n (Still s.world) behind
+          (goes_lands p below outer nested under c1 room e rests (λ d. does wakes d Ends (inner code)) (Says n Ends code e) taker final it
+          count (facts (without_run f s.world) ending.follows refl refl) (λ d. loss_ends d taker outer awaiter) n (Still s.world) behind
           (λ z. ⊥) (tells_so n Ends code e rests refl behind (λ d. refl)) (λ stops runs none still. absurd stops)
-          (lost_still p below under s.world taker final r0 c1 hints f awaiter ending0 many all rests))
+          (lost_still p below under s.world taker final outer c1 hints f awaiter ending0 many all rests))
       from_loss f awaiter at ending u ok = absurd cc
 
-      unawaited_in : (f : ℕ) → record (unawaited f q) { inside = inside } ≡ unawaited f r0
+      unawaited_in : (f : ℕ) → record (unawaited f q) { inside = inside } ≡ unawaited f outer
       unawaited_in f = by (slice_get q.futures f)
         where
           by : (o : Option (Future Output Waker))
@@ -404,7 +406,7 @@ module _ (s : Machine) (reached : Reached s) (p : ℕ) (there : p < length s.par
           by None = refl
           by (Some x) = refl
 
-      facts_forgotten : (f : ℕ) → IsForgotten s.world f q → FactsOf below r0 taker final it
+      facts_forgotten : (f : ℕ) → IsForgotten s.world f q → FactsOf below outer taker final it
       facts_forgotten f it_is =
           let new = record (plain.task f q) { awaiter = None } in
           facts_by (without_awaiter f s.world) (unawaited f q) it_is.follows refl refl (put_by (λ p. p.runs) f new q (λ fs. refl))
@@ -415,13 +417,13 @@ module _ (s : Machine) (reached : Reached s) (p : ℕ) (there : p < length s.par
           → accepts (op.User (user_op.Drop f)) u ≡ true
           → Leads u (op.User (user_op.Drop f)) (op.Table (table_op.LeaveTable f) ∷ op.Handle (handle_op.LetGo f) ∷ final ∷ below)
       from_forgotten f at it_is end.Done ok = λ hints all rests.
-          let there_follows : Follows (without_awaiter f s.world) (unawaited f r0) =
+          let there_follows : Follows (without_awaiter f s.world) (unawaited f outer) =
           subst (Follows (without_awaiter f s.world)) (unawaited_in f) (stands_in inside (without_awaiter f s.world) (unawaited f q)
           it_is.follows
           (sym (ap (λ codes. waking_in codes)
           (put_by (λ p. p.inside) f (record (plain.task f q) { awaiter = None }) q (λ fs. refl))
           ∙ ap (λ codes. waking_in codes) at))) in
-          let forgotten0 : IsForgotten s.world f r0 =
+          let forgotten0 : IsForgotten s.world f outer =
           record {
             known = it_is.known;
             entered = it_is.entered;
@@ -436,10 +438,11 @@ module _ (s : Machine) (reached : Reached s) (p : ℕ) (there : p < length s.par
           let n = start_of p hints first in
           let e = alone p hints first in
           let code = Drop f Closed taker in
-          let behind = behind_dropped f Closed r0 in
+          let behind = behind_dropped f Closed outer in
           came n end.Done Ends ends code at e rests
-          (goes_lands p below r0 nested under c1 room e rests (λ d. does wakes d Ends (r1 code)) (Says n Ends code e) taker final it count
-          (facts_forgotten f it_is) (λ d. drop_ends d taker r0 f Closed) n (Still s.world) behind
+          (goes_lands p below outer nested under c1 room e rests (λ d. does wakes d Ends (inner code)) (Says n Ends code e) taker final it
+          count
+          (facts_forgotten f it_is) (λ d. drop_ends d taker outer f Closed) n (Still s.world) behind
           (λ z. ⊥) (tells_so n Ends code e rests refl behind (λ d. refl)) (λ stops runs none still. absurd stops)
-          (forgotten_still p below under s.world taker final r0 c1 hints f forgotten0 many all rests))
+          (forgotten_still p below under s.world taker final outer c1 hints f forgotten0 many all rests))
       from_forgotten f at it_is u ok = absurd cc

@@ -84,17 +84,17 @@ module _ (s : Machine) (reached : Reached s) (p : ℕ) (there : p < length s.par
   Leads u o os =
       LeadsTo s reached p there open_still others q counted u (done (react p o u s.world).world ((react p o u s.world).next ++ os))
 
-  abbrev r0 : Plain Output Waker
-  r0 = record q { inside = inside }
+  abbrev outer : Plain Output Waker
+  outer = record q { inside = inside }
 
-  abbrev r1 : Code Output Waker → Plain Output Waker
-  r1 code = record q { inside = code ∷ inside }
+  abbrev inner : Code Output Waker → Plain Output Waker
+  inner code = record q { inside = code ∷ inside }
 
-  same : (code : Code Output Waker) → q.inside ≡ code ∷ inside → r1 code ≡ q
+  same : (code : Code Output Waker) → q.inside ≡ code ∷ inside → inner code ≡ q
   same code at = ap (λ (codes : List (Code Output Waker)). record q { inside = codes }) (sym at)
 
   abbrev Says : ℕ → plain_calls.Call Output Waker → Code Output Waker → Done → Choice → Type 0
-  Says start x code e d = Chooses start s.world e.world d x (r1 code) × LiesThere (r1 code) (does wakes d x (r1 code)) d x
+  Says start x code e d = Chooses start s.world e.world d x (inner code) × LiesThere (inner code) (does wakes d x (inner code)) d x
 
   -- the poll of a run's own future: with an output, or without
   pub from_own_poll : (x : RunPoll) → reverse (stack s p) ≡ op.User (user_op.PollOwn x) ∷ below → q.inside ≡ PollOwn x.run x.waker ∷
@@ -106,10 +106,10 @@ module _ (s : Machine) (reached : Reached s) (p : ℕ) (there : p < length s.par
       let n = start_of p hints (done s.world os) in
       let e = alone p hints (done s.world os) in
       let stays : done s.world os ≡ e = sym (idles p hints os s.world refl) in
-      let z : Plain Output Waker = r1 (DropOwn x.run Ready) in
+      let z : Plain Output Waker = inner (DropOwn x.run Ready) in
       came_by s reached p there open_still others q counted n (end.Polled answer.Ready) (EndsWith tt) gives e c1 refl tt
       (subst (λ y. Chooses n s.world e.world c1 (EndsWith tt) y) (same (PollOwn x.run x.waker) at)
-      (still_so s.world e.world (EndsWith tt) (r1 (PollOwn x.run x.waker)) c1 refl refl
+      (still_so s.world e.world (EndsWith tt) (inner (PollOwn x.run x.waker)) c1 refl refl
       (subst (λ (d : Done). CountsSo s.world d.world) stays (λ k. refl))
       (ap (λ (d : Done). d.world.urgent_turns) (sym stays)) n))
       (subst (λ y. StandsSo e (does wakes c1 (EndsWith tt) y)) (same (PollOwn x.run x.waker) at)
@@ -153,7 +153,7 @@ module _ (s : Machine) (reached : Reached s) (p : ℕ) (there : p < length s.par
       few : nat_lt (taken_in x.run q.runs) 200 ≡ true
       few = subst (λ b. Taken b (taken_in x.run q.runs)) (none_last x.run below unused) (count.taken x.run)
 
-      facts0 : Facts below r0 x
+      facts0 : Facts below outer x
       facts0 = record {
         unused = unused;
         going = going_here s reached p there xs is q s.world follows refl refl x.run (omega (arith, same_self x.run));
@@ -165,7 +165,7 @@ module _ (s : Machine) (reached : Reached s) (p : ℕ) (there : p < length s.par
       search = done s.world (op.Tick (tick_op.Search (asleep x)) ∷ below)
 
       will : Choice → Plain Output Waker
-      will d = does wakes d Pends (r1 (PollOwn x.run x.waker))
+      will d = does wakes d Pends (inner (PollOwn x.run x.waker))
 
       -- where something is due it takes, and else it lies down, or is refused memory
       by : (hints : List Hint) → HasAll p hints search → is_resting (alone p hints search).next ≡ true
@@ -174,18 +174,18 @@ module _ (s : Machine) (reached : Reached s) (p : ℕ) (there : p < length s.par
           let n = start_of p hints search in
           let e = alone p hints search in
           let lands =
-          after_lands p below r0 nested under c1 room e rests will (Says n Pends (PollOwn x.run x.waker) e) x false count facts0
-          (λ d. take_ends d x.run x.waker r0 few) (taken_in x.run q.runs)
-          (goes_from p x below r0 c1.tells (taken_in x.run q.runs) e will (Says n Pends (PollOwn x.run x.waker) e) under rests c1 n
-          s.world r0
+          after_lands p below outer nested under c1 room e rests will (Says n Pends (PollOwn x.run x.waker) e) x false count facts0
+          (λ d. take_ends d x.run x.waker outer few) (taken_in x.run q.runs)
+          (goes_from p x below outer c1.tells (taken_in x.run q.runs) e will (Says n Pends (PollOwn x.run x.waker) e) under rests c1 n
+          s.world outer
           (follows0 s reached p there open_still others q counted below inside nested (PollOwn x.run x.waker) at refl s.world follows) room
-          (between p below r0 nested under c1 room e rests will (Says n Pends (PollOwn x.run x.waker) e) x false count facts0) refl
+          (between p below outer nested under c1 room e rests will (Says n Pends (PollOwn x.run x.waker) e) x false count facts0) refl
           (record { way = record { hints = hints; has = all; is = refl }; starts = refl })
-          (λ d. sym (ap (λ b. if b then plain_takes.take wakes (telling c1.tells d) (Run x.run x.waker) r0
-          else plain_takes.gives_way wakes (telling c1.tells d) x.run x.waker r0) few))
+          (λ d. sym (ap (λ b. if b then plain_takes.take wakes (telling c1.tells d) (Run x.run x.waker) outer
+          else plain_takes.gives_way wakes (telling c1.tells d) x.run x.waker outer) few))
           (λ d so.
           found_says s reached p there open_still others q counted below inside nested n Pends (PollOwn x.run x.waker) e
-          (telling c1.tells d) s.world x.run x.waker r0 (still_here s.world) refl so)) in
+          (telling c1.tells d) s.world x.run x.waker outer (still_here s.world) refl so)) in
           lands_so s reached p there open_still others q counted below inside nested n (end.Polled answer.Pending) Pends pends
           (PollOwn x.run x.waker) at e rests lands
   from_own_poll x is at follows u ok = absurd cc
@@ -193,18 +193,18 @@ module _ (s : Machine) (reached : Reached s) (p : ℕ) (there : p < length s.par
   -- a run has gone: what others have taken stays
   gone_count : (r : ℕ) → weigh (running_of r) below ≡ 0 → ((k : ℕ) → Taken (some_op (lasts k) below) (taken_in k q.runs))
       → ((k : ℕ) → (k == r) ≡ false → some_op (leaves k) below ≡ true → over_in k q.runs ≡ false)
-      → Counted below (plain_calls.gone wakes c1 r r0).runs
+      → Counted below (plain_calls.gone wakes c1 r outer).runs
   gone_count r unused taken going = record {
-    taken = λ k. subst (Taken (some_op (lasts k) below)) (sym (gone_taken c1 k r r0)) (taken k);
+    taken = λ k. subst (Taken (some_op (lasts k) below)) (sym (gone_taken c1 k r outer)) (taken k);
     going = λ k is_left. goes k (k == r) refl is_left;
   }
     where
       goes : (k : ℕ) (b : Bool) → (k == r) ≡ b → some_op (leaves k) below ≡ true
-          → over_in k (plain_calls.gone wakes c1 r r0).runs ≡ false
+          → over_in k (plain_calls.gone wakes c1 r outer).runs ≡ false
       goes k true here is_left =
           absurd (clash (ap (λ k. some_op (leaves k) below) (same_of k r here) ∙ none_left r below unused) is_left)
       goes k false apart is_left =
-          ap (λ o. or o (λ run. run.is_over) true) (gone_spares c1 k r r0 apart) ∙ going k apart is_left
+          ap (λ o. or o (λ run. run.is_over) true) (gone_spares c1 k r outer apart) ∙ going k apart is_left
 
   -- and its drop
   pub from_own_drop : (r : ℕ)
@@ -217,11 +217,11 @@ module _ (s : Machine) (reached : Reached s) (p : ℕ) (there : p < length s.par
       let e = alone p hints first in
       let counted0 : Counted xs q.runs = subst (λ os. Counted os q.runs) is counted in
       let so =
-      own_goes p below under s.world r0 (follows0 s reached p there open_still others q counted below inside nested (DropOwn r Ready) at
+      own_goes p below under s.world outer (follows0 s reached p there open_still others q counted below inside nested (DropOwn r Ready) at
       refl s.world follows) c1 many r hints all rests in
       back s reached p there open_still others q counted below inside nested (start_of p hints first) end.Done Ends ends
       (DropOwn r Ready) at e
-      (still_so s.world e.world Ends (r1 (DropOwn r Ready)) c1 refl refl
+      (still_so s.world e.world Ends (inner (DropOwn r Ready)) c1 refl refl
       (alone_counts p hints s.world (op.List (list_op.LockWrite (section.Unregister r reply.Ready)) ∷ below)
       (omega (arith, due_resting counts below under)))
       (alone_turn p hints s.world (op.List (list_op.LockWrite (section.Unregister r reply.Ready)) ∷ below)
@@ -238,12 +238,12 @@ module _ (s : Machine) (reached : Reached s) (p : ℕ) (there : p < length s.par
       let first = done s.world (rest ∷ below) in
       let e = alone p hints first in
       let so =
-      own_went p below under s.world r0 r rest leaving
+      own_went p below under s.world outer r rest leaving
       (stands_in inside s.world (record q { runs = changed ended_run r q.runs }) (subst (Follows s.world) (runs_is ended_run r q) follows)
       (sym (ap (λ codes. waking_in codes) at))) c1 many hints all rests in
       back s reached p there open_still others q counted below inside nested (start_of p hints first) end.Done Ends ends
       (DropOwn r DoneAnswer) at e
-      (still_so s.world e.world Ends (r1 (DropOwn r DoneAnswer)) c1 refl refl (counts_on rest leaving hints)
+      (still_so s.world e.world Ends (inner (DropOwn r DoneAnswer)) c1 refl refl (counts_on rest leaving hints)
       (alone_turn p hints s.world (rest ∷ below) (light_on rest leaving)) (start_of p hints first)) so.0 so.2 (by rest leaving is) so.1
     where
       counts_on : (rest : Op) → IsLeaving r rest → (hints : List Hint)
@@ -260,7 +260,7 @@ module _ (s : Machine) (reached : Reached s) (p : ℕ) (there : p < length s.par
       light_on rest listed = omega (arith, due_resting seeks below under)
 
       by : (rest : Op) → IsLeaving r rest → reverse (stack s p) ≡ op.User (user_op.DropOwn r) ∷ rest ∷ below
-          → Counted below (plain_calls.gone wakes c1 r r0).runs
+          → Counted below (plain_calls.gone wakes c1 r outer).runs
       by rest unlisted is =
           let xs = op.User (user_op.DropOwn r) ∷ op.Run (run_op.Reschedule r reply.Done) ∷ below in
           let counted0 : Counted xs q.runs = subst (λ os. Counted os q.runs) is counted in

@@ -208,7 +208,8 @@ module _ (s : Machine) (reached : Reached s) (p : ℕ) (q : Plain Output Waker) 
       begins : Nested (reverse (stack s p)) q.inside → Follows s.world q → Anyhow (Begin p c)
       begins nested follows =
           begun_leads p (λ e. (r : Plain Output Waker) × ActsAnyhow s p (Begin p c) q r e.world × StandsSo e r) new later c ts s reached
-          there (one_begins s reached p q follows nested stands.counted c on (may_begin s p c (run-first (Begin p c) ts s new made).0)) rests made
+          there (one_begins s reached p q follows nested stands.counted c on (may_begin s p c (run-first (Begin p c) ts s new made).0))
+          rests made
 
       inside_of : (taker : Taker Waker) (final : Op) (below : List Op) (f : ℕ) (awaiter : Option Waker)
           (codes : List (Code Output Waker)) → GoesOnBy taker final → Nested below codes → (gs : List ℕ)

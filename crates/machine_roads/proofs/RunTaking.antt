@@ -319,17 +319,17 @@ module _ (p : ℕ) (below : List Op) (under : is_resting below ≡ true) (end : 
           let now : Way p end k1.world (op.Move move.TakeUp f ∷ final k1.last ∷ below) =
           subst (λ ops. Way p end k1.world (ops ++ below)) k1.leads
           (subst (λ v. Way p end v ((run_found two.world x f).next ++ below)) k1.is two.way) in
-          let E1 : List Due = repeat urgent (keeping r Urgent) E in
-          let E2 : List Due = repeat plain_ones (keeping r PlainMark) E1 in
-          let lined1 : Lined ds E1 = lined_more r Urgent urgent (D ++ adds.more) E first_lined one.most one.few in
-          let lined2 : Lined es E2 = lined_more r PlainMark plain_ones ds E1 lined1 two.most two.few in
-          let follows3 : Follows k1.world (with_both E2 (counted q0.runs) z) =
-          lined_so k1.world (with_both es (counted q0.runs) z) E2 k1.follows lined2 in
+          let urgent_kept : List Due = repeat urgent (keeping r Urgent) E in
+          let both_kept : List Due = repeat plain_ones (keeping r PlainMark) urgent_kept in
+          let lined1 : Lined ds urgent_kept = lined_more r Urgent urgent (D ++ adds.more) E first_lined one.most one.few in
+          let lined2 : Lined es both_kept = lined_more r PlainMark plain_ones ds urgent_kept lined1 two.most two.few in
+          let follows3 : Follows k1.world (with_both both_kept (counted q0.runs) z) =
+          lined_so k1.world (with_both es (counted q0.runs) z) both_kept k1.follows lined2 in
           let later = so_many plain_ones PlainMark in
           let more = so_many urgent Urgent ++ later in
           let zk : Plain Output Waker = with_due (repeat k (keeping r m) z.due) z in
           let zu : Plain Output Waker = with_due (repeat urgent (keeping r Urgent) zk.due) z in
-          let same : takes_so (so_many k m ++ more) ≡ with_both E2 (counted q0.runs) z =
+          let same : takes_so (so_many k m ++ more) ≡ with_both both_kept (counted q0.runs) z =
           ap (plain.runs one_more r)
           (each_marks r k m more z ∙ (each_marks r urgent Urgent later zk ∙ each_many r plain_ones PlainMark zu))
           ∙ (runs_is one_more r (with_due (repeat plain_ones (keeping r PlainMark) zu.due) z)
@@ -338,14 +338,14 @@ module _ (p : ℕ) (below : List Op) (under : is_resting below ≡ true) (end : 
           (repeat plain_ones (keeping r PlainMark) (repeat urgent (keeping r Urgent) (repeat k (keeping r m) y.due))) (counted y.runs) z)
           z_is) in
           let both : more ≡ usual.of_both wakes c r kept_beside =
-          ap (λ n. so_many urgent Urgent ++ so_many n PlainMark) (share_same r PlainMark ds E1 lined1)
+          ap (λ n. so_many urgent Urgent ++ so_many n PlainMark) (share_same r PlainMark ds urgent_kept lined1)
           ∙ (ap (λ n. so_many n Urgent ++ so_many (share_of r PlainMark (repeat n (keeping r Urgent) E)) PlainMark)
           (share_same r Urgent (D ++ adds.more) E first_lined)
           ∙ (ap (both_of r) (sym kept_due_is) ∙ sym (both_is c r kept_beside))) in
           record {
             marks = so_many k m ++ more;
             last = k1.last;
-            begun = begins f k1.last k1.world E2 (so_many k m ++ more) follows3 same k1.early now;
+            begun = begins f k1.last k1.world both_kept (so_many k m ++ more) follows3 same k1.early now;
             kept = ap (λ ms. so_many k m ++ ms) both ∙ ap kept_so (sym each_64th);
             behind = counts_one true w each_64th at way;
           }

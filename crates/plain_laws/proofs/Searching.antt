@@ -203,6 +203,7 @@ module _ {T A : Type 0} (wakes : A → Option ℕ) (c d : Choice) where
   not_searching calls.Pends p is not = pends_none wakes c (taking_as d c) p.inside p is
   not_searching calls.Ends p is not = ends_none wakes c (taking_as d c) p.inside p is
   not_searching (calls.EndsWith v) p is not = gives_none wakes c (taking_as d c) v p.inside p
-  not_searching calls.DropExecutor p is not = closes_none wakes c (taking_as d c) (calls.living_from 0 p.futures) (calls.living_from 0 p.futures) p
+  not_searching calls.DropExecutor p is not = closes_none wakes c (taking_as d c) (calls.living_from 0 p.futures)
+      (calls.living_from 0 p.futures) p
   not_searching (calls.PollHandle f w) p is not = handled f w (abstract.polled (task f p)) p
   not_searching _ p is not = refl

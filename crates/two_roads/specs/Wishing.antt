@@ -29,7 +29,8 @@ module _ {T X : Type 0} (number : X → ℕ) where
 
 -- where a call asks for memory, this is refused to it as was wished
 module _ {F T X : Type 0} {its : ℕ → Lent} where
-  abbrev pub AreRefusedSo : List (Wish T (SoloWaker X)) → {cs : List (Choice × Call T (SoloWaker X))} {before after : Owner} {y z : Solo F T X}
+  abbrev pub AreRefusedSo : List (Wish T (SoloWaker X)) → {cs : List (Choice × Call T (SoloWaker X))} {before after : Owner}
+      {y z : Solo F T X}
       {p : Plain T (SoloWaker X)} {shown : List (Event T (SoloWaker X))} → Leads its cs before y p shown after z → Type 0
   AreRefusedSo [] led = Unit {0}
   AreRefusedSo (x ∷ xs) (stays owner y p) = Unit {0}

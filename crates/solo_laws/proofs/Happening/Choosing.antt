@@ -165,7 +165,8 @@ module _ {F T X : Type 0} (its : ℕ → Lent) (future : F) (owner : Owner) (s :
           is_made refusal (plain.Spawn mark) _ (turns.scheduled next.task (entered mark free under))
           (spawns mark future (spawned mark free under) (turns.scheduled next.task (entered mark free under)) (spawned_so mark free under)
           refl same (fewer 3 14 s.lines (omega arith) life) few) refl
-          (scheduled_of (λ accepted (table : TableValue F) (going : TableValue F). table.has_room ≡ false) next.task (entered mark free under)
+          (scheduled_of (λ accepted (table : TableValue F) (going : TableValue F). table.has_room ≡ false) next.task
+          (entered mark free under)
           refl)
       by true is AtOnce same = no_memory is (ap (λ r. is_granted r) same)
       by true is Later same = no_memory is (ap (λ r. is_granted r) same)

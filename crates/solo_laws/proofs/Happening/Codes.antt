@@ -140,7 +140,8 @@ module _ {F T X : Type 0} (its : ℕ → Lent) (future : F) (owner : Owner) (s :
       by : (cs : List (Code T (SoloWaker X))) → p.inside ≡ cs → MayPend its owner s p cs → wished (plain.EndsWith v)
       by [] is may = absurd may
       by (Poll f taker ∷ rest) is may =
-          is_made its future owner s p known.stands refusal first second name refusal (plain.EndsWith v) _ s (gives f taker rest v is) refl tt
+          is_made its future owner s p known.stands refusal first second name refusal (plain.EndsWith v) _ s (gives f taker rest v is)
+          refl tt
       by (Drop f end taker ∷ rest) is may = absurd may
       by (Lose awaiter taker ∷ rest) is may = absurd may
       by (PollOwn r w ∷ rest) is may =

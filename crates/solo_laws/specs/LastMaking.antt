@@ -107,7 +107,8 @@ module _ {F T X : Type 0} (its : ℕ → Lent) (s : Solo F T X) (p : Plain T (So
     pub life : HasLife (6 * length s.table.entries + 2) s.lines
     pub goes : MayGoOn (living_from 0 p.futures) xs
 
-  pub record Closes (xs : List (Wish T (SoloWaker X))) : Type 0 where
+  -- they are made so, from the drop on
+  pub record HappenLast (xs : List (Wish T (SoloWaker X))) : Type 0 where
     pub calls : List (Choice × Call T (SoloWaker X))
     pub shown : List (Event T (SoloWaker X))
     pub after : Solo F T X

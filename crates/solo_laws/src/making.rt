@@ -9,7 +9,7 @@ ghost use Rattle.solo.specs.declared.solo.Solo.{Solo};
 ghost use Rattle.plain_scheduler.specs.Calls.{new};
 ghost use Rattle.plain_scheduler.specs.State.{Plain, Who};
 ghost use Rattle.solo_laws.specs.Led.{IsLed};
-ghost use Rattle.solo_laws.specs.LastMaking.{Closes, MayDrop};
+ghost use Rattle.solo_laws.specs.LastMaking.{HappenLast, MayDrop};
 ghost use Rattle.solo_laws.specs.Making.{Goes, Happens, MayCall, MayGo, NextIsFree, WakersAreKnown, Wish, by_number, queued_by};
 ghost use Rattle.solo_laws.specs.Owner.{Owner, new_owner};
 
@@ -34,5 +34,5 @@ pub fn lists_of_calls_happen<F, T, X>()
 /// calls on tasks and the ends of outputs' drops while its futures are dropped, the end of each of these drops, and what is called then.
 pub fn last_calls_happen<F, T, X>()
     ensures { (its : ℕ → Lent) (owner : Owner) (s : Solo F T X) (p : Plain T (SoloWaker X)) (x : Wish T (SoloWaker X))
-        (xs : List (Wish T (SoloWaker X))) → IsLed its owner s p → MayDrop its s p x xs → Closes its s p (x ∷ xs) }
+        (xs : List (Wish T (SoloWaker X))) → IsLed its owner s p → MayDrop its s p x xs → HappenLast its s p (x ∷ xs) }
 {}

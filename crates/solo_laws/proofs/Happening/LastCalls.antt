@@ -1,5 +1,5 @@
 -- The last calls of an executor happen.
-use Rattle.std.proofs.Common.{◌≡◌, ℕ, suc, ◌+◌, ◌*◌, ◌<◌, ◌≤◌, Bool, true, false, List, [], ◌∷◌, ◌++◌, length, refl, sym, ap, subst, ◌∙◌}
+use Rattle.std.proofs.Common.{◌≡◌, ℕ, suc, ◌<◌, ◌≤◌, Bool, true, false, List, [], ◌∷◌, ◌++◌, length, refl, sym, ap, subst, ◌∙◌}
 use Rattle.std.proofs.Common.{arith}
 use Rattle.executor_parts.specs.declared.mark.Mark.TheVariants.{Plain as PlainMark}
 use Rattle.solo.specs.declared.names.Task.{Task}
@@ -13,14 +13,13 @@ use Rattle.plain_scheduler.specs.State.{Answers, Choice, Close, Code, Done, Drop
 use Rattle.plain_scheduler.specs.State.{Refusal}
 use Rattle.plain_scheduler.specs.Calls as plain
 use Rattle.plain_scheduler.specs.Calls.{Call, DropExecutor, Ends, does, is_granted, living_from}
-use Rattle.solo_laws.specs.Closing.{Drains, Finishes, GoesOn, IsClosed, IsClosing}
+use Rattle.solo_laws.specs.Closing.{GoesOn, IsClosing}
 use Rattle.solo_laws.specs.Courses.{Makes, cancels, copies, detaches, drops_handle, polls, releases, uses, wakes}
-use Rattle.solo_laws.specs.LastCalls.{After, Closes, IsDropped, LastCalls, Meanwhile, and_then, drops_output, first_drop, last_drop}
+use Rattle.solo_laws.specs.LastCalls.{After, Closes, IsDropped, Meanwhile, and_then, drops_output, first_drop, last_drop}
 use Rattle.solo_laws.specs.LastCalls.{meanwhile, next_drop}
 use Rattle.solo_laws.specs.LastCalls.{is_on_task, no_drop, on_task, over}
 use Rattle.solo_laws.specs.LastMaking.{AllowsMeanwhile, AreWished, HappensMeanwhile, IsLosing, MayClose, MayDrop, MayGoAfter, MayGoOn}
-use Rattle.solo_laws.specs.LastMaking.{MayMeanwhile, calls_meanwhile, drops_last, drops_next, fits}
-use Rattle.solo_laws.specs.LastMaking as last
+use Rattle.solo_laws.specs.LastMaking.{HappenLast, MayMeanwhile, calls_meanwhile, drops_last, drops_next, fits}
 use Rattle.solo_laws.specs.Making.{Wish, copy_refusal}
 use Rattle.solo_laws.specs.NoneLost.{NoneIsLost}
 use Rattle.solo_laws.specs.Road.{HasLife, IsNamed, wakes as wakes_of}
@@ -28,7 +27,7 @@ use Rattle.solo_laws.specs.Tabled.{Stands, named}
 use Rattle.solo_laws.proofs.Following.AtHome.{all_there}
 use Rattle.solo_laws.proofs.Following.Freeing.{closes_alike, goes_on_alike}
 use Rattle.solo_laws.proofs.Happening.Choosing.{fewer}
-use Rattle.solo_laws.proofs.Showing.LastCalls.{after_alike, meanwhile_alike}
+use Rattle.solo_laws.proofs.Showing.LastCalls.{meanwhile_alike}
 
 abbrev chosen : ℕ → Refusal → Choice
 chosen n refusal = record { first = PlainMark; keeps = []; robs = 0; moves = 0; tells = suc n; refusal = refusal }
@@ -190,7 +189,7 @@ module _ {F T X : Type 0} (its : ℕ → Lent) where
 
   -- from where both stand alike
   pub last_calls_happen : (s : Solo F T X) (p : Plain T (SoloWaker X)) → Stands its s p → NoneIsLost p → (x : Wish T (SoloWaker X))
-      (xs : List (Wish T (SoloWaker X))) → MayDrop its s p x xs → last.Closes its s p (x ∷ xs)
+      (xs : List (Wish T (SoloWaker X))) → MayDrop its s p x xs → HappenLast its s p (x ∷ xs)
   last_calls_happen s p so all x xs may = by (living_from 0 p.futures) refl may.goes
     where
       c : Choice
@@ -212,7 +211,7 @@ module _ {F T X : Type 0} (its : ℕ → Lent) where
           (closes_alike its (chosen (length p.lying) x.refusal) s p so may.owned
           (all_there its s p so all may.unpolled may.undropped) many may.life)
 
-      by : (fs : List ℕ) → living_from 0 p.futures ≡ fs → MayGoOn its s p fs xs → last.Closes its s p (x ∷ xs)
+      by : (fs : List ℕ) → living_from 0 p.futures ≡ fs → MayGoOn its s p fs xs → HappenLast its s p (x ∷ xs)
       by [] living on =
           let c = chosen (length p.lying) x.refusal in
           let it = begins [] living in

@@ -5,3 +5,5 @@ pub mod Ending
 pub mod Allowed
 pub mod Lain
 pub mod Refused
+pub mod Said
+pub mod Met

@@ -1,10 +1,10 @@
 //! Each act of the machine is a call that the executor's owner makes.
 ghost use Rattle.std.specs.Prelude.{◌≡◌, ℕ, ◌∷◌, List, not, reverse, true};
-ghost use Rattle.executor_model.specs.Steps.{Machine, is_static_kind, stack, start};
+ghost use Rattle.executor_model.specs.Steps.{is_static_kind, stack, start};
 ghost use Rattle.executor_model.specs.declared.kind.Kind.{Kind as MachineKind};
 ghost use Rattle.machine_roads.specs.Within.{Act, AreActs, IsAct, is_on_way};
 ghost use Rattle.plain_scheduler.specs.Calls.{Call, course, new};
-ghost use Rattle.plain_scheduler.specs.State.{Choice, Event, Plain, Who};
+ghost use Rattle.plain_scheduler.specs.State.{Choice, Event, Who};
 ghost use Rattle.solo.specs.Solo.{IsNew, counts};
 ghost use Rattle.solo.specs.declared.names.Kind.{Kind};
 ghost use Rattle.solo.specs.declared.names.SoloWaker.{SoloWaker};
@@ -23,14 +23,13 @@ ghost use Rattle.two_roads.specs.Happening.{IsActed, MayAct, NamesAlike};
 pub fn each_act_happens<F, T, X>()
     ensures { (number : X → ℕ) (outside : ℕ → X) (numbers : (n : ℕ) → number (outside n) ≡ n) (value : T) (future : F)
         (limit : ℕ) (kind : MachineKind) (solo_kind : Kind) (parties : ℕ) (acts : List Act) (calls : List (Choice × Call T (SoloWaker X)))
-        (first y : Solo F T X) (shown : List (Event T (SoloWaker X))) (before : Who → ℕ) (owner : Owner) (s : Machine)
-        (p : Plain T (SoloWaker X)) (a : Act)
-        → AreActs (start limit kind parties) acts → s ≡ left_of (start limit kind parties) acts
-        → IsNew limit solo_kind first → counts solo_kind ≡ not (is_static_kind kind)
+        (first y : Solo F T X) (shown : List (Event T (SoloWaker X))) (before : Who → ℕ) (owner : Owner)
+        → AreActs (start limit kind parties) acts → IsNew limit solo_kind first → counts solo_kind ≡ not (is_static_kind kind)
         → (led : Leads by_number calls (new_owner before) first (new limit (is_static_kind kind)) shown owner y)
-        → p ≡ course wakes calls (new limit (is_static_kind kind))
         → AreOfSteps number (start limit kind parties) acts led
-        → NamesAlike s owner y p → IsAct s a → is_on_way (reverse (stack s a.party)) a.first ≡ true
+        → let s = left_of (start limit kind parties) acts in
+        let p = course wakes calls (new limit (is_static_kind kind)) in
+        NamesAlike s owner y p → (a : Act) → IsAct s a → is_on_way (reverse (stack s a.party)) a.first ≡ true
         → MayAct number s a owner y p value outside
         → IsActed number s a owner y p }
 {}

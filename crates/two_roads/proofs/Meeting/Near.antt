@@ -22,7 +22,7 @@ use Rattle.machine_roads.specs.View.{Output}
 use Rattle.machine_roads.specs.Within.{StandsAlike, alike, dropping, forgetting, forgotten, going, losing, untaken}
 use Rattle.machine_roads.proofs.InLoss.{many_through}
 use Rattle.machine_roads.proofs.Lists.{apart_of, length_set, same_of}
-use Rattle.machine_roads.proofs.Puts.{put_asks, put_at, put_by, with_task}
+use Rattle.machine_roads.proofs.Puts.{put_asks, put_at, put_by, put_lying, with_task}
 
 pub record Near (e : Done) (q : Plain Output Waker) : Type 0 where
   pub world : World
@@ -34,6 +34,7 @@ pub record Near (e : Done) (q : Plain Output Waker) : Type 0 where
   pub at : e.next ≡ loss_ops gone below
   pub many : length world.tasks ≡ length e.world.tasks
   pub few : length plain.futures ≡ length q.futures
+  pub lying : plain.lying ≡ q.lying
   pub handles : (g : ℕ) → not (among g gone) ≡ true → (task_of world g).handle ≡ (task_of e.world g).handle
   pub asks : (g : ℕ) → (task g plain).handle ≡ (task g q).handle
   pub static : (world.is_static ≡ e.world.is_static) × (plain.is_static ≡ q.is_static)
@@ -123,6 +124,7 @@ near e q (alike nested follows) = record {
   at = refl;
   many = refl;
   few = refl;
+  lying = refl;
   handles = λ g spared. refl;
   asks = λ g. refl;
   static = (refl, refl);
@@ -136,6 +138,7 @@ near e q (losing f fs below codes nested stops) = record {
   at = stops.left;
   many = many_through (f ∷ fs) e.world;
   few = refl;
+  lying = refl;
   handles = through (f ∷ fs) e.world;
   asks = λ g. refl;
   static = (static_through (f ∷ fs) e.world, refl);
@@ -151,6 +154,7 @@ near e q (going r fs below codes nested stops) =
       at = stops.left;
       many = many_through fs e.world;
       few = runs_by (λ p. length p.futures) (λ q rs. refl) over r q;
+      lying = runs_by (λ p. p.lying) (λ q rs. refl) over r q;
       handles = through fs e.world;
       asks = λ g. runs_by (λ p. (task g p).handle) (λ q rs. refl) over r q;
       static = (static_through fs e.world, runs_by (λ p. p.is_static) (λ q rs. refl) over r q);
@@ -164,6 +168,7 @@ near e q (dropping taker final below f b it nested (answered next inside follows
   at = refl;
   many = refl;
   few = refl;
+  lying = refl;
   handles = λ g spared. refl;
   asks = λ g. refl;
   static = (refl, refl);
@@ -177,6 +182,7 @@ near e q (dropping taker final below f b it nested (loses awaiter next inside en
   at = refl;
   many = many_run f e.world;
   few = refl;
+  lying = refl;
   handles = λ g spared. of_run f e.world g;
   asks = λ g. refl;
   static = (refl, refl);
@@ -192,6 +198,7 @@ near e q (untaken taker final below f awaiter g gs codes it nested stops) =
       at = stops.left;
       many = many_through (g ∷ gs) v ∙ many_run f e.world;
       few = refl;
+      lying = refl;
       handles = λ k spared. through (g ∷ gs) v k spared ∙ of_run f e.world k;
       asks = λ g. refl;
       static = (static_through (g ∷ gs) v, refl);
@@ -205,6 +212,7 @@ near e q (forgetting taker final below f b it nested stops) = record {
   at = refl;
   many = many_awaiter f e.world;
   few = few_unawaited f q;
+  lying = put_lying f (record (task f q) { awaiter = None }) q;
   handles = λ g spared. of_awaiter f e.world g;
   asks = λ g. asks_unawaited f g q;
   static = (refl, put_by (λ p. p.is_static) f (record (task f q) { awaiter = None }) q (λ fs. refl));
@@ -220,6 +228,7 @@ near e q (forgotten taker final below f g gs codes it nested stops) =
       at = stops.left;
       many = many_through (g ∷ gs) v ∙ many_awaiter f e.world;
       few = few_unawaited f q;
+      lying = put_lying f (record (task f q) { awaiter = None }) q;
       handles = λ k spared. through (g ∷ gs) v k spared ∙ of_awaiter f e.world k;
       asks = λ k. asks_unawaited f k q;
       static = (static_through (g ∷ gs) v, put_by (λ p. p.is_static) f (record (task f q) { awaiter = None }) q (λ fs. refl));

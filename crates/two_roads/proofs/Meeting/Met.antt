@@ -23,7 +23,7 @@ use Rattle.machine_roads.proofs.Acts.{acts_alike, goes_rest, taken_over}
 use Rattle.machine_roads.proofs.Calling.{begin_alike}
 use Rattle.machine_roads.proofs.LoneRuns.{passed, within}
 use Rattle.solo_laws.specs.Courses.{Leads, leads, stays}
-use Rattle.solo_laws.specs.Making.{Happens, NextIsFree, Wish, by_number}
+use Rattle.solo_laws.specs.Making.{Allows, Happens, Wish, by_number}
 use Rattle.solo_laws.specs.Owner.{Owner, has_tick, new_owner}
 use Rattle.solo_laws.specs.Road.{wakes}
 use Rattle.solo_laws.proofs.Happening.Each.{happens}
@@ -138,11 +138,6 @@ module _ {F T X : Type 0} (number : X → ℕ) (outside : ℕ → X) (numbers : 
     abbrev its : Call T (SoloWaker X)
     its = call_by value outside by.made
 
-    fits_spawn : (call : Call T (SoloWaker X)) → FitsMemory number s a owner y p call
-        → FitsSpawn s reached a.party (within_it) q stands number value outside owner y p is names (refused_in s a) call
-    fits_spawn (calls.Spawn mark) fits = fits
-    fits_spawn call fits = tt
-
     may_be : refusal s a.first ≡ None
     may_be = (run-first a.first a.steps s a.left it.made).0
 
@@ -152,3 +147,69 @@ module _ {F T X : Type 0} (number : X → ℕ) (outside : ℕ → X) (numbers : 
         (within (party_of a.first) (length s.parties)
         (passed (nat_lt (party_of a.first) (length s.parties)) NoSuch
         (part_refusal s.world s.parties (stack s (party_of a.first)) a.first) may_be))
+
+    fits_spawn : (call : Call T (SoloWaker X)) → FitsMemory number s a owner y p call
+        → FitsSpawn s reached a.party within_it q stands number value outside owner y p is names (refused_in s a) call
+    fits_spawn (calls.Spawn mark) fits = fits
+    fits_spawn call fits = tt
+
+    -- the owner wishes it so
+    abbrev wish : Wish T (SoloWaker X)
+    wish = record {
+      call = its;
+      refusal = refused_in s a;
+      first = start_in s a;
+      second = 0;
+      name = length s.world.ticks;
+    }
+
+    may_it : Allows by_number owner y p (refused_in s a) (length s.world.ticks) its
+    may_it =
+        allowed s reached a.party within_it q stands number value outside owner y p is names (refused_in s a) a.first by.made by.is may_be
+        it.its (fits_spawn its (may by.made by.is).memory)
+
+    it_happens : Happens by_number owner y p wish
+    it_happens =
+        let has = may by.made by.is in
+        happens by_number future owner y p known (next_free owner y p known vacant) names.wakers wish
+        (record { allowed = may_it; life = has.life; futures = has.futures; runs = has.runs })
+
+    pub acted : ((e : Happens by_number owner y p wish) (t : ℕ) → has_tick t e.now ≡ lives (tick_of a.left.world t))
+        → IsActed number s a owner y p
+    acted ticks =
+        let e = it_happens in
+        let d : Choice = by.choice in
+        let many = no_more (length p.lying) e.choice.tells e.tells in
+        let few : length p.lying ≤ d.tells =
+        fewer (length p.lying) (length q.lying) d.tells
+        (sym (length_map (lying_as (numbered number)) p.lying) ∙ ap (λ (z : Plain Output Waker). length z.lying) is)
+        (tells_at s.world q d a.first by.chosen) in
+        let lie = lie_in (standing s a.party) q stands in
+        let seen = seen_in (standing a.left a.party) r there in
+        let lie_then = lie_in (standing a.left a.party) r there in
+        let says_so =
+        says number value outside numbers s a owner y p known e.choice many q is stands d few by.made
+        (subst (λ z. refused_in s a ≡ said.seen_in q z) (sym by.so) (seen_so s a q r lie seen lie_then)) in
+        record {
+          call = its;
+          choice = e.choice;
+          shown = e.shown;
+          now = e.now;
+          after = e.after;
+          acts = e.acts;
+          tells = e.tells;
+          of =
+              record {
+                made = subst (λ m. IsMade s a.party a.first m) (sym (call_is number value outside numbers by.made)) by.is;
+                refused =
+                    λ asks.
+                    refusal_same number s a owner y p known e.choice many its e.shown e.now e.after e.acts (may by.made by.is).memory
+                    says_so asks e.refused;
+              };
+          walks = λ x at found kept. (0, e.starts);
+          names =
+              record {
+                wakers = still_known owner y p e.now e.after e.choice wish may_it names.wakers;
+                ticks = ticks e;
+              };
+        }

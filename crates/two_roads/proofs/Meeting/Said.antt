@@ -58,7 +58,7 @@ abbrev lie : Plain Output Waker → ℕ
 lie p = length (uncalled p.lying)
 
 -- so it is seen that memory was refused
-abbrev seen_in : Plain Output Waker → Plain Output Waker → Refusal
+abbrev pub seen_in : Plain Output Waker → Plain Output Waker → Refusal
 seen_in q z = refused_so (ends_refused z.events) (nat_lt (lie q) (lie z))
 
 once_granted : (e m : Bool) → e ≡ false → IsOnce (refused_so e m)

@@ -1,4 +1,4 @@
-use Rattle.two_roads.proofs.Meeting.Met.{ends_there}
+use Rattle.two_roads.proofs.Meeting.Met.{acted, ends_there}
 use Rattle.two_roads.proofs.happening.each_act_happens.Goals as goal
 
 pub returns : goal.returns

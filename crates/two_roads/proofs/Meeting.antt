@@ -6,4 +6,5 @@ pub mod Allowed
 pub mod Lain
 pub mod Refused
 pub mod Said
+pub mod TicksMet
 pub mod Met

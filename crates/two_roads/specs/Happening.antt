@@ -18,7 +18,7 @@ use Rattle.machine_roads.specs.Within.{Act, IsMade}
 use Rattle.solo_laws.specs.Courses.{Acts}
 use Rattle.solo_laws.specs.Making.{HasNoRoom, WakersAreKnown, by_number, may_copy, queues_with}
 use Rattle.solo_laws.specs.Owner.{Owner, has_tick}
-use Rattle.solo_laws.specs.Road.{HasLife, wakes}
+use Rattle.solo_laws.specs.Road.{HasLife, apart, wakes}
 use Rattle.solo_laws.specs.Tabled.{named}
 use Rattle.two_roads.specs.Acting.{IsOfStep, WalksAlike}
 use Rattle.two_roads.specs.Refusing.{has_to_wait, refused_in}
@@ -33,10 +33,11 @@ module _ {T X : Type 0} (value : T) (outside : ℕ → X) where
   abbrev pub call_by : Call Output Waker → Call T (SoloWaker X)
   call_by call = call_as (λ v. value) waker_by call
 
--- both name alike: runs are polled by wakers of futures that came, and the owner's ticks are the machine's that live
+-- both name alike: runs are polled by wakers of futures that came, and the owner's ticks, each there once, are the machine's that live
 pub record NamesAlike {F T X : Type 0} (s : Machine) (owner : Owner) (y : Solo F T X) (p : Plain T (SoloWaker X)) : Type 0 where
   pub wakers : WakersAreKnown by_number owner y p
   pub ticks : (t : ℕ) → has_tick t owner ≡ lives (tick_of s.world t)
+  pub once : apart owner.ticks ≡ true
 
 -- a waker from outside
 abbrev pub IsOutside : {X : Type 0} → SoloWaker X → Type 0

@@ -22,10 +22,11 @@ use Rattle.machine_roads.specs.Within.{start_in}
 use Rattle.machine_roads.proofs.Acts.{acts_alike, goes_rest, taken_over}
 use Rattle.machine_roads.proofs.Calling.{begin_alike}
 use Rattle.machine_roads.proofs.LoneRuns.{passed, within}
+use Rattle.machine_roads.proofs.TicksBehind.{act_ticks}
 use Rattle.solo_laws.specs.Courses.{Leads, leads, stays}
 use Rattle.solo_laws.specs.Making.{Allows, Happens, Wish, by_number}
 use Rattle.solo_laws.specs.Owner.{Owner, has_tick, new_owner}
-use Rattle.solo_laws.specs.Road.{wakes}
+use Rattle.solo_laws.specs.Road.{apart, wakes}
 use Rattle.solo_laws.proofs.Happening.Each.{happens}
 use Rattle.solo_laws.proofs.Happening.Free.{acts_vacant}
 use Rattle.solo_laws.proofs.Happening.Lists.{next_free, still_known}
@@ -41,6 +42,7 @@ use Rattle.two_roads.proofs.Inner.{seen_in}
 use Rattle.two_roads.proofs.InStep.{OthersRest, rest_still, steps_same}
 use Rattle.two_roads.proofs.Meeting.Allowed.{FitsSpawn, allowed}
 use Rattle.two_roads.proofs.Meeting.Refused.{refusal_same}
+use Rattle.two_roads.proofs.Meeting.TicksMet.{behind, of_ticks}
 use Rattle.two_roads.proofs.Meeting.Said as said
 use Rattle.two_roads.proofs.Meeting.Said.{call_is, says}
 use Rattle.two_roads.proofs.Refusing.{lie_in}
@@ -174,10 +176,13 @@ module _ {F T X : Type 0} (number : X → ℕ) (outside : ℕ → X) (numbers : 
         happens by_number future owner y p known (next_free owner y p known vacant) names.wakers wish
         (record { allowed = may_it; life = has.life; futures = has.futures; runs = has.runs })
 
-    pub acted : ((e : Happens by_number owner y p wish) (t : ℕ) → has_tick t e.now ≡ lives (tick_of a.left.world t))
-        → IsActed number s a owner y p
-    acted ticks =
+    pub acted : IsActed number s a owner y p
+    acted =
         let e = it_happens in
+        let ticks =
+        behind s a owner y p e.choice names.ticks names.once its e.shown e.now e.after e.acts e.refused e.named_so
+        (of_ticks s a owner y p e.choice names.ticks names.once value outside by.made
+        (act_ticks s reached q a by.made stands it by.is)) in
         let d : Choice = by.choice in
         let many = no_more (length p.lying) e.choice.tells e.tells in
         let few : length p.lying ≤ d.tells =
@@ -210,6 +215,33 @@ module _ {F T X : Type 0} (number : X → ℕ) (outside : ℕ → X) (numbers : 
           names =
               record {
                 wakers = still_known owner y p e.now e.after e.choice wish may_it names.wakers;
-                ticks = ticks e;
+                ticks = ticks.0;
+                once = ticks.1;
               };
         }
+
+  -- wherever acts and calls have led
+  pub each_acts : (limit : ℕ) (kind : MachineKind) (solo_kind : Kind) (parties : ℕ) (acts : List Act)
+      (cs : List (Choice × Call T (SoloWaker X))) (first y : Solo F T X) (shown : List (Event T (SoloWaker X)))
+      (before : Who → ℕ) (owner : Owner) → AreActs (start limit kind parties) acts → IsNew limit solo_kind first
+      → counts solo_kind ≡ not (is_static_kind kind)
+      → (led : Leads by_number cs (new_owner before) first (new limit (is_static_kind kind)) shown owner y)
+      → AreOfSteps number (start limit kind parties) acts led
+      → NamesAlike (left_of (start limit kind parties) acts) owner y (course wakes cs (new limit (is_static_kind kind)))
+      → (a : Act) → IsAct (left_of (start limit kind parties) acts) a
+      → is_on_way (reverse (stack (left_of (start limit kind parties) acts) a.party)) a.first ≡ true
+      → MayAct number (left_of (start limit kind parties) acts) a owner y (course wakes cs (new limit (is_static_kind kind))) value outside
+      → IsActed number (left_of (start limit kind parties) acts) a owner y (course wakes cs (new limit (is_static_kind kind)))
+  each_acts limit kind solo_kind parties acts cs first y shown before owner they is_new counted led of names a it way may =
+      let p = course wakes cs (new limit (is_static_kind kind)) in
+      let e = ends_there limit kind parties acts a they it way in
+      let known_first = new_known by_number before limit solo_kind (is_static_kind kind) first is_new counted in
+      let known =
+      (leads_alike by_number cs (new_owner before) owner first y (new limit (is_static_kind kind)) shown known_first led).0 in
+      let vacant =
+      leads_vacant cs (new_owner before) owner first y (new limit (is_static_kind kind)) shown led known_first
+      (λ k above. ap (λ slots. slice_index_or slots k None) is_new.cells) in
+      let is =
+      steps_same by_number number limit kind solo_kind parties acts cs first y shown before owner they e.go is_new counted led of ∙ e.is in
+      acted (left_of (start limit kind parties) acts) e.reached a it way e.plain e.stands e.behind e.by e.there owner y p is known vacant
+      names may

@@ -8,3 +8,4 @@ pub mod Refused
 pub mod Said
 pub mod TicksMet
 pub mod Met
+pub mod Lists

@@ -1,28 +1,31 @@
 -- Acts of the machine, as calls that the owner of an executor makes.
-use Rattle.std.specs.Prelude.{◌≡◌, ℕ, ◌<◌, true, false, List, length, Some}
+use Rattle.std.specs.Prelude.{◌≡◌, ℕ, ◌+◌, ◌*◌, ◌<◌, true, false, List, [], ◌∷◌, length, Some}
 use Rattle.queue_steps.specs.ClosableQueue.{most_accepted}
 use Rattle.executor_model.specs.declared.op.Waker.{Waker}
 use Rattle.executor_model.specs.declared.op.Waker.TheVariants.{Task as TaskWaker, Outside as OutsideWaker}
-use Rattle.executor_model.specs.Steps.{Machine, lives}
+use Rattle.executor_model.specs.declared.kind.Kind.{Kind as MachineKind}
+use Rattle.executor_model.specs.Steps.{Machine, is_static_kind, lives, start}
 use Rattle.executor_model.specs.World.{tick_of}
 use Rattle.solo.specs.declared.names.SoloWaker.{SoloWaker}
 use Rattle.solo.specs.declared.names.SoloWaker.TheVariants.{Task as OfTask, Outside}
 use Rattle.solo.specs.declared.solo.Solo.{Solo}
 use Rattle.task_moves.specs.AbstractTask as abstract
 use Rattle.plain_scheduler.specs.Moves.{task}
-use Rattle.plain_scheduler.specs.State.{Choice, Event, Plain}
-use Rattle.plain_scheduler.specs.Calls.{Call, Copy, Ends, Pends, PollHandle, PollTick, Spawn, does, is_granted}
+use Rattle.plain_scheduler.specs.State.{Choice, Event, Plain, Who}
+use Rattle.plain_scheduler.specs.Calls.{Call, Copy, Ends, Pends, PollHandle, PollTick, Spawn, does, is_granted, new}
 use Rattle.plain_scheduler.specs.Searches.{Search, finds, searches}
+use Rattle.machine_roads.specs.Seeing.{heard_in}
 use Rattle.machine_roads.specs.View.{Output}
 use Rattle.machine_roads.specs.Within.{Act, IsMade}
-use Rattle.solo_laws.specs.Courses.{Acts}
+use Rattle.solo_laws.specs.Courses.{Acts, Leads}
 use Rattle.solo_laws.specs.Making.{HasNoRoom, WakersAreKnown, by_number, may_copy, queues_with}
-use Rattle.solo_laws.specs.Owner.{Owner, has_tick}
+use Rattle.solo_laws.specs.Owner.{Owner, has_tick, new_owner}
 use Rattle.solo_laws.specs.Road.{HasLife, apart, wakes}
 use Rattle.solo_laws.specs.Tabled.{named}
-use Rattle.two_roads.specs.Acting.{IsOfStep, WalksAlike}
+use Rattle.two_roads.specs.Acting.{AreOfSteps, IsOfStep, WalksAlike, left_of}
 use Rattle.two_roads.specs.Refusing.{has_to_wait, refused_in}
 use Rattle.two_roads.specs.Renaming.{call_as}
+use Rattle.two_roads.specs.Together.{as_heard}
 
 -- a call of the machine's as one of the executor's: an output is this one, and of each waker from outside there is one by its number
 module _ {T X : Type 0} (value : T) (outside : ℕ → X) where
@@ -88,3 +91,27 @@ module _ {F T X : Type 0} (number : X → ℕ) (s : Machine) (a : Act) (owner : 
   -- that call
   abbrev pub MayAct : T → (ℕ → X) → Type 0
   MayAct value outside = (made : Call Output Waker) → IsMade s a.party a.first made → HasMeans (call_by value outside made)
+
+-- so many tasks a list of acts queues at most, and more than futures and runs come
+abbrev pub queued_in : ℕ → List Act → ℕ
+queued_in limit [] = 0
+queued_in limit (a ∷ acts) = 6 * limit + 20 + queued_in limit acts
+
+module _ {F T X : Type 0} (number : X → ℕ) (value : T) (outside : ℕ → X) where
+  -- memory is as each of these acts has it, wherever those before it have led
+  abbrev pub MemoryFits : List Act → Machine → Owner → Solo F T X → Plain T (SoloWaker X) → Type 0
+  MemoryFits [] s owner y p = Unit {0}
+  MemoryFits (a ∷ acts) s owner y p =
+      ((made : Call Output Waker) → IsMade s a.party a.first made → FitsMemory number s a owner y p (call_by value outside made))
+      × ((it : IsActed number s a owner y p) → MemoryFits acts a.left it.now it.after (does wakes it.choice it.call p))
+
+-- a new executor's owner makes the calls that a new machine's acts are, and what is shown is what the machine's trace tells of
+pub record AreActed {F T X : Type 0} (number : X → ℕ) (limit : ℕ) (kind : MachineKind) (parties : ℕ) (acts : List Act)
+    (first : Solo F T X) (before : Who → ℕ) : Type 0 where
+  pub calls : List (Choice × Call T (SoloWaker X))
+  pub shown : List (Event T (SoloWaker X))
+  pub now : Owner
+  pub after : Solo F T X
+  pub leads : Leads by_number calls (new_owner before) first (new limit (is_static_kind kind)) shown now after
+  pub of : AreOfSteps number (start limit kind parties) acts leads
+  pub told : heard_in (left_of (start limit kind parties) acts).world.trace ≡ as_heard number shown

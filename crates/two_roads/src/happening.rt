@@ -1,5 +1,6 @@
 //! Each act of the machine is a call that the executor's owner makes.
-ghost use Rattle.std.specs.Prelude.{◌≡◌, ℕ, ◌∷◌, List, not, reverse, true};
+ghost use Rattle.std.specs.Prelude.{◌≡◌, ◌≤◌, ℕ, ◌∷◌, List, not, reverse, true};
+ghost use Rattle.queue_steps.specs.ClosableQueue.{most_accepted};
 ghost use Rattle.executor_model.specs.Steps.{is_static_kind, stack, start};
 ghost use Rattle.executor_model.specs.declared.kind.Kind.{Kind as MachineKind};
 ghost use Rattle.machine_roads.specs.Within.{Act, AreActs, IsAct, is_on_way};
@@ -14,7 +15,7 @@ ghost use Rattle.solo_laws.specs.Making.{by_number};
 ghost use Rattle.solo_laws.specs.Owner.{Owner, new_owner};
 ghost use Rattle.solo_laws.specs.Road.{wakes};
 ghost use Rattle.two_roads.specs.Acting.{AreOfSteps, left_of};
-ghost use Rattle.two_roads.specs.Happening.{IsActed, MayAct, NamesAlike};
+ghost use Rattle.two_roads.specs.Happening.{AreActed, IsActed, MayAct, MemoryFits, NamesAlike, queued_in};
 
 /// Wherever a list of acts of a new machine and a list of such calls of a new executor of one owner have come to that is of these steps,
 /// and both name alike, each further act of the machine is a call that the owner makes, as refused and by the same words, as long as the
@@ -32,4 +33,16 @@ pub fn each_act_happens<F, T, X>()
         NamesAlike s owner y p → (a : Act) → IsAct s a → is_on_way (reverse (stack s a.party)) a.first ≡ true
         → MayAct number s a owner y p value outside
         → IsActed number s a owner y p }
+{}
+
+/// So, from a new machine and a new executor on, each list of acts that queue no more tasks than a queue accepts in its life is a list of
+/// calls that the executor's owner makes, and the machine's trace tells of what these show: as long as memory, wherever they have led, is
+/// as the next act has it.
+pub fn acts_happen<F, T, X>()
+    ensures { (number : X → ℕ) (outside : ℕ → X) (numbers : (n : ℕ) → number (outside n) ≡ n) (value : T) (future : F)
+        (limit : ℕ) (kind : MachineKind) (solo_kind : Kind) (parties : ℕ) (acts : List Act) (first : Solo F T X) (before : Who → ℕ)
+        → AreActs (start limit kind parties) acts → IsNew limit solo_kind first → counts solo_kind ≡ not (is_static_kind kind)
+        → queued_in limit acts ≤ most_accepted
+        → MemoryFits number value outside acts (start limit kind parties) (new_owner before) first (new limit (is_static_kind kind))
+        → AreActed number limit kind parties acts first before }
 {}

@@ -107,16 +107,10 @@ module _ {F T X : Type 0} where
       polls call its = tt
 
   -- what a call may queue may come, where so many more may
-  pub may_call : (limit n k : ℕ) (owner : Owner) (s : Solo F T X) (p : Plain T (SoloWaker X)) → Known by_number owner s p
-      → p.limit ≡ limit → (x : Wish T (SoloWaker X)) → Allows by_number owner s p x.refusal x.name x.call
-      → k ≡ 6 * limit + 20 + n → HasLife k s.lines → length p.futures + k ≤ most_accepted → length p.runs + k ≤ most_accepted
-      → MayCall by_number owner s p x
-  may_call limit n k owner s p known same x may is life futures runs = record {
-    allowed = may;
-    life = fewer (queues_with by_number owner s p x.call) k s.lines (enough x.call) life;
-    futures = omega (arith, futures, is);
-    runs = omega (arith, runs, is);
-  }
+  pub has_life : (limit n k : ℕ) (owner : Owner) (s : Solo F T X) (p : Plain T (SoloWaker X)) → Known by_number owner s p
+      → p.limit ≡ limit → k ≡ 6 * limit + 20 + n → HasLife k s.lines → (call : Call T (SoloWaker X))
+      → HasLife (queues_with by_number owner s p call) s.lines
+  has_life limit n k owner s p known same is life call = fewer (queues_with by_number owner s p call) k s.lines (enough call) life
     where
       enough : (call : Call T (SoloWaker X)) → queues_with by_number owner s p call ≤ k
       enough Leak = (let few = few_entries by_number s p known.stands in omega (arith, few, same, is))
@@ -131,6 +125,17 @@ module _ {F T X : Type 0} where
           left (DropOwn r answer ∷ cs) = (let few = few_kept by_number s p known.stands r in omega (arith, few, same, is))
           left (Close fs ns ∷ cs) = omega (arith, is)
       enough call = omega (arith, is)
+
+  may_call : (limit n k : ℕ) (owner : Owner) (s : Solo F T X) (p : Plain T (SoloWaker X)) → Known by_number owner s p
+      → p.limit ≡ limit → (x : Wish T (SoloWaker X)) → Allows by_number owner s p x.refusal x.name x.call
+      → k ≡ 6 * limit + 20 + n → HasLife k s.lines → length p.futures + k ≤ most_accepted → length p.runs + k ≤ most_accepted
+      → MayCall by_number owner s p x
+  may_call limit n k owner s p known same x may is life futures runs = record {
+    allowed = may;
+    life = has_life limit n k owner s p known same is life x.call;
+    futures = omega (arith, futures, is);
+    runs = omega (arith, runs, is);
+  }
 
   go : (limit : ℕ) (future : F) (xs : List (Wish T (SoloWaker X))) (owner : Owner) (s : Solo F T X) (p : Plain T (SoloWaker X))
       → Known by_number owner s p → IsVacant (length p.futures) s.cells → WakersAreKnown by_number owner s p

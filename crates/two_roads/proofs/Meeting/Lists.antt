@@ -1,5 +1,5 @@
 -- So lists of acts happen, one after the other.
-use Rattle.std.proofs.Common.{◌≡◌, ℕ, ◌+◌, ◌*◌, ◌≤◌, ◌++◌, not, true, List, [], ◌∷◌, length, append_assoc, append-nil, slice_index_or}
+use Rattle.std.proofs.Common.{◌≡◌, ℕ, ◌+◌, ◌*◌, ◌≤◌, ◌<◌, ◌++◌, not, true, List, [], ◌∷◌, length, append_assoc, append-nil, slice_index_or}
 use Rattle.std.proofs.Common.{refl, sym, ap, subst, ◌∙◌, arith}
 use Rattle.std.specs.Prelude.{reverse}
 use Rattle.queue_steps.specs.ClosableQueue.{most_accepted}
@@ -36,6 +36,9 @@ course_more : {T X : Type 0} (cs : List (Choice × Call T (SoloWaker X))) (x : C
 course_more [] x p = refl
 course_more (y ∷ cs) x p = course_more cs x (does wakes y.0 y.1 p)
 
+no_more : (n t : ℕ) → n < t → n ≤ t
+no_more n t below = omega (arith, below)
+
 module _ {F T X : Type 0} (number : X → ℕ) where
   -- one more call, which is of one more act
   pub record More (s : Machine) (acts : List Act) (a : Act) (cs : List (Choice × Call T (SoloWaker X))) (c : Choice)
@@ -67,3 +70,135 @@ module _ {F T X : Type 0} (number : X → ℕ) where
         leads = leads c' call' (rest ++ (c, call) ∷ []) o e now t u z r one more.shown many' acts' more.leads;
         of = (of.0, of.1, more.of);
       }
+
+module _ {F T X : Type 0} (number : X → ℕ) (outside : ℕ → X) (numbers : (n : ℕ) → number (outside n) ≡ n) (value : T) (future : F)
+    (limit : ℕ) (kind : MachineKind) (solo_kind : Kind) (parties : ℕ) (first : Solo F T X) (before : Who → ℕ)
+    (is_new : IsNew limit solo_kind first) (counted : counts solo_kind ≡ not (is_static_kind kind)) where
+  abbrev s0 : Machine
+  s0 = start limit kind parties
+
+  abbrev p0 : Plain T (SoloWaker X)
+  p0 = new limit (is_static_kind kind)
+
+  -- here acts and calls have led
+  record Here (s : Machine) (owner : Owner) (y : Solo F T X) (p : Plain T (SoloWaker X)) : Type 0 where
+    pub acts : List Act
+    pub calls : List (Choice × Call T (SoloWaker X))
+    pub shown : List (Event T (SoloWaker X))
+    pub they : AreActs s0 acts
+    pub at : left_of s0 acts ≡ s
+    pub leads : Leads by_number calls (new_owner before) first p0 shown owner y
+    pub there : course wakes calls p0 ≡ p
+    pub of : AreOfSteps number s0 acts leads
+
+  one_acts : (s : Machine) (owner : Owner) (y : Solo F T X) (p : Plain T (SoloWaker X)) → Here s owner y p → NamesAlike s owner y p
+      → (a : Act) → IsAct s a → is_on_way (reverse (stack s a.party)) a.first ≡ true → MayAct number s a owner y p value outside
+      → IsActed number s a owner y p
+  one_acts s owner y p here =
+      subst
+      (λ s. NamesAlike s owner y p → (a : Act) → IsAct s a → is_on_way (reverse (stack s a.party)) a.first ≡ true
+      → MayAct number s a owner y p value outside → IsActed number s a owner y p)
+      here.at
+      (subst
+      (λ p. NamesAlike (left_of s0 here.acts) owner y p → (a : Act) → IsAct (left_of s0 here.acts) a
+      → is_on_way (reverse (stack (left_of s0 here.acts) a.party)) a.first ≡ true
+      → MayAct number (left_of s0 here.acts) a owner y p value outside → IsActed number (left_of s0 here.acts) a owner y p)
+      here.there
+      (each_acts number outside numbers value future limit kind solo_kind parties here.acts here.calls first y here.shown before owner
+      here.they is_new counted here.leads here.of))
+
+  -- what an act is there
+  record Step (s : Machine) (owner : Owner) (y : Solo F T X) (a : Act) (c : Choice) (call : Call T (SoloWaker X))
+      (shown : List (Event T (SoloWaker X))) (now : Owner) (z : Solo F T X) (p : Plain T (SoloWaker X)) : Type 0 where
+    pub how : Acts by_number owner c y p call shown now z
+    pub many : length p.lying ≤ c.tells
+    pub is : IsOfStep number s a p c call
+    pub walks : WalksAlike number s a how
+
+  next_here : (s : Machine) (owner : Owner) (y : Solo F T X) (p : Plain T (SoloWaker X)) → Here s owner y p → (a : Act) → IsAct s a
+      → is_on_way (reverse (stack s a.party)) a.first ≡ true → (e : IsActed number s a owner y p)
+      → Here a.left e.now e.after (does wakes e.choice e.call p)
+  next_here s owner y p here a it way e =
+      let step =
+      subst (λ s. Step s owner y a e.choice e.call e.shown e.now e.after (course wakes here.calls p0)) (sym here.at)
+      (subst (Step s owner y a e.choice e.call e.shown e.now e.after) (sym here.there)
+      (record { how = e.acts; many = no_more (length p.lying) e.choice.tells e.tells; is = e.of; walks = e.walks })) in
+      let more =
+      one_more number a e.choice e.call e.shown here.acts s0 here.calls (new_owner before) owner e.now first y e.after p0 here.shown
+      here.leads here.of step.how step.many step.is step.walks in
+      record {
+        acts = here.acts ++ a ∷ [];
+        calls = here.calls ++ (e.choice, e.call) ∷ [];
+        shown = more.shown;
+        they =
+            are_more a here.acts s0 here.they (subst (λ s. IsAct s a) (sym here.at) it)
+            (subst (λ s. is_on_way (reverse (stack s a.party)) a.first ≡ true) (sym here.at) way);
+        at = left_more a here.acts s0;
+        leads = more.leads;
+        there = course_more here.calls (e.choice, e.call) p0 ∙ ap (does wakes e.choice e.call) here.there;
+        of = more.of;
+      }
+
+  go : (rest : List Act) (s : Machine) (owner : Owner) (y : Solo F T X) (p : Plain T (SoloWaker X)) → (here : Here s owner y p)
+      → NamesAlike s owner y p → Known by_number owner y p → p.limit ≡ limit → HasLife (queued_in limit rest) y.lines
+      → length p.futures + queued_in limit rest ≤ most_accepted → length p.runs + queued_in limit rest ≤ most_accepted → AreActs s rest
+      → MemoryFits number value outside rest s owner y p → (all : List Act) → here.acts ++ rest ≡ all
+      → AreActed number limit kind parties all first before
+  unfolding next_here
+  go [] s owner y p here names known same life futures runs they fits all is =
+      let whole : here.acts ≡ all = sym (append-nil here.acts) ∙ is in
+      subst (λ acts. AreActed number limit kind parties acts first before) whole
+      (record {
+        calls = here.calls;
+        shown = here.shown;
+        now = owner;
+        after = y;
+        leads = here.leads;
+        of = here.of;
+        told =
+            (steps_together by_number number limit kind solo_kind parties here.acts here.calls first y here.shown before owner here.they is_new
+            counted here.leads here.of).1;
+      })
+  go (a ∷ rest) s owner y p here names known same life futures runs they fits all is =
+      let n = queued_in limit rest in
+      let k = queued_in limit (a ∷ rest) in
+      let e =
+      one_acts s owner y p here names a they.0 they.1
+      (λ made made_is.
+      record {
+        life = has_life limit n k owner y p known same refl life (call_by value outside made);
+        futures = omega (arith, futures);
+        runs = omega (arith, runs);
+        memory = fits.0 made made_is;
+      }) in
+      let q = does wakes e.choice e.call p in
+      let grows = call_grows e.choice e.call p in
+      let many : length p.lying ≤ e.choice.tells = no_more (length p.lying) e.choice.tells e.tells in
+      let one : Leads by_number ((e.choice, e.call) ∷ []) owner y p (e.shown ++ []) e.now e.after =
+      leads e.choice e.call [] owner e.now e.now y e.after e.after p e.shown [] many e.acts (stays e.now e.after q) in
+      let known_on =
+      (leads_alike by_number ((e.choice, e.call) ∷ []) owner e.now y e.after p (e.shown ++ []) known one).0 in
+      go rest a.left e.now e.after q (next_here s owner y p here a they.0 they.1 e) e.names known_on (grows.limit ∙ same)
+      (acts_live by_number owner e.choice y p n k known.stands known.numbered many (omega (arith, same)) life e.now e.after e.call e.shown
+      e.acts)
+      (let most = grows.most_futures in omega (arith, most, futures)) (let most = grows.most_runs in omega (arith, most, runs)) they.2
+      (fits.1 e) all (append_assoc here.acts (a ∷ []) rest ∙ is)
+
+  pub acts_go : (acts : List Act) → AreActs s0 acts → queued_in limit acts ≤ most_accepted
+      → MemoryFits number value outside acts s0 (new_owner before) first p0 → AreActed number limit kind parties acts first before
+  acts_go acts they most fits =
+      go acts s0 (new_owner before) first p0
+      (record {
+        acts = [];
+        calls = [];
+        shown = [];
+        they = tt;
+        at = refl;
+        leads = stays (new_owner before) first p0;
+        there = refl;
+        of = tt;
+      })
+      (record { wakers = tt; ticks = λ t. refl; once = refl })
+      (new_known by_number before limit solo_kind (is_static_kind kind) first is_new counted) refl
+      (subst (HasLife (queued_in limit acts)) (sym is_new.lines) (none_yet limit (queued_in limit acts) most)) (omega (arith, most))
+      (omega (arith, most)) they fits acts refl

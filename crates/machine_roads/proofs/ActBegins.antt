@@ -4,10 +4,12 @@ use Rattle.std.proofs.Common.{◌≡◌, ℕ, suc, ◌<◌, ◌≤◌, ◌&&◌,
 use Rattle.std.proofs.Common.{is_some as is_there, slice_get, if◌then◌else◌, refl, sym, ap, subst, ◌∙◌, arith}
 use Rattle.std.specs.Prelude.{reverse}
 use Rattle.executor_parts.specs.Marks.{first_of}
+use Rattle.executor_model.specs.declared.step.Hint.{Hint}
 use Rattle.executor_model.specs.declared.call.By.{By}
 use Rattle.executor_model.specs.declared.call.Call.{Call}
 use Rattle.executor_model.specs.declared.call.Call.TheVariants as call
 use Rattle.executor_model.specs.declared.call.Reply.TheVariants as reply
+use Rattle.executor_model.specs.declared.event.Event.TheVariants as event
 use Rattle.executor_model.specs.declared.op.Hold.TheVariants as hold
 use Rattle.executor_model.specs.declared.op.ListOp.TheVariants as list_op
 use Rattle.executor_model.specs.declared.op.Op.{Op}
@@ -20,7 +22,7 @@ use Rattle.executor_model.specs.declared.step.Step.TheVariants.{Begin}
 use Rattle.executor_model.specs.Rows.{lending_of, running_of}
 use Rattle.executor_model.specs.Steps.{Machine, begin_refusal, future_of, has_all, is_some, is_unused, kept, mine, stack, top, waker_of}
 use Rattle.executor_model.specs.Steps.{is_known, is_there as is_in_use}
-use Rattle.executor_model.specs.World.{Done, Ended as RunEnded, done, run_of, task}
+use Rattle.executor_model.specs.World.{Done, Ended as RunEnded, done, log, run_of, task}
 use Rattle.executor_model.specs.SleepersAgree.{sleeps}
 use Rattle.executor_model.specs.Weights.{weigh_all}
 use Rattle.executor_model.proofs.Steps.Reached.{Reached}
@@ -38,7 +40,7 @@ use Rattle.machine_roads.specs.Course.{IsChosen}
 use Rattle.machine_roads.specs.Losing.{StopsLosing, left_of}
 use Rattle.machine_roads.specs.Refused.{IsLaterAnew}
 use Rattle.machine_roads.specs.Stopped.{Stops}
-use Rattle.machine_roads.specs.Within.{ActsBy, GoesOnBy, IsCallIn, Nested, alike, by_tick, by_try, begins as begins_by, losing}
+use Rattle.machine_roads.specs.Within.{GoesOnBy, IsCallIn, Nested, alike, by_tick, by_try, begins as begins_by, losing}
 use Rattle.machine_roads.specs.Within.{may_stand_in, takes}
 use Rattle.machine_roads.specs.Within.{IsLeaving, going, listed, unlisted, drop_run}
 use Rattle.machine_roads.specs.Within.{cancel, copy, detach, drop_handle, drop_tick, is_empty, keep, leak, new_run, new_tick, poll_handle}
@@ -71,6 +73,8 @@ use Rattle.machine_roads.proofs.Standing.{stops_so}
 use Rattle.machine_roads.proofs.Ticking.{makes_tick, tick_goes}
 use Rattle.machine_roads.proofs.Trying.{tries_so, yes}
 use Rattle.machine_roads.proofs.Tying.{LeadsSo}
+use Rattle.machine_roads.proofs.Seeking.{try_turned}
+use Rattle.machine_roads.proofs.Unsearched.{ActsAnyhow, TurnSaid, begun_so, takes_turn, unsaid}
 
 some_kept : (o : Option ℕ) → is_some o ≡ true → (f : ℕ) × (o ≡ Some f)
 some_kept (Some f) is = (f, refl)
@@ -126,25 +130,38 @@ module _ (s : Machine) (reached : Reached s) (p : ℕ) (q : Plain Output Waker) 
   many = enough (length q.lying)
 
   abbrev Comes : Call → Done → Type 0
-  Comes c e = (r : Plain Output Waker) × ActsBy s p (Begin p c) q r × StandsSo e r
+  Comes c e = (r : Plain Output Waker) × ActsAnyhow s p (Begin p c) q r e.world × StandsSo e r
 
   abbrev Leads : Call → Type 0
   Leads c = LeadsSo p (upon below (begins p here c s.world)) (Comes c)
 
   acts : (c : Call) (x : plain_calls.Call Output Waker) (r : Refusal) → IsCallIn here s.world c x
-      → IsLaterAnew r x q (does wakes (choice r) x q) → ActsBy s p (Begin p c) q (does wakes (choice r) x q)
-  acts c x r is anew =
-      record { choice = choice r; made = x; chosen = chosen_in s q r; is = begins_by c x is; so = refl; anew = anew }
+      → IsLaterAnew (choice r) x q (does wakes (choice r) x q) → (hints : List Hint)
+      → TurnSaid here s.world (choice r) q c (alone p hints (upon below (begins p here c s.world))).world
+      → ActsAnyhow s p (Begin p c) q (does wakes (choice r) x q) (alone p hints (upon below (begins p here c s.world))).world
+  acts c x r is anew hints said = λ start. record {
+    choice = choice r;
+    made = x;
+    chosen = chosen_in s q r;
+    is = begins_by c x is;
+    so = refl;
+    anew = anew;
+    chooses = begun_so here s.world (choice r) q p hints c below under x is here said start;
+  }
+
+  -- it comes to this
+  abbrev to : Call → List Hint → Done
+  to c hints = alone p hints (upon below (begins p here c s.world))
 
   -- a call that comes to no user code
-  quick : (c : Call) (x : plain_calls.Call Output Waker) (r : Refusal) → IsCallIn here s.world c x
-      → IsLaterAnew r x q (does wakes (choice r) x q) → (does wakes (choice r) x q).inside ≡ q.inside → Counted below
-      (does wakes (choice r) x q).runs → (e : Done) → e.next ≡ below
-      → Follows e.world (does wakes (choice r) x q) → Comes c e
-  quick c x r is anew inside count e at leaves =
+  quick : (c : Call) → takes_turn c ≡ false → (x : plain_calls.Call Output Waker) (r : Refusal) → IsCallIn here s.world c x
+      → IsLaterAnew (choice r) x q (does wakes (choice r) x q) → (does wakes (choice r) x q).inside ≡ q.inside → Counted below
+      (does wakes (choice r) x q).runs → (hints : List Hint) → (to c hints).next ≡ below
+      → Follows (to c hints).world (does wakes (choice r) x q) → Comes c (to c hints)
+  quick c off x r is anew inside count hints at leaves =
       let z : Plain Output Waker = does wakes (choice r) x q in (
         z,
-        acts c x r is anew,
+        acts c x r is anew hints (unsaid here s.world (choice r) q c off (to c hints).world),
         record {
           alike = alike (subst (λ os. Nested os z.inside) (sym at) (subst (λ codes. Nested below codes) (sym inside) nested)) leaves;
           counted = subst (λ os. Counted os z.runs) (sym at) count;
@@ -155,23 +172,26 @@ module _ (s : Machine) (reached : Reached s) (p : ℕ) (q : Plain Output Waker) 
   stays : (z : Plain Output Waker) → z.runs ≡ q.runs → Counted below z.runs
   stays z runs = subst (Counted below) (sym runs) counted
 
-  plainly : (c : Call) (x : plain_calls.Call Output Waker) → IsCallIn here s.world c x
+  plainly : (c : Call) → takes_turn c ≡ false → (x : plain_calls.Call Output Waker) → IsCallIn here s.world c x
       → (does wakes (choice Granted) x q).inside ≡ q.inside → (does wakes (choice Granted) x q).runs ≡ q.runs
       → LeavesAlike p below (begins p here c s.world) (does wakes (choice Granted) x q) → Leads c
-  plainly c x is inside runs leaves hints all rests =
+  plainly c off x is inside runs leaves hints all rests =
       let e = leaves hints tt all rests in
-      quick c x Granted is (granted_anew q (does wakes (choice Granted) x q) x) inside (stays (does wakes (choice Granted) x q) runs)
-      (alone p hints (upon below (begins p here c s.world))) e.0 e.1
+      quick c off x Granted is (granted_anew q (does wakes (choice Granted) x q) (choice Granted) x refl) inside
+      (stays (does wakes (choice Granted) x q) runs)
+      hints e.0 e.1
 
   -- one that takes a future
   take : (c : Call) (x : plain_calls.Call Output Waker) (r : Refusal) → IsCallIn here s.world c x
-      → IsLaterAnew r x q (does wakes (choice r) x q) → (taker : Taker Waker) (final : Op)
-      → GoesOnBy taker final → Alike below (final ∷ below) → (e : Done) → (does wakes (choice r) x q).runs ≡ q.runs
-      → Stops taker final below q e (does wakes (choice r) x q) → Comes c e
-  take c x r is anew taker final it same e runs stops =
-      let z : Plain Output Waker = does wakes (choice r) x q in (
+      → IsLaterAnew (choice r) x q (does wakes (choice r) x q) → (taker : Taker Waker) (final : Op)
+      → GoesOnBy taker final → Alike below (final ∷ below) → (hints : List Hint)
+      → TurnSaid here s.world (choice r) q c (to c hints).world → (does wakes (choice r) x q).runs ≡ q.runs
+      → Stops taker final below q (to c hints) (does wakes (choice r) x q) → Comes c (to c hints)
+  take c x r is anew taker final it same hints said runs stops =
+      let z : Plain Output Waker = does wakes (choice r) x q in
+      let e = to c hints in (
         z,
-        acts c x r is anew,
+        acts c x r is anew hints said,
         record {
           alike = alike (takes taker final below e.next q.inside z.inside it nested stops.stopped) stops.follows;
           counted = by (comes taker final below q.inside e.next z.inside stops.stopped);
@@ -180,6 +200,9 @@ module _ (s : Machine) (reached : Reached s) (p : ℕ) (q : Plain Output Waker) 
     where
       z : Plain Output Waker
       z = does wakes (choice r) x q
+
+      e : Done
+      e = to c hints
 
       by : Comes_to final below q.inside e.next z.inside → Counted e.next z.runs
       by (at_end at codes) = subst (λ os. Counted os z.runs) (sym at) (stays z runs)
@@ -231,13 +254,13 @@ module _ (s : Machine) (reached : Reached s) (p : ℕ) (q : Plain Output Waker) 
   -- a handle that goes
   detached : (f : ℕ) (o : Option Output) → (plain.task f q).output ≡ o → Leads (call.Detach f)
   detached f None off =
-      plainly (call.Detach f) (plain_calls.Detach f) (detach f) (detach_inside (choice Granted) q f None off)
+      plainly (call.Detach f) refl (plain_calls.Detach f) (detach f) (detach_inside (choice Granted) q f None off)
       (detach_runs (choice Granted) q f)
       (detaches p below under here s.world q follows (choice Granted) f off many)
   detached f (Some v) some = λ hints all rests.
       let x : plain_calls.Call Output Waker = plain_calls.Detach f in (
         does wakes (choice Granted) x q,
-        acts (call.Detach f) x Granted (detach f) tt,
+        acts (call.Detach f) x Granted (detach f) tt hints tt,
         lossy f (alone p hints (upon below (begins p here (call.Detach f) s.world))) (does wakes (choice Granted) x q)
             (detach_runs (choice Granted) q f)
             (detaches_to_lose p here below s.world q under follows (choice Granted) f (ap (λ o. is_there o) some) hints all rests),
@@ -245,13 +268,13 @@ module _ (s : Machine) (reached : Reached s) (p : ℕ) (q : Plain Output Waker) 
 
   gone : (f : ℕ) (o : Option Output) → (plain.task f q).output ≡ o → Leads (call.DropHandle f)
   gone f None off =
-      plainly (call.DropHandle f) (plain_calls.DropHandle f) (drop_handle f)
+      plainly (call.DropHandle f) refl (plain_calls.DropHandle f) (drop_handle f)
       (handle_inside (choice Granted) q f None (kept_output f ∙ off)) (handle_runs (choice Granted) q f)
       (handle_goes p below under here s.world q follows (choice Granted) f off many)
   gone f (Some v) some = λ hints all rests.
       let x : plain_calls.Call Output Waker = plain_calls.DropHandle f in (
         does wakes (choice Granted) x q,
-        acts (call.DropHandle f) x Granted (drop_handle f) tt,
+        acts (call.DropHandle f) x Granted (drop_handle f) tt hints tt,
         lossy f (alone p hints (upon below (begins p here (call.DropHandle f) s.world))) (does wakes (choice Granted) x q)
             (handle_runs (choice Granted) q f)
             (goes_to_lose p here below s.world q under follows (choice Granted) f (ap (λ o. is_there o) some) hints all rests),
@@ -263,25 +286,27 @@ module _ (s : Machine) (reached : Reached s) (p : ℕ) (q : Plain Output Waker) 
       let b = refused_first hints in
       let r = refused_as b in
       let e = spawns p below under here s.world q follows (choice r) m many hints (granted_as b) all rests in
-      quick (call.Spawn m) (plain_calls.Spawn m) r (spawn m) tt (spawn_inside (choice r) q m)
+      quick (call.Spawn m) refl (plain_calls.Spawn m) r (spawn m) tt (spawn_inside (choice r) q m)
       (stays (does wakes (choice r) (plain_calls.Spawn m) q) (spawn_runs (choice r) q m))
-      (alone p hints (upon below (begins p here (call.Spawn m) s.world))) e.0 e.1
+      hints e.0 e.1
   one_begins call.TryTick on may = λ hints all rests.
       let e = alone p hints (upon below (begins p here call.TryTick s.world)) in
       let x : plain_calls.Call Output Waker = plain_calls.TryTick in
-      take call.TryTick x Granted try_tick tt Try yes by_try (record { last = λ r. refl; left = λ r. refl }) e (try_runs (choice Granted) q)
+      take call.TryTick x Granted try_tick tt Try yes by_try (record { last = λ r. refl; left = λ r. refl }) hints
+      (try_turned p hints (log s.world (event.CallBegun p call.TryTick)) below under rests)
+      (try_runs (choice Granted) q)
       (stops_so Try yes below q e (does wakes (choice Granted) x q)
       (tries_so p below s.world q under follows (choice Granted) refl many hints all rests))
   one_begins call.IsEmpty on may =
-      plainly call.IsEmpty plain_calls.IsEmpty is_empty refl refl (empty_alike p below under here s.world q follows (choice Granted))
+      plainly call.IsEmpty refl plain_calls.IsEmpty is_empty refl refl (empty_alike p below under here s.world q follows (choice Granted))
   one_begins (call.Wake k) on may =
       let f = kept_one k (there (call.Wake k) may) in
-      plainly (call.Wake k) (plain_calls.Use f.0) (use_waker k f.0 f.1) (use_inside (choice Granted) q f.0)
+      plainly (call.Wake k) refl (plain_calls.Use f.0) (use_waker k f.0 f.1) (use_inside (choice Granted) q f.0)
       (use_runs (choice Granted) q f.0)
       (uses_alike p below under here s.world q follows (choice Granted) k f.0 f.1 many)
   one_begins (call.WakeByRef k) on may =
       let f = some_kept (kept s.world k) (there (call.WakeByRef k) may) in
-      plainly (call.WakeByRef k) (plain_calls.Wake f.0) (wake k f.0 f.1) (wake_inside (choice Granted) q f.0)
+      plainly (call.WakeByRef k) refl (plain_calls.Wake f.0) (wake k f.0 f.1) (wake_inside (choice Granted) q f.0)
       (wake_runs (choice Granted) q f.0)
       (wakes_kept p below under here s.world q follows (choice Granted) k f.0 f.1 many)
   one_begins (call.Copy k) on may = λ hints all rests.
@@ -289,12 +314,12 @@ module _ (s : Machine) (reached : Reached s) (p : ℕ) (q : Plain Output Waker) 
       let b = refuses_first hints (task s.world f.0) in
       let r = refused_as b in
       let e = copies_kept p below under here s.world q follows (choice r) k f.0 f.1 hints (granted_as b) all rests in
-      quick (call.Copy k) (plain_calls.Copy f.0) r (copy k f.0 f.1) tt (copy_inside (choice r) q f.0)
+      quick (call.Copy k) refl (plain_calls.Copy f.0) r (copy k f.0 f.1) tt (copy_inside (choice r) q f.0)
       (stays (does wakes (choice r) (plain_calls.Copy f.0) q) (copy_runs (choice r) q f.0))
-      (alone p hints (upon below (begins p here (call.Copy k) s.world))) e.0 e.1
+      hints e.0 e.1
   one_begins (call.DropWaker k) on may =
       let f = kept_one k (there (call.DropWaker k) may) in
-      plainly (call.DropWaker k) (plain_calls.Release f.0) (release k f.0 f.1) (release_inside (choice Granted) q f.0)
+      plainly (call.DropWaker k) refl (plain_calls.Release f.0) (release k f.0 f.1) (release_inside (choice Granted) q f.0)
       (release_runs (choice Granted) q f.0)
       (waker_goes p below under here s.world q follows (choice Granted) k f.0 f.1 many)
   one_begins call.Keep on may = λ hints all rests.
@@ -302,12 +327,12 @@ module _ (s : Machine) (reached : Reached s) (p : ℕ) (q : Plain Output Waker) 
       let b = refuses_first hints (task s.world f.0) in
       let r = refused_as b in
       let e = keeps_own p below under here s.world q follows (choice r) f.0 f.1 hints (granted_as b) all rests in
-      quick call.Keep (plain_calls.Copy f.0) r (keep f.0 f.1) tt (copy_inside (choice r) q f.0)
+      quick call.Keep refl (plain_calls.Copy f.0) r (keep f.0 f.1) tt (copy_inside (choice r) q f.0)
       (stays (does wakes (choice r) (plain_calls.Copy f.0) q) (copy_runs (choice r) q f.0))
-      (alone p hints (upon below (begins p here call.Keep s.world))) e.0 e.1
+      hints e.0 e.1
   one_begins call.WakeSelf on may =
       let f = some_kept (future_of here) (there call.WakeSelf may) in
-      plainly call.WakeSelf (plain_calls.Wake f.0) (wake_self f.0 f.1) (wake_inside (choice Granted) q f.0)
+      plainly call.WakeSelf refl (plain_calls.Wake f.0) (wake_self f.0 f.1) (wake_inside (choice Granted) q f.0)
       (wake_runs (choice Granted) q f.0)
       (wakes_itself p below under here s.world q follows (choice Granted) f.0 f.1 many)
   one_begins (call.PollHandle f b) on may = λ hints all rests.
@@ -315,11 +340,11 @@ module _ (s : Machine) (reached : Reached s) (p : ℕ) (q : Plain Output Waker) 
       let x = refuses_second hints s.world a in
       let r = refused_as x in
       let e = polls p here below s.world q under follows (choice r) f b many hints (λ waits. granted_as x) all rests in
-      quick (call.PollHandle f b) (plain_calls.PollHandle f a) r (poll_handle f b) tt (poll_inside (choice r) q f a)
+      quick (call.PollHandle f b) refl (plain_calls.PollHandle f a) r (poll_handle f b) tt (poll_inside (choice r) q f a)
       (stays (does wakes (choice r) (plain_calls.PollHandle f a) q) (poll_runs (choice r) q f a))
-      (alone p hints (upon below (begins p here (call.PollHandle f b) s.world))) e.0 e.1
+      hints e.0 e.1
   one_begins (call.Cancel f) on may =
-      plainly (call.Cancel f) (plain_calls.Cancel f) (cancel f) (cancel_inside (choice Granted) q f) (cancel_runs (choice Granted) q f)
+      plainly (call.Cancel f) refl (plain_calls.Cancel f) (cancel f) (cancel_inside (choice Granted) q f) (cancel_runs (choice Granted) q f)
       (cancels p below under here s.world q follows (choice Granted) f many)
   one_begins (call.Detach f) on may = detached f (plain.task f q).output refl
   one_begins (call.DropHandle f) on may = gone f (plain.task f q).output refl
@@ -327,9 +352,9 @@ module _ (s : Machine) (reached : Reached s) (p : ℕ) (q : Plain Output Waker) 
       let b = refused_first hints in
       let r = refused_as b in
       let e = makes_tick p here below s.world q under follows (choice r) hints (granted_as b) all rests in
-      quick call.NewTick plain_calls.NewTick r new_tick tt (tick_inside (choice r) q)
+      quick call.NewTick refl plain_calls.NewTick r new_tick tt (tick_inside (choice r) q)
       (stays (does wakes (choice r) (plain_calls.NewTick) q) (tick_runs (choice r) q))
-      (alone p hints (upon below (begins p here call.NewTick s.world))) e.0 e.1
+      hints e.0 e.1
   one_begins (call.PollTick t b) on may = λ hints all rests.
       let a = waker_of here b in
       let final = op.End reply.Ready (hold.Tick t) in
@@ -338,21 +363,23 @@ module _ (s : Machine) (reached : Reached s) (p : ℕ) (q : Plain Output Waker) 
       let so =
       polls_tick_so p here below s.world q under follows (choice Granted) t b refl (more_by_one (length q.lying))
       (can_poll s reached p t b may) hints all rests in
-      take (call.PollTick t b) x so.0 (poll_tick t b) so.2 (Tick t a) final (by_tick t a) (record { last = λ r. refl; left = λ r. refl }) e
+      take (call.PollTick t b) x so.0 (poll_tick t b) so.2 (Tick t a) final (by_tick t a) (record { last = λ r. refl; left = λ r. refl })
+      hints so.3.turn
       (poll_tick_runs (choice so.0) q t a)
       (stops_so (Tick t a) final below q e (does wakes (choice so.0) x q) so.1)
   one_begins (call.DropTick t) on may =
-      plainly (call.DropTick t) (plain_calls.DropTick t) (drop_tick t) (drop_inside (choice Granted) q t) (drop_runs (choice Granted) q t)
+      plainly (call.DropTick t) refl (plain_calls.DropTick t) (drop_tick t) (drop_inside (choice Granted) q t)
+      (drop_runs (choice Granted) q t)
       (tick_goes p here below s.world q under follows (choice Granted) t many)
   one_begins call.NewRun on may = λ hints all rests.
       let e = makes_run p here below s.world q under follows (choice Granted) hints all rests in
-      quick call.NewRun plain_calls.NewRun e.0 new_run tt (run_inside (choice e.0) q) (makes_counted below (choice e.0) q counted)
-      (alone p hints (upon below (begins p here call.NewRun s.world))) e.1 e.2
+      quick call.NewRun refl plain_calls.NewRun e.0 new_run tt (run_inside (choice e.0) q) (makes_counted below (choice e.0) q counted)
+      hints e.1 e.2
   one_begins (call.PollRun r b) on may = λ hints all rests.
       let a = waker_of here b in
       let x : plain_calls.Call Output Waker = plain_calls.PollRun r a in
       let e = alone p hints (upon below (begins p here (call.PollRun r b) s.world)) in
-      by r b e (polls_run p here below under s.world q follows (choice Granted) r b (undropped r b (there (call.PollRun r b) may)) hints
+      by r b hints (polls_run p here below under s.world q follows (choice Granted) r b (undropped r b (there (call.PollRun r b) may)) hints
       all rests)
     where
       undropped : (r : ℕ) (b : By) → has_all s.world s.parties its (call.PollRun r b) ≡ true → (run_of s.world r).dropped ≡ false
@@ -368,16 +395,19 @@ module _ (s : Machine) (reached : Reached s) (p : ℕ) (q : Plain Output Waker) 
           whether true = refl
           whether false = refl
 
-      by : (r : ℕ) (b : By) (e : Done) → Polls p here below under s.world q follows (choice Granted) r b e → Comes (call.PollRun r b) e
-      by r b e (at_once next inside leaves) =
-          quick (call.PollRun r b) (plain_calls.PollRun r (waker_of here b)) Granted (poll_run r b) tt inside
-          (stays (does wakes (choice Granted) (plain_calls.PollRun r (waker_of here b)) q) (polled_runs r (waker_of here b))) e next
-          leaves
-      by r b e (in_own next inside leaves) =
+      by : (r : ℕ) (b : By) (hints : List Hint)
+          → Polls p here below under s.world q follows (choice Granted) r b (to (call.PollRun r b) hints)
+          → Comes (call.PollRun r b) (to (call.PollRun r b) hints)
+      by r b hints (at_once next inside leaves) =
+          quick (call.PollRun r b) refl (plain_calls.PollRun r (waker_of here b)) Granted (poll_run r b) tt inside
+          (stays (does wakes (choice Granted) (plain_calls.PollRun r (waker_of here b)) q) (polled_runs r (waker_of here b))) hints
+          next leaves
+      by r b hints (in_own next inside leaves) =
+          let e = to (call.PollRun r b) hints in
           let x : plain_calls.Call Output Waker = plain_calls.PollRun r (waker_of here b) in
           let z : Plain Output Waker = does wakes (choice Granted) x q in (
             z,
-            acts (call.PollRun r b) x Granted (poll_run r b) tt,
+            acts (call.PollRun r b) x Granted (poll_run r b) tt hints tt,
             record {
               alike = alike
                   (subst (λ os. Nested os z.inside) (sym next)
@@ -396,21 +426,23 @@ module _ (s : Machine) (reached : Reached s) (p : ℕ) (q : Plain Output Waker) 
       both_true (is_in_use (run_of s.world r)) (is_unused (running_of r) s.parties) (there (call.DropRun r) may) in
       let e = alone p hints (upon below (begins p here (call.DropRun r) s.world)) in
       by r (not_true (run_of s.world r).dropped two.0)
-      (awake_here s reached r (same_of (weigh_all (running_of r) s.parties) 0 two.1)) e
+      (awake_here s reached r (same_of (weigh_all (running_of r) s.parties) 0 two.1)) hints
       (drops_run p here below under s.world q follows (choice Granted) many r (not_true (run_of s.world r).dropped two.0)
       (awake_here s reached r (same_of (weigh_all (running_of r) s.parties) 0 two.1)) hints all rests)
     where
       by : (r : ℕ) (unended : (run_of s.world r).dropped ≡ false)
-          (awake : (run_of s.world r).stage ≡ RunEnded → sleeps (run_of s.world r).place ≡ 0) (e : Done)
-          → Drops p here below under s.world q follows (choice Granted) many r unended awake e → Comes (call.DropRun r) e
-      by r unended awake e (goes_at_once next inside runs leaves) =
+          (awake : (run_of s.world r).stage ≡ RunEnded → sleeps (run_of s.world r).place ≡ 0) (hints : List Hint)
+          → Drops p here below under s.world q follows (choice Granted) many r unended awake (to (call.DropRun r) hints)
+          → Comes (call.DropRun r) (to (call.DropRun r) hints)
+      by r unended awake hints (goes_at_once next inside runs leaves) =
           let z : Plain Output Waker = does wakes (choice Granted) (plain_calls.DropRun r) q in
-          quick (call.DropRun r) (plain_calls.DropRun r) Granted (drop_run r) tt inside (stays z runs) e next leaves
-      by r unended awake e (in_drop unover runs stops) =
+          quick (call.DropRun r) refl (plain_calls.DropRun r) Granted (drop_run r) tt inside (stays z runs) hints next leaves
+      by r unended awake hints (in_drop unover runs stops) =
           let x : plain_calls.Call Output Waker = plain_calls.DropRun r in
+          let e = to (call.DropRun r) hints in
           let z : Plain Output Waker = does wakes (choice Granted) x q in (
             z,
-            acts (call.DropRun r) x Granted (drop_run r) tt,
+            acts (call.DropRun r) x Granted (drop_run r) tt hints tt,
             record {
               alike = going r [] below q.inside nested stops;
               counted = in_going r stops.rest stops.leaving e stops.left z runs
@@ -418,7 +450,7 @@ module _ (s : Machine) (reached : Reached s) (p : ℕ) (q : Plain Output Waker) 
             },
           )
   one_begins call.Leak on may =
-      plainly call.Leak plain_calls.Leak leak (leak_inside (choice Granted) q) (leak_runs (choice Granted) q)
+      plainly call.Leak refl plain_calls.Leak leak (leak_inside (choice Granted) q) (leak_runs (choice Granted) q)
       (leaks p here below s.world q under follows (choice Granted)
       (sym follows.kind ∙ owned_by s.world s.parties its call.Leak refl refl may) (wakes_none below q.inside nested) many)
   one_begins c on may = absurd cc

@@ -14,8 +14,8 @@ use Rattle.executor_model.specs.declared.op.UserOp.TheVariants as user_op
 use Rattle.executor_model.specs.declared.op.Waker.{Waker}
 use Rattle.executor_model.specs.declared.step.Step.TheVariants.{Answer}
 use Rattle.executor_model.specs.declared.step.UserEnd.{UserEnd}
-use Rattle.executor_model.specs.Steps.{Machine, refusal, stack}
-use Rattle.executor_model.specs.World.{Done, task}
+use Rattle.executor_model.specs.Steps.{Machine, react, refusal, stack}
+use Rattle.executor_model.specs.World.{Done, done, task}
 use Rattle.executor_model.proofs.Steps.Reached.{Reached}
 use Rattle.executor_laws.proofs.Termination.LoneEnds.{OthersRest}
 use Rattle.plain_scheduler.specs.State.{Code, End, Plain}
@@ -26,8 +26,8 @@ use Rattle.machine_roads.specs.InLoss.{loss_ops}
 use Rattle.machine_roads.specs.Losing.{left_of}
 use Rattle.machine_roads.specs.Within.{going}
 use Rattle.machine_roads.specs.Within.{StandsAlike, alike, dropping, forgetting, forgotten, losing, standing, untaken}
-use Rattle.machine_roads.proofs.ActCodes.{EndsSo, from_going, accepted, from_drop, from_forgotten, from_loss, from_own_drop}
-use Rattle.machine_roads.proofs.ActCodes.{from_own_poll, from_poll}
+use Rattle.machine_roads.proofs.ActCodes.{EndsSo, accepted, from_drop, from_forgotten, from_loss, from_poll, leads_anyhow}
+use Rattle.machine_roads.proofs.ActOwns.{from_going, from_own_drop, from_own_poll}
 use Rattle.machine_roads.proofs.ActsForgotten.{ends_forgotten}
 use Rattle.machine_roads.proofs.ActLosses.{ends_in_going, ends_in_loss}
 use Rattle.machine_roads.proofs.Counting.{Counted}
@@ -140,8 +140,11 @@ module _ (s : Machine) (reached : Reached s) (p : ℕ) (there : p < length s.par
         rest = xs;
         is = stops.left;
         leads =
-            ends_in_loss s p q f fs below codes nested stops counted u
-            (accepted s reached p there open_still others q counted u (op.User (user_op.DropOutput f)) xs may stops.left);
+            leads_anyhow s reached p there open_still others q counted u
+            (done (react p (op.User (user_op.DropOutput f)) u s.world).world
+            ((react p (op.User (user_op.DropOutput f)) u s.world).next ++ xs))
+            (ends_in_loss s p q f fs below codes nested stops counted u
+            (accepted s reached p there open_still others q counted u (op.User (user_op.DropOutput f)) xs may stops.left));
       }
   code_ends (going r [] below codes nested stops) plain u may = record {
     first = op.User (user_op.DropOwn r);
@@ -159,8 +162,11 @@ module _ (s : Machine) (reached : Reached s) (p : ℕ) (there : p < length s.par
         rest = xs;
         is = stops.left;
         leads =
-            ends_in_going s p q r f fs below codes nested stops counted u
-            (accepted s reached p there open_still others q counted u (op.User (user_op.DropOutput f)) xs may stops.left);
+            leads_anyhow s reached p there open_still others q counted u
+            (done (react p (op.User (user_op.DropOutput f)) u s.world).world
+            ((react p (op.User (user_op.DropOutput f)) u s.world).next ++ xs))
+            (ends_in_going s p q r f fs below codes nested stops counted u
+            (accepted s reached p there open_still others q counted u (op.User (user_op.DropOutput f)) xs may stops.left));
       }
   code_ends (dropping taker final below f b it nested (answered next inside follows)) plain u may =
       from_alike below b.inside (inmost below b.inside nested) next inside follows u may
@@ -204,6 +210,9 @@ module _ (s : Machine) (reached : Reached s) (p : ℕ) (there : p < length s.par
         rest = xs;
         is = stops.left;
         leads =
-            ends_forgotten taker final below f codes it nested s p q counted g gs stops u
-            (accepted s reached p there open_still others q counted u (op.User (user_op.DropOutput g)) xs may stops.left);
+            leads_anyhow s reached p there open_still others q counted u
+            (done (react p (op.User (user_op.DropOutput g)) u s.world).world
+            ((react p (op.User (user_op.DropOutput g)) u s.world).next ++ xs))
+            (ends_forgotten taker final below f codes it nested s p q counted g gs stops u
+            (accepted s reached p there open_still others q counted u (op.User (user_op.DropOutput g)) xs may stops.left));
       }

@@ -1,6 +1,7 @@
 -- Where a call that takes comes to behind what it took, with what runs have taken: it is answered, stands in more code, or, of a run, takes
 -- the next one.
-use Rattle.std.proofs.Common.{◌≡◌, ℕ, suc, ◌<◌, ◌≤◌, ◌==◌, ◌||◌, nat_lt, not, Bool, true, false, List, [], ◌∷◌, ◌++◌, length}
+use Rattle.std.proofs.Common.{◌≡◌, ℕ, suc, ◌<◌, ◌≤◌, ◌==◌, ◌||◌, nat_lt, not, Bool, true, false, List, [], ◌∷◌, ◌++◌, length, Option}
+use Rattle.std.proofs.Common.{None}
 use Rattle.std.proofs.Common.{⊎_elim, refl, sym, ap, subst, ◌∙◌, arith}
 use Rattle.std.proofs.lemmas.Bool.Decides.{nat_tests}
 use Rattle.executor_model.specs.declared.op.HandleOp.TheVariants as handle_op
@@ -12,26 +13,29 @@ use Rattle.executor_model.specs.declared.op.UserOp.TheVariants as user_op
 use Rattle.executor_model.specs.declared.op.Waker.{Waker}
 use Rattle.executor_model.specs.Rows.{running_of}
 use Rattle.executor_model.specs.Weights.{weigh}
-use Rattle.executor_model.specs.World.{Done, task}
+use Rattle.executor_model.specs.World.{Done, World, task}
 use Rattle.plain_scheduler.specs.State.{Choice, Plain, Run, Running, Taker}
 use Rattle.plain_scheduler.specs.Lists.{or}
 use Rattle.plain_scheduler.specs.Moves.{is_kept}
-use Rattle.machine_roads.specs.View.{Output}
+use Rattle.plain_scheduler.specs.Searches.{searches_of}
+use Rattle.machine_roads.specs.View.{Output, wakes}
 use Rattle.machine_roads.specs.Road.{Follows, futures_in}
 use Rattle.machine_roads.specs.Alone.{is_resting}
 use Rattle.machine_roads.specs.Dropped.{Drops, answered, loses, rest_of}
 use Rattle.machine_roads.specs.Forgotten.{StopsForgetting}
 use Rattle.machine_roads.specs.Searching.{goes_on_by}
-use Rattle.machine_roads.specs.Stopped.{of_tick, of_try}
+use Rattle.machine_roads.specs.Stopped.{Finally, of_tick, of_try}
 use Rattle.machine_roads.specs.Within.{GoesOnBy, Nested, alike, by_run, by_tick, by_try, dropping, forgetting, takes}
 use Rattle.machine_roads.proofs.Counting.{Alike, Comes, Counted, StandsSo, Taken, at_end, comes, in_code, lasts, leaves, like, none_last}
 use Rattle.machine_roads.proofs.Counting.{none_left, over_in, some_op, taken_in, unchanged}
 use Rattle.machine_roads.proofs.Lists.{clash, equal, same_of}
-use Rattle.machine_roads.proofs.Passing.{GoesBy, Passes, passed, passes_end, stood, telling}
+use Rattle.machine_roads.proofs.Passing.{Passes, passes_end, telling}
+use Rattle.machine_roads.proofs.PassingStill.{GoesStill, passes_still, stands_still}
 use Rattle.machine_roads.proofs.RunApart.{Ends, its_run}
-use Rattle.machine_roads.proofs.RunsOn.{After, Between, ends, goes_on as runs_on, takes as takes_next}
+use Rattle.machine_roads.proofs.RunsOn.{After, Between, Searched, ends, goes_on as runs_on, takes as takes_next}
 use Rattle.machine_roads.proofs.RunsStay.{RunsStay}
 use Rattle.machine_roads.proofs.Standing.{StaysSo, stopped_so, stops_so}
+use Rattle.machine_roads.proofs.Starting.{start_in}
 
 -- the run of this poll isn't used elsewhere, and isn't over, and no run that is keeps anything
 pub record Facts (below : List Op) (q : Plain Output Waker) (x : RunPoll) : Type 0 where
@@ -124,10 +128,20 @@ module _ (below : List Op) (q : Plain Output Waker) (x : RunPoll) (last : Bool) 
           subst (λ b. Taken b (taken_in r rs)) (sym (other_last x below facts.unused l r apart)) (taken_other r apart)
 
 module _ (p : ℕ) (below : List Op) (q : Plain Output Waker) (nested : Nested below q.inside) (under : is_resting below ≡ true) (c1 : Choice)
-    (room : length q.lying < c1.tells) (e : Done) (rests : is_resting e.next ≡ true) (will : Choice → Plain Output Waker) where
+    (room : length q.lying < c1.tells) (e : Done) (rests : is_resting e.next ≡ true) (will : Choice → Plain Output Waker)
+    (Says : Choice → Type 0) where
   -- by some choice that tells alike
-  abbrev pub Lands : Type 0
-  Lands = (d : Choice) × (d.tells ≡ c1.tells) × StandsSo e (will d)
+  pub record Lands : Type 0 where
+    pub choice : Choice
+    pub tells : choice.tells ≡ c1.tells
+    pub stands : StandsSo e (will choice)
+    pub says : Says choice
+
+  -- what is said of the choice where a run goes on there, and where none does
+  pub record Tells (start : ℕ) (taker : Taker Waker) (final : Op) (w : World) (b : Plain Output Waker) : Type 0 where
+    pub searched : (r : ℕ) (a : Waker) → taker ≡ Run r a → (d : Choice)
+        → Searched start r a w b (telling c1.tells d) e.world (will (telling c1.tells d)) → Says (telling c1.tells d)
+    pub unsearched : Finally q taker final → searches_of wakes c1 taker b ≡ None → Says c1
 
   abbrev AllEnd : Taker Waker → Type 0
   AllEnd taker = (d : Choice) → Ends d taker q (will d)
@@ -157,29 +171,33 @@ module _ (p : ℕ) (below : List Op) (q : Plain Output Waker) (nested : Nested b
   }
 
   lands_back : (d : Choice) → d.tells ≡ c1.tells → Counted below (will d).runs → e.next ≡ below → (will d).inside ≡ q.inside
-      → Follows e.world (will d) → Lands
-  lands_back d tells count next inside follows = (d, tells, back_so d count next inside follows)
+      → Follows e.world (will d) → Says d → Lands
+  lands_back d tells count next inside follows says =
+      record { choice = d; tells = tells; stands = back_so d count next inside follows; says = says }
 
   -- it has taken the next one, or its poll has ended
   pub after_lands : (x : RunPoll) (last : Bool) → Counted (goes_on_by x last ∷ below) q.runs → Facts below q x
-      → AllEnd (Run x.run x.waker) → (t : ℕ) → After p x below q c1.tells t e will → Lands
-  after_lands x last count facts so t (ends d next follows inside) =
+      → AllEnd (Run x.run x.waker) → (t : ℕ) → After p x below q c1.tells t e will Says → Lands
+  after_lands x last count facts so t (ends d next follows inside says) =
       let d1 = telling c1.tells d in
       lands_back d1 refl (back (Run x.run x.waker) (goes_on_by x last) (by_run x last) count facts so d1 inside) next inside follows
-  after_lands x last count facts so t (takes_next d l stands between) =
+      says
+  after_lands x last count facts so t (takes_next d l stands between says) =
       let d1 = telling c1.tells d in
       let z = will d1 in
-      let st = stops_so (Run x.run x.waker) (goes_on_by x l) below q e z stands in (
-        d1,
-        refl,
-        record {
+      let st = stops_so (Run x.run x.waker) (goes_on_by x l) below q e z stands in
+      record {
+        choice = d1;
+        tells = refl;
+        stands = record {
           alike = alike (takes (Run x.run x.waker) (goes_on_by x l) below e.next q.inside z.inside (by_run x l) nested st.stopped)
               st.follows;
           counted = by d1 (comes (Run x.run x.waker) (goes_on_by x l) below q.inside e.next z.inside st.stopped)
               (has_taken below q x last count facts z.runs (λ r apart. (so d1).spares r apart) l
               (subst (λ n. n ≤ 200) (sym between.taken) between.most) (ap (λ n. nat_lt n 200) between.taken ∙ between.early));
-        },
-      )
+        };
+        says = says;
+      }
     where
       by : (d : Choice) → Comes (goes_on_by x l) below q.inside e.next (will d).inside → Counted (goes_on_by x l ∷ below) (will d).runs
           → Counted e.next (will d).runs
@@ -204,57 +222,69 @@ module _ (p : ℕ) (below : List Op) (q : Plain Output Waker) (nested : Nested b
 
   -- only what takes is left to do
   pub passes_lands : (taker : Taker Waker) (final : Op) (it : GoesOnBy taker final) → Counted (final ∷ below) q.runs
-      → FactsOf below q taker final it → AllEnd taker → Passes p taker final below q c1.tells e will → Lands
-  passes_lands taker final by_try count facts so pass =
-      let g = passes_end p below under e rests taker final q of_try c1 will pass in
-      lands_back c1 refl (back taker final by_try count facts so c1 g.2) g.0 g.2 g.1
-  passes_lands taker final (by_tick t a) count facts so pass =
-      let g = passes_end p below under e rests taker final q (of_tick t a) c1 will pass in
+      → FactsOf below q taker final it → AllEnd taker → (behind : Choice → Option (Plain Output Waker))
+      → (pass : Passes p taker final below q c1.tells e will behind)
+      → Tells (start_in p e pass.so.world (final ∷ below) pass.so.way) taker final pass.so.world pass.before → Lands
+  passes_lands taker final by_try count facts so behind pass tells =
+      let g = passes_end p below under e rests taker final q of_try c1 will behind pass in
+      lands_back c1 refl (back taker final by_try count facts so c1 g.2) g.0 g.2 g.1 (tells.unsearched of_try refl)
+  passes_lands taker final (by_tick t a) count facts so behind pass tells =
+      let g = passes_end p below under e rests taker final q (of_tick t a) c1 will behind pass in
       lands_back c1 refl (back taker final (by_tick t a) count facts so c1 g.2) g.0 g.2 g.1
-  passes_lands taker final (by_run x last) count facts so pass =
+      (tells.unsearched (of_tick t a) refl)
+  passes_lands taker final (by_run x last) count facts so behind pass tells =
       after_lands x last count facts so (taken_in x.run q.runs)
-      (runs_on p x below q c1.tells (taken_in x.run q.runs) e will under rests c1 last room (between x last count facts) pass)
+      (runs_on p x below q c1.tells (taken_in x.run q.runs) e will Says under rests c1 behind last room (between x last count facts) pass
+      (tells.searched x.run x.waker refl) tells.unsearched)
 
   module _ (taker : Taker Waker) (final : Op) (it : GoesOnBy taker final) (count : Counted (final ∷ below) q.runs)
       (facts : FactsOf below q taker final it) (so : AllEnd taker) where
     -- or more code has come before that
-    pub goes_lands : (So : Plain Output Waker → Type 0) → (So (will (telling c1.tells c1)) → RunsStay q (will (telling c1.tells c1)) →
-        Lands)
-        → GoesBy p taker final below q c1.tells e will So → Lands
-    goes_lands So lands (passed pass) = passes_lands taker final it count facts so pass
-    goes_lands So lands (stood stops stays) = lands (stops c1) (stays c1)
+    pub goes_lands : (start : ℕ) (P : World → Type 0) (behind : Choice → Option (Plain Output Waker)) (So : Plain Output Waker → Type 0)
+        → ((pass : Passes p taker final below q c1.tells e will behind) → P pass.so.world
+        → Tells start taker final pass.so.world pass.before)
+        → (So (will (telling c1.tells c1)) → RunsStay q (will (telling c1.tells c1)) → behind c1 ≡ None → P e.world → Lands)
+        → GoesStill start P p taker final below q c1.tells e will behind So → Lands
+    goes_lands start P behind So tells lands (passes_still pass still starts) =
+        passes_lands taker final it count facts so behind pass
+        (subst (λ n. Tells n taker final pass.so.world pass.before) (sym starts) (tells pass still))
+    goes_lands start P behind So tells lands (stands_still stops stays none still) = lands (stops c1) (stays c1) (none c1) still
 
     -- a future's drop, or none
-    pub stays_lands : (d : Choice) → d.tells ≡ c1.tells → StaysSo taker final below q e (will d) → (will d).runs ≡ q.runs → Lands
-    stays_lands d tells stays runs =
-        let st = stopped_so taker final below q e (will d) stays in (
-          d,
-          tells,
-          record {
+    pub stays_lands : (d : Choice) → d.tells ≡ c1.tells → StaysSo taker final below q e (will d) → (will d).runs ≡ q.runs → Says d → Lands
+    stays_lands d tells stays runs says =
+        let st = stopped_so taker final below q e (will d) stays in
+        record {
+          choice = d;
+          tells = tells;
+          stands = record {
             alike = alike (takes taker final below e.next q.inside (will d).inside it nested st.stopped) st.follows;
             counted = by (comes taker final below q.inside e.next (will d).inside st.stopped);
-          },
-        )
+          };
+          says = says;
+        }
       where
         by : Comes final below q.inside e.next (will d).inside → Counted e.next (will d).runs
         by (at_end at codes) = subst (λ os. Counted os (will d).runs) (sym at) (back taker final it count facts so d codes)
         by (in_code same) = like (final ∷ below) e.next (will d).runs same (subst (Counted (final ∷ below)) (sym runs) count)
 
     -- an output's drop, or none
-    pub drops_lands : (f : ℕ) (d : Choice) → d.tells ≡ c1.tells → Drops taker final below f q e (will d) → (will d).runs ≡ q.runs → Lands
-    drops_lands f d tells (answered next inside follows) runs =
-        lands_back d tells (back taker final it count facts so d inside) next inside follows
-    drops_lands f d tells (loses awaiter next inside ending) runs = (
-      d,
-      tells,
-      record {
+    pub drops_lands : (f : ℕ) (d : Choice) → d.tells ≡ c1.tells → Drops taker final below f q e (will d) → (will d).runs ≡ q.runs
+        → Says d → Lands
+    drops_lands f d tells (answered next inside follows) runs says =
+        lands_back d tells (back taker final it count facts so d inside) next inside follows says
+    drops_lands f d tells (loses awaiter next inside ending) runs says = record {
+      choice = d;
+      tells = tells;
+      stands = record {
         alike = dropping taker final below f q it nested (loses awaiter next inside ending);
         counted =
             subst (λ os. Counted os (will d).runs) (sym next)
             (like (final ∷ below) (op.User (user_op.DropOutput f) ∷ (rest_of (task e.world f).awaiter f final ++ below)) (will d).runs
             (owed (task e.world f).awaiter) (subst (Counted (final ∷ below)) (sym runs) count));
-      },
-    )
+      };
+      says = says;
+    }
       where
         owed : (b : Bool) → Alike (final ∷ below) (op.User (user_op.DropOutput f) ∷ (rest_of b f final ++ below))
         owed true = record { last = λ r. refl; left = λ r. refl }
@@ -262,16 +292,17 @@ module _ (p : ℕ) (below : List Op) (q : Plain Output Waker) (nested : Nested b
 
     -- the drop of a future that nobody could wake
     pub forgets_lands : (f : ℕ) (d : Choice) → d.tells ≡ c1.tells → StopsForgetting taker final below f q e (will d)
-        → (will d).runs ≡ q.runs → Lands
-    forgets_lands f d tells stops runs = (
-      d,
-      tells,
-      record {
+        → (will d).runs ≡ q.runs → Says d → Lands
+    forgets_lands f d tells stops runs says = record {
+      choice = d;
+      tells = tells;
+      stands = record {
         alike = forgetting taker final below f q it nested stops;
         counted =
             subst (λ os. Counted os (will d).runs) (sym stops.left)
             (like (final ∷ below)
             (op.User (user_op.Drop f) ∷ op.Table (table_op.LeaveTable f) ∷ op.Handle (handle_op.LetGo f) ∷ final ∷ below) (will d).runs
             (record { last = λ r. refl; left = λ r. refl }) (subst (Counted (final ∷ below)) (sym runs) count));
-      },
-    )
+      };
+      says = says;
+    }

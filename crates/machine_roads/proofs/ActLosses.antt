@@ -32,7 +32,7 @@ use Rattle.machine_roads.specs.Closing.{called, loses}
 use Rattle.machine_roads.specs.Course.{IsCall, cancel, copy, detach, drop_handle, poll_handle, release, use_waker, wake}
 use Rattle.machine_roads.specs.InLoss.{AreLosing, IsCallInLoss, StopsInLoss, handle_in, loss_codes, loss_ops, spares, without_handles}
 use Rattle.machine_roads.specs.Losing.{left_of}
-use Rattle.machine_roads.specs.Within.{ActsBy, IsCallIn, IsLeaving, Nested, StandsAlike, StopsGoing, alike, begins as begins_by, going}
+use Rattle.machine_roads.specs.Within.{IsCallIn, IsLeaving, Nested, StandsAlike, StopsGoing, alike, begins as begins_by, going}
 use Rattle.machine_roads.specs.Within.{ends as ends_by, losing, standing}
 use Rattle.machine_roads.proofs.ActBegins.{choice_in, chosen_in, enough}
 use Rattle.machine_roads.proofs.Counting.{Counted, StandsSo, like}
@@ -40,7 +40,7 @@ use Rattle.machine_roads.proofs.InDrop.{stays_inside}
 use Rattle.machine_roads.proofs.InLoss.{calls_in_loss, loses_in_loss, loss_ends_in_loss}
 use Rattle.machine_roads.proofs.Inmost.{rests_in, whole}
 use Rattle.machine_roads.proofs.Inside.{ends_inside}
-use Rattle.machine_roads.proofs.LaterAnew.{off_anew}
+use Rattle.machine_roads.proofs.LaterAnew.{granted_anew, off_anew}
 use Rattle.machine_roads.proofs.LoneRuns.{both_true}
 use Rattle.machine_roads.proofs.LoneTicks.{there_all}
 use Rattle.machine_roads.proofs.Named.{Named, named}
@@ -48,6 +48,7 @@ use Rattle.machine_roads.proofs.Runs.{changed, ended_run, runs_is}
 use Rattle.machine_roads.proofs.RunsAlone.{does_so}
 use Rattle.machine_roads.proofs.RunsBeside.{cancel_runs, copy_runs, detach_runs, handle_runs, poll_runs, release_runs, use_runs, wake_runs}
 use Rattle.machine_roads.proofs.Tying.{LeadsSo, top_of}
+use Rattle.machine_roads.proofs.Unsearched.{ActsAnyhow, loss_so, off_so}
 use Rattle.machine_roads.proofs.Unseen.{stands_in}
 
 -- the handles that go are in use
@@ -125,7 +126,7 @@ module _ (s : Machine) (p : ℕ) (q : Plain Output Waker) (others : List Running
 
   -- a call
   abbrev Comes : Call → Done → Type 0
-  Comes c e = (r : Plain Output Waker) × ActsBy s p (Begin p c) q r × StandsSo e r
+  Comes c e = (r : Plain Output Waker) × ActsAnyhow s p (Begin p c) q r e.world × StandsSo e r
 
   module _ (c : Call) (off : is_on_executor c ≡ false) (n : Named s.world c) (spared : spares gs (handle_in c) ≡ true)
       (hints : List Hint) (has : HasAll p hints (upon os (begins p None c s.world)))
@@ -136,14 +137,15 @@ module _ (s : Machine) (p : ℕ) (q : Plain Output Waker) (others : List Running
     it : IsCallInLoss gs s.world c n.made
     it = record { off = off; spared = spared; is = n.is }
 
-    acts : (r : Refusal) → ActsBy s p (Begin p c) q (does wakes (choice r) n.made q)
-    acts r = record {
+    acts : (r : Refusal) → ActsAnyhow s p (Begin p c) q (does wakes (choice r) n.made q) e.world
+    acts r = λ start. record {
       choice = choice r;
       made = n.made;
       chosen = chosen_in s q r;
       is = begins_by c n.made (subst (λ here. IsCallIn here s.world c n.made) (sym no_poll) n.within_none);
       so = refl;
-      anew = off_anew q (does wakes (choice r) n.made q) None s.world c r n.made n.within_none off;
+      anew = off_anew q (does wakes (choice r) n.made q) None s.world c (choice r) n.made n.within_none off;
+      chooses = off_so None s.world (choice r) q p hints c off os (all_rest gs) n.made n.within_none None start;
     }
 
     no_run : (r : Refusal) → (does wakes (choice r) n.made q).runs ≡ q.runs
@@ -209,7 +211,7 @@ module _ (s : Machine) (p : ℕ) (q : Plain Output Waker) (others : List Running
 
   -- the innermost drop ends
   abbrev Ending : UserEnd → Done → Type 0
-  Ending u e = (r : Plain Output Waker) × ActsBy s p (Answer p u) q r × StandsSo e r
+  Ending u e = (r : Plain Output Waker) × ActsAnyhow s p (Answer p u) q r e.world × StandsSo e r
 
   pub ends_there : (f : ℕ) (fs : List ℕ) → gs ≡ f ∷ fs → (u : UserEnd) → accepts (op.User (user_op.DropOutput f)) u ≡ true
       → LeadsSo p (done (react p (op.User (user_op.DropOutput f)) u s.world).world
@@ -234,13 +236,14 @@ module _ (s : Machine) (p : ℕ) (q : Plain Output Waker) (others : List Running
       like (loss_ops (f ∷ fs) base) (loss_ops fs base) q.runs (record { last = λ r. refl; left = λ r. refl })
       (subst (λ gs. Counted (loss_ops gs base) q.runs) is count) in (
         does wakes (choice Granted) Ends q,
-        record {
+        λ start. record {
           choice = choice Granted;
           made = Ends;
           chosen = (chosen_in s q Granted).tells;
           is = ends_by;
           so = refl;
-          anew = tt;
+          anew = granted_anew q (does wakes (choice Granted) Ends q) (choice Granted) Ends refl;
+          chooses = loss_so p hints s.world f (loss_ops fs base) (all_rest fs) (choice Granted) q None inside first start;
         },
         subst (λ y. StandsSo e (does wakes (choice Granted) Ends y)) same
             (record {
@@ -285,7 +288,7 @@ module _ (s : Machine) (reached : Reached s) (p : ℕ) (there : p < length s.par
   abbrev Begins : Call → Type 0
   Begins c =
       LeadsSo p (upon (reverse (stack s p)) (begins p (mine (top (stack s p))) c s.world))
-      (λ e. (r : Plain Output Waker) × ActsBy s p (Begin p c) q r × StandsSo e r)
+      (λ e. (r : Plain Output Waker) × ActsAnyhow s p (Begin p c) q r e.world × StandsSo e r)
 
   pub begins_in_loss : (f : ℕ) (fs : List ℕ) (below : List Op) (codes : List (Code Output Waker)) → Nested below codes
       → StopsInLoss (f ∷ fs) below codes (standing s p) q → Counted (reverse (stack s p)) q.runs → (c : Call)
@@ -309,7 +312,7 @@ module _ (s : Machine) (p : ℕ) (q : Plain Output Waker) where
   Ends_at f os u =
       LeadsSo p (done (react p (op.User (user_op.DropOutput f)) u s.world).world
       ((react p (op.User (user_op.DropOutput f)) u s.world).next ++ (left_of f ++ os)))
-      (λ e. (r : Plain Output Waker) × ActsBy s p (Answer p u) q r × StandsSo e r)
+      (λ e. (r : Plain Output Waker) × ActsAnyhow s p (Answer p u) q r e.world × StandsSo e r)
 
   pub ends_in_loss : (f : ℕ) (fs : List ℕ) (below : List Op) (codes : List (Code Output Waker)) → Nested below codes
       → StopsInLoss (f ∷ fs) below codes (standing s p) q → Counted (reverse (stack s p)) q.runs → (u : UserEnd)

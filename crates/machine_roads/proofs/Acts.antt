@@ -19,7 +19,7 @@ use Rattle.executor_model.specs.declared.step.StepError.TheVariants.{NoSuch, Wai
 use Rattle.executor_model.specs.Executions.{run_all}
 use Rattle.executor_model.specs.Steps.{Machine, after, begun, end_of, go_refusal, is_locked_out, is_on_executor, is_static_kind, mine}
 use Rattle.executor_model.specs.Steps.{part_refusal}
-use Rattle.executor_model.specs.Steps.{party_of, refusal, stack, start, top, unless, waits}
+use Rattle.executor_model.specs.Steps.{party_of, react, refusal, stack, start, top, unless, waits}
 use Rattle.executor_model.specs.Trace.{is_drop_begun}
 use Rattle.executor_model.specs.World.{Done, done, log}
 use Rattle.executor_model.proofs.Quiet.Resting.{rests}
@@ -32,7 +32,8 @@ use Rattle.plain_scheduler.specs.State.{Code, Plain, Taker}
 use Rattle.plain_scheduler.specs.Calls.{new as new_plain}
 use Rattle.machine_roads.specs.View.{Output}
 use Rattle.machine_roads.specs.Road.{Follows}
-use Rattle.machine_roads.specs.Alone.{is_outside, is_resting}
+use Rattle.machine_roads.specs.Alone.{alone, is_outside, is_resting}
+use Rattle.machine_roads.specs.Searching.{start_at}
 use Rattle.machine_roads.specs.Dropped.{answered, loses, rest_of}
 use Rattle.machine_roads.specs.InLoss.{loss_ops}
 use Rattle.machine_roads.specs.Losing.{left_of}
@@ -57,7 +58,9 @@ use Rattle.machine_roads.proofs.LoneRuns.{both_true, made_is, not_true, passed, 
 use Rattle.machine_roads.proofs.LoneTicks.{may_begin}
 use Rattle.machine_roads.proofs.Open.{IsOpen, settled_open, step_open, still}
 use Rattle.machine_roads.proofs.Tying.{top_of}
-use Rattle.machine_roads.proofs.Walked.{answer_leads, begun_leads, no_go}
+use Rattle.machine_roads.proofs.Unsearched.{ActsAnyhow}
+use Rattle.machine_roads.proofs.Walked.{begun_leads, no_go}
+use Rattle.machine_roads.proofs.WalkedFrom.{answer_leads_from}
 use Rattle.machine_roads.proofs.WalkedWith.{answer_led, begun_led}
 
 -- the executor's drop hasn't begun, and it doesn't in an act
@@ -188,53 +191,61 @@ forgotten_off (g ∷ gs) f os c on =
 
 module _ (s : Machine) (reached : Reached s) (p : ℕ) (q : Plain Output Waker) (stands : StandsSo (standing s p) q) (new : Machine)
     (later : new.world.gone ≡ false) (open_still : s.world.gone ≡ false) (others : OthersRest p s) (there : p < length s.parties) where
-  abbrev Comes : Step → Type 0
-  Comes t = (r : Plain Output Waker) × ActsBy s p t q r × StandsSo (standing new p) r
+  abbrev Comes : Step → List Step → Type 0
+  Comes t ts = (r : Plain Output Waker) × ActsBy s p t q r new.world (start_at p (after s t) ts) × StandsSo (standing new p) r
+
+  -- from wherever
+  abbrev Anyhow : Step → Type 0
+  Anyhow t = (r : Plain Output Waker) × ActsAnyhow s p t q r new.world × StandsSo (standing new p) r
+
+  from_there : (t : Step) (ts : List Step) → Anyhow t → Comes t ts
+  from_there t ts g = (g.0, g.1 (start_at p (after s t) ts), g.2)
 
   call_begins : (c : Call) (ts : List Step) → may_stand_in c ≡ true → may_begin_in (reverse (stack s p)) c ≡ true
-      → rests_after p ts (after s (Begin p c)) ≡ true → run_all (Begin p c ∷ ts) s ≡ Ok new → Comes (Begin p c)
+      → rests_after p ts (after s (Begin p c)) ≡ true → run_all (Begin p c ∷ ts) s ≡ Ok new → Anyhow (Begin p c)
   call_begins c ts on even rests made = by stands.alike
     where
-      begins : Nested (reverse (stack s p)) q.inside → Follows s.world q → Comes (Begin p c)
+      begins : Nested (reverse (stack s p)) q.inside → Follows s.world q → Anyhow (Begin p c)
       begins nested follows =
-          begun_leads p (λ e. (r : Plain Output Waker) × ActsBy s p (Begin p c) q r × StandsSo e r) new later c ts s reached there
-          (one_begins s reached p q follows nested stands.counted c on (may_begin s p c (run-first (Begin p c) ts s new made).0)) rests made
+          begun_leads p (λ e. (r : Plain Output Waker) × ActsAnyhow s p (Begin p c) q r e.world × StandsSo e r) new later c ts s reached
+          there (one_begins s reached p q follows nested stands.counted c on (may_begin s p c (run-first (Begin p c) ts s new made).0))
+          rests made
 
       inside_of : (taker : Taker Waker) (final : Op) (below : List Op) (f : ℕ) (awaiter : Option Waker)
           (codes : List (Code Output Waker)) → GoesOnBy taker final → Nested below codes → (gs : List ℕ)
-          → StopsUntaken taker final below f awaiter gs codes (standing s p) q → Comes (Begin p c)
+          → StopsUntaken taker final below f awaiter gs codes (standing s p) q → Anyhow (Begin p c)
       inside_of taker final below f awaiter codes it nested gs stops =
           let off =
           untaken_off gs (is_some awaiter) f final below c (sym (ap (λ os. may_begin_in os c) stops.left) ∙ even) in
           begun_led (Asked f awaiter) (asked_walks f awaiter) p
-          (λ e. (r : Plain Output Waker) × ActsBy s p (Begin p c) q r × StandsSo e r) new later c ts s reached there
+          (λ e. (r : Plain Output Waker) × ActsAnyhow s p (Begin p c) q r e.world × StandsSo e r) new later c ts s reached there
           (begins_untaken taker final below f awaiter codes it nested s p q stands.counted gs stops reached there c off.0 off.1
           (may_begin s p c (run-first (Begin p c) ts s new made).0))
           rests made
 
       within_drop : (taker : Taker Waker) (final : Op) (below : List Op) (f : ℕ) (codes : List (Code Output Waker)) → GoesOnBy taker final
-          → Nested below codes → (gs : List ℕ) → StopsForgotten taker final below f gs codes (standing s p) q → Comes (Begin p c)
+          → Nested below codes → (gs : List ℕ) → StopsForgotten taker final below f gs codes (standing s p) q → Anyhow (Begin p c)
       within_drop taker final below f codes it nested gs stops =
           let off = forgotten_off gs f (final ∷ below) c (sym (ap (λ os. may_begin_in os c) stops.left) ∙ even) in
-          begun_leads p (λ e. (r : Plain Output Waker) × ActsBy s p (Begin p c) q r × StandsSo e r) new later c ts s reached there
-          (begins_forgotten taker final below f codes it nested s p q stands.counted gs stops reached there c off
+          begun_leads p (λ e. (r : Plain Output Waker) × ActsAnyhow s p (Begin p c) q r e.world × StandsSo e r) new later c ts s reached
+          there (begins_forgotten taker final below f codes it nested s p q stands.counted gs stops reached there c off
           (may_begin s p c (run-first (Begin p c) ts s new made).0))
           rests made
 
-      by : StandsAlike (standing s p) q → Comes (Begin p c)
+      by : StandsAlike (standing s p) q → Anyhow (Begin p c)
       by (alike nested follows) = begins nested follows
       by (losing f fs below codes nested stops) =
           let off : is_on_executor c ≡ false =
           (neither (is_on_executor c) (polls_untaken (loss_ops fs below) c) (sym (ap (λ os. may_begin_in os c) stops.left) ∙ even)).0 in
-          begun_leads p (λ e. (r : Plain Output Waker) × ActsBy s p (Begin p c) q r × StandsSo e r) new later c ts s reached there
-          (begins_in_loss s reached p there q f fs below codes nested stops stands.counted c off
+          begun_leads p (λ e. (r : Plain Output Waker) × ActsAnyhow s p (Begin p c) q r e.world × StandsSo e r) new later c ts s reached
+          there (begins_in_loss s reached p there q f fs below codes nested stops stands.counted c off
           (may_begin s p c (run-first (Begin p c) ts s new made).0))
           rests made
       by (going r fs below codes nested stops) =
           let off =
           going_off fs r stops.rest stops.leaving below c (sym (ap (λ os. may_begin_in os c) stops.left) ∙ even) in
-          begun_leads p (λ e. (r : Plain Output Waker) × ActsBy s p (Begin p c) q r × StandsSo e r) new later c ts s reached there
-          (begins_in_going s reached p there q r fs below codes nested stops stands.counted c off
+          begun_leads p (λ e. (r : Plain Output Waker) × ActsAnyhow s p (Begin p c) q r e.world × StandsSo e r) new later c ts s reached
+          there (begins_in_going s reached p there q r fs below codes nested stops stands.counted c off
           (may_begin s p c (run-first (Begin p c) ts s new made).0))
           rests made
       by (dropping taker final below f b it nested (answered next inside follows)) =
@@ -283,21 +294,29 @@ module _ (s : Machine) (reached : Reached s) (p : ℕ) (q : Plain Output Waker) 
   -- user code ends
   module _ (u : UserEnd) (ts : List Step) (rests : rests_after p ts (after s (Answer p u)) ≡ true)
       (whole : run_all (Answer p u ∷ ts) s ≡ Ok new) where
-    plainly : (a : StandsAlike (standing s p) q) → is_inner a ≡ false → Comes (Answer p u)
+    plainly : (a : StandsAlike (standing s p) q) → is_inner a ≡ false → Comes (Answer p u) ts
     plainly a plain =
         let e = code_ends s reached p there open_still others q stands.counted a plain u (run-first (Answer p u) ts s new whole).0 in
-        answer_leads p (λ e. (r : Plain Output Waker) × ActsBy s p (Answer p u) q r × StandsSo e r) new later u e.first e.rest ts s
-        reached there e.is e.leads rests whole
+        let start = start_at p (after s (Answer p u)) ts in
+        answer_leads_from start p (λ e. (r : Plain Output Waker) × ActsBy s p (Answer p u) q r e.world start × StandsSo e r) new later u
+        e.first e.rest ts s reached there e.is
+        (λ hints all starts resting.
+        let first = done (react p e.first u s.world).world ((react p e.first u s.world).next ++ e.rest) in
+        let end = alone p hints first in
+        subst (λ n. (r : Plain Output Waker) × ActsBy s p (Answer p u) q r end.world n × StandsSo end r) starts (e.leads hints all resting))
+        refl rests whole
 
-    answers : StandsAlike (standing s p) q → Comes (Answer p u)
+    answers : StandsAlike (standing s p) q → Comes (Answer p u) ts
     answers (untaken taker final below f awaiter g gs codes it nested stops) =
         let o = op.User (user_op.DropOutput g) in
         let xs = left_of g ++ loss_ops gs (op.User (user_op.DropOutput f) ∷ (rest_of (is_some awaiter) f final ++ below)) in
-        answer_led (Asked f awaiter) (asked_walks f awaiter) p
-        (λ e. (r : Plain Output Waker) × ActsBy s p (Answer p u) q r × StandsSo e r) new later u o xs ts s reached there stops.left
+        from_there (Answer p u) ts
+        (answer_led (Asked f awaiter) (asked_walks f awaiter) p
+        (λ e. (r : Plain Output Waker) × ActsAnyhow s p (Answer p u) q r e.world × StandsSo e r) new later u o xs ts s reached there
+        stops.left
         (ends_untaken taker final below f awaiter codes it nested s p q stands.counted g gs stops u
         (accepted s reached p there open_still others q stands.counted u o xs (run-first (Answer p u) ts s new whole).0 stops.left))
-        rests whole
+        rests whole)
     answers (alike nested follows) = plainly (alike nested follows) refl
     answers (losing f fs below codes nested stops) = plainly (losing f fs below codes nested stops) refl
     answers (going r fs below codes nested stops) = plainly (going r fs below codes nested stops) refl
@@ -307,19 +326,20 @@ module _ (s : Machine) (reached : Reached s) (p : ℕ) (q : Plain Output Waker) 
         plainly (forgotten taker final below f g gs codes it nested stops) refl
 
   one_act : (t : Step) (ts : List Step) → party_of t ≡ p → is_on_way (reverse (stack s p)) t ≡ true
-      → rests_after p ts (after s t) ≡ true → run_all (t ∷ ts) s ≡ Ok new → Comes t
+      → rests_after p ts (after s t) ≡ true → run_all (t ∷ ts) s ≡ Ok new → Comes t ts
   one_act (Begin r c) ts its on rests made =
       let two = both_true (may_stand_in c) (may_begin_in (reverse (stack s p)) c) on in
-      subst (λ n. Comes (Begin n c)) (sym its)
+      subst (λ n. Comes (Begin n c) ts) (sym its)
+      (from_there (Begin p c) ts
       (call_begins c ts two.0 two.1
       (subst (λ n. rests_after p ts (after s (Begin n c)) ≡ true) its rests)
-      (subst (λ n. run_all (Begin n c ∷ ts) s ≡ Ok new) its made))
+      (subst (λ n. run_all (Begin n c ∷ ts) s ≡ Ok new) its made)))
   one_act (Go r h) ts its on rests made =
       let may = subst (λ n. refusal s (Go n h) ≡ None) its (run-first (Go r h) ts s new made).0 in
       absurd (no_go_resting s p there h (reverse (stack s p)) refl (rests_alike (standing s p) q stands.alike) may)
   one_act (Answer r u) ts its on rests made =
       let whole = subst (λ n. run_all (Answer n u ∷ ts) s ≡ Ok new) its made in
-      subst (λ n. Comes (Answer n u)) (sym its)
+      subst (λ n. Comes (Answer n u) ts) (sym its)
       (answers u ts (subst (λ n. rests_after p ts (after s (Answer n u)) ≡ true) its rests) whole stands.alike)
 
 -- a party that takes over stands where the one before did, which does nothing

@@ -30,7 +30,7 @@ use Rattle.machine_roads.specs.Dropped.{loses as loses_by, rest_of, without_run}
 use Rattle.machine_roads.specs.InLoss.{handle_in, loss_codes, loss_ops, spares, without_handles}
 use Rattle.machine_roads.specs.Losing.{left_of}
 use Rattle.machine_roads.specs.Untaken.{HasBeside, IsCallBeside, StandsUntaken, polls}
-use Rattle.machine_roads.specs.Within.{ActsBy, GoesOnBy, IsCallIn, Nested, StandsAlike, StopsUntaken, begins as begins_by, dropping}
+use Rattle.machine_roads.specs.Within.{GoesOnBy, IsCallIn, Nested, StandsAlike, StopsUntaken, begins as begins_by, dropping}
 use Rattle.machine_roads.specs.Within.{ends as ends_by, standing, untaken}
 use Rattle.machine_roads.proofs.ActBegins.{choice_in, chosen_in, enough}
 use Rattle.machine_roads.proofs.ActLosses.{no_poll_at, spares_all, stays_runs}
@@ -40,13 +40,14 @@ use Rattle.machine_roads.proofs.Counting.{Counted, StandsSo, like}
 use Rattle.machine_roads.proofs.Having.{same_self}
 use Rattle.machine_roads.proofs.InDrop.{stays_inside}
 use Rattle.machine_roads.proofs.Inside.{ends_inside}
-use Rattle.machine_roads.proofs.LaterAnew.{off_anew}
+use Rattle.machine_roads.proofs.LaterAnew.{granted_anew, off_anew}
 use Rattle.machine_roads.proofs.LoneTicks.{there_all}
 use Rattle.machine_roads.proofs.Named.{Named, named}
 use Rattle.machine_roads.proofs.Owing.{Kept, is_aside}
 use Rattle.machine_roads.proofs.Untaken.{begins_does, calls_beside, loses_beside, loss_ends_beside, owing, resting_on}
 use Rattle.machine_roads.proofs.Unseen.{stands_in}
 use Rattle.machine_roads.proofs.WalkedWith.{HasAllBy, LeadsBy}
+use Rattle.machine_roads.proofs.Unsearched.{ActsAnyhow, loss_so, off_so}
 
 owed_below : (f : ℕ) (hs : List ℕ) (base : List Op) → 1 ≤ weigh (giving_of f) base → 1 ≤ weigh (giving_of f) (loss_ops hs base)
 owed_below f [] base owes = owes
@@ -79,7 +80,7 @@ module _ (s : Machine) (p : ℕ) (q : Plain Output Waker) (f : ℕ) (awaiter : O
 
   -- a call
   abbrev Comes : Call → Done → Type 0
-  Comes c e = (r : Plain Output Waker) × ActsBy s p (Begin p c) q r × StandsSo e r
+  Comes c e = (r : Plain Output Waker) × ActsAnyhow s p (Begin p c) q r e.world × StandsSo e r
 
   module _ (c : Call) (off : is_on_executor c ≡ false) (n : Named s.world c) (spared : spares gs (handle_in c) ≡ true)
       (unpolled : polls f c ≡ false) (hints : List Hint)
@@ -101,14 +102,15 @@ module _ (s : Machine) (p : ℕ) (q : Plain Output Waker) (f : ℕ) (awaiter : O
         (goes_append (without_run f) (is_aside f awaiter) (Kept f awaiter) d.next os begun.fit (resting_on f awaiter os (all_rest gs)))
         (omega (arith, owed_below f gs base owes, weigh-append (giving_of f) d.next os)) has
 
-    acts : (r : Refusal) → ActsBy s p (Begin p c) q (does wakes (choice r) n.made q)
-    acts r = record {
+    acts : (r : Refusal) → ActsAnyhow s p (Begin p c) q (does wakes (choice r) n.made q) e.world
+    acts r = λ start. record {
       choice = choice r;
       made = n.made;
       chosen = chosen_in s q r;
       is = begins_by c n.made (subst (λ here. IsCallIn here s.world c n.made) (sym no_poll) n.within_none);
       so = refl;
-      anew = off_anew q (does wakes (choice r) n.made q) None s.world c r n.made n.within_none off;
+      anew = off_anew q (does wakes (choice r) n.made q) None s.world c (choice r) n.made n.within_none off;
+      chooses = off_so None s.world (choice r) q p hints c off os (all_rest gs) n.made n.within_none None start;
     }
 
     runs_so : (r : Refusal) → Counted os (does wakes (choice r) n.made q).runs
@@ -153,7 +155,7 @@ module _ (s : Machine) (p : ℕ) (q : Plain Output Waker) (f : ℕ) (awaiter : O
 
   -- the innermost drop ends
   abbrev Ending : UserEnd → Done → Type 0
-  Ending u e = (r : Plain Output Waker) × ActsBy s p (Answer p u) q r × StandsSo e r
+  Ending u e = (r : Plain Output Waker) × ActsAnyhow s p (Answer p u) q r e.world × StandsSo e r
 
   pub ends_beside : (g : ℕ) (hs : List ℕ) → gs ≡ g ∷ hs → (u : UserEnd) → accepts (op.User (user_op.DropOutput g)) u ≡ true
       → LeadsBy (Asked f awaiter) p (done (react p (op.User (user_op.DropOutput g)) u s.world).world
@@ -194,13 +196,14 @@ module _ (s : Machine) (p : ℕ) (q : Plain Output Waker) (f : ℕ) (awaiter : O
       like (loss_ops (g ∷ hs) base) (loss_ops hs base) q.runs (record { last = λ r. refl; left = λ r. refl })
       (subst (λ gs. Counted (loss_ops gs base) q.runs) is count) in (
         does wakes (choice Granted) Ends q,
-        record {
+        λ start. record {
           choice = choice Granted;
           made = Ends;
           chosen = (chosen_in s q Granted).tells;
           is = ends_by;
           so = refl;
-          anew = tt;
+          anew = granted_anew q (does wakes (choice Granted) Ends q) (choice Granted) Ends refl;
+          chooses = loss_so p hints s.world g (loss_ops hs base) (all_rest hs) (choice Granted) q None inside first start;
         },
         subst (λ y. StandsSo e (does wakes (choice Granted) Ends y)) same
             (record {
@@ -255,7 +258,7 @@ module _ (taker : Taker Waker) (final : Op) (below : List Op) (f : ℕ) (awaiter
         → p < length s.parties → (c : Call) → is_on_executor c ≡ false → polls f c ≡ false
         → begin_refusal s.world s.parties (top (stack s p)) c ≡ None
         → LeadsBy (Asked f awaiter) p (upon (reverse (stack s p)) (begins p (mine (top (stack s p))) c s.world))
-        (λ e. (r : Plain Output Waker) × ActsBy s p (Begin p c) q r × StandsSo e r)
+        (λ e. (r : Plain Output Waker) × ActsAnyhow s p (Begin p c) q r e.world × StandsSo e r)
     begins_untaken gs stops reached there c off unpolled may =
         begins_beside s p q f awaiter gs (base (is_some awaiter)) (Lose awaiter (Some taker) ∷ codes) stops.left stops.inside stops.stands
         (untaken_poll gs (is_some awaiter) stops.left) refl (owed_base (is_some awaiter)) counted place_so reached there c off unpolled may
@@ -264,7 +267,7 @@ module _ (taker : Taker Waker) (final : Op) (below : List Op) (f : ℕ) (awaiter
         → accepts (op.User (user_op.DropOutput g)) u ≡ true
         → LeadsBy (Asked f awaiter) p (done (react p (op.User (user_op.DropOutput g)) u s.world).world
         ((react p (op.User (user_op.DropOutput g)) u s.world).next ++ (left_of g ++ loss_ops gs (base (is_some awaiter)))))
-        (λ e. (r : Plain Output Waker) × ActsBy s p (Answer p u) q r × StandsSo e r)
+        (λ e. (r : Plain Output Waker) × ActsAnyhow s p (Answer p u) q r e.world × StandsSo e r)
     ends_untaken g gs stops u ok =
         ends_beside s p q f awaiter (g ∷ gs) (base (is_some awaiter)) (Lose awaiter (Some taker) ∷ codes) stops.left stops.inside
         stops.stands (untaken_poll (g ∷ gs) (is_some awaiter) stops.left) refl (owed_base (is_some awaiter)) counted place_so g gs refl u

@@ -26,14 +26,14 @@ use Rattle.machine_roads.specs.Alike.{begins, upon}
 use Rattle.machine_roads.specs.Closing.{called, loses}
 use Rattle.machine_roads.specs.InLoss.{handle_in, loss_codes, loss_ops, spares, without_handles}
 use Rattle.machine_roads.specs.Losing.{left_of}
-use Rattle.machine_roads.specs.Within.{ActsBy, GoesOnBy, IsCallIn, Nested, StandsAlike, StopsForgotten, begins as begins_by}
+use Rattle.machine_roads.specs.Within.{GoesOnBy, IsCallIn, Nested, StandsAlike, StopsForgotten, begins as begins_by}
 use Rattle.machine_roads.specs.Within.{ends as ends_by, forgetting, forgotten, standing}
 use Rattle.machine_roads.proofs.ActBegins.{choice_in, chosen_in, enough}
 use Rattle.machine_roads.proofs.ActLosses.{no_poll_at, spares_all, stays_runs}
 use Rattle.machine_roads.proofs.Counting.{Counted, StandsSo, like}
 use Rattle.machine_roads.proofs.InDrop.{stays_inside}
 use Rattle.machine_roads.proofs.Inside.{ends_inside}
-use Rattle.machine_roads.proofs.LaterAnew.{off_anew}
+use Rattle.machine_roads.proofs.LaterAnew.{granted_anew, off_anew}
 use Rattle.machine_roads.proofs.LoneTicks.{there_all}
 use Rattle.machine_roads.proofs.Named.{Named, named}
 use Rattle.machine_roads.proofs.Unseen.{stands_in}
@@ -56,6 +56,7 @@ use Rattle.machine_roads.proofs.Lists.{clash, same_of}
 use Rattle.machine_roads.proofs.LoneRuns.{both_true}
 use Rattle.machine_roads.proofs.Puts.{put_at, put_by}
 use Rattle.machine_roads.proofs.Tying.{LeadsSo}
+use Rattle.machine_roads.proofs.Unsearched.{ActsAnyhow, loss_so, off_so}
 
 -- no call is of that one: nobody has a waker of it, nor its handle
 module _ (s : Machine) (reached : Reached s) (f : ℕ) (spent : (task s.world f).references ≡ 0) (unheld : (task s.world f).handle ≡ false)
@@ -132,7 +133,7 @@ module _ (s : Machine) (p : ℕ) (q : Plain Output Waker) (f : ℕ) (gs : List �
 
   -- a call
   abbrev Comes : Call → Done → Type 0
-  Comes c e = (r : Plain Output Waker) × ActsBy s p (Begin p c) q r × StandsSo e r
+  Comes c e = (r : Plain Output Waker) × ActsAnyhow s p (Begin p c) q r e.world × StandsSo e r
 
   module _ (c : Call) (off : is_on_executor c ≡ false) (n : Named s.world c) (spared : spares gs (handle_in c) ≡ true)
       (apart : is_of f n.made ≡ false) (hints : List Hint)
@@ -147,14 +148,15 @@ module _ (s : Machine) (p : ℕ) (q : Plain Output Waker) (f : ℕ) (gs : List �
     it : IsCallInForgotten f gs s.world c n.made
     it = record { apart = apart; is = record { off = off; spared = spared; is = n.is } }
 
-    acts : (r : Refusal) → ActsBy s p (Begin p c) q (does wakes (choice r) n.made q)
-    acts r = record {
+    acts : (r : Refusal) → ActsAnyhow s p (Begin p c) q (does wakes (choice r) n.made q) e.world
+    acts r = λ start. record {
       choice = choice r;
       made = n.made;
       chosen = chosen_in s q r;
       is = begins_by c n.made (subst (λ here. IsCallIn here s.world c n.made) (sym no_poll) n.within_none);
       so = refl;
-      anew = off_anew q (does wakes (choice r) n.made q) None s.world c r n.made n.within_none off;
+      anew = off_anew q (does wakes (choice r) n.made q) None s.world c (choice r) n.made n.within_none off;
+      chooses = off_so None s.world (choice r) q p hints c off os (all_rest gs) n.made n.within_none None start;
     }
 
     runs_so : (r : Refusal) → Counted os (does wakes (choice r) n.made q).runs
@@ -200,7 +202,7 @@ module _ (s : Machine) (p : ℕ) (q : Plain Output Waker) (f : ℕ) (gs : List �
 
   -- the innermost drop ends
   abbrev Ending : UserEnd → Done → Type 0
-  Ending u e = (r : Plain Output Waker) × ActsBy s p (Answer p u) q r × StandsSo e r
+  Ending u e = (r : Plain Output Waker) × ActsAnyhow s p (Answer p u) q r e.world × StandsSo e r
 
   pub ends_there : (g : ℕ) (hs : List ℕ) → gs ≡ g ∷ hs → (u : UserEnd) → accepts (op.User (user_op.DropOutput g)) u ≡ true
       → LeadsSo p (done (react p (op.User (user_op.DropOutput g)) u s.world).world
@@ -239,13 +241,14 @@ module _ (s : Machine) (p : ℕ) (q : Plain Output Waker) (f : ℕ) (gs : List �
       like (loss_ops (g ∷ hs) base) (loss_ops hs base) q.runs (record { last = λ r. refl; left = λ r. refl })
       (subst (λ gs. Counted (loss_ops gs base) q.runs) is count) in (
         does wakes (choice Granted) Ends q,
-        record {
+        λ start. record {
           choice = choice Granted;
           made = Ends;
           chosen = (chosen_in s q Granted).tells;
           is = ends_by;
           so = refl;
-          anew = tt;
+          anew = granted_anew q (does wakes (choice Granted) Ends q) (choice Granted) Ends refl;
+          chooses = loss_so p hints s.world g (loss_ops hs base) (all_rest hs) (choice Granted) q None inside first start;
         },
         subst (λ y. StandsSo e (does wakes (choice Granted) Ends y)) same
             (record {
@@ -293,7 +296,7 @@ module _ (taker : Taker Waker) (final : Op) (below : List Op) (f : ℕ) (codes :
         → p < length s.parties → (c : Call) → is_on_executor c ≡ false
         → begin_refusal s.world s.parties (top (stack s p)) c ≡ None
         → LeadsSo p (upon (reverse (stack s p)) (begins p (mine (top (stack s p))) c s.world))
-        (λ e. (r : Plain Output Waker) × ActsBy s p (Begin p c) q r × StandsSo e r)
+        (λ e. (r : Plain Output Waker) × ActsAnyhow s p (Begin p c) q r e.world × StandsSo e r)
     begins_forgotten gs stops reached there c off may =
         begins_there s p q f gs base (Drop f Closed taker ∷ codes) stops.left stops.inside stops.stands
         (forgotten_poll gs stops.left) refl counted place_so reached there c off may
@@ -302,7 +305,7 @@ module _ (taker : Taker Waker) (final : Op) (below : List Op) (f : ℕ) (codes :
         → accepts (op.User (user_op.DropOutput g)) u ≡ true
         → LeadsSo p (done (react p (op.User (user_op.DropOutput g)) u s.world).world
         ((react p (op.User (user_op.DropOutput g)) u s.world).next ++ (left_of g ++ loss_ops gs base)))
-        (λ e. (r : Plain Output Waker) × ActsBy s p (Answer p u) q r × StandsSo e r)
+        (λ e. (r : Plain Output Waker) × ActsAnyhow s p (Answer p u) q r e.world × StandsSo e r)
     ends_forgotten g gs stops u ok =
         ends_there s p q f (g ∷ gs) base (Drop f Closed taker ∷ codes) stops.left stops.inside
         stops.stands (forgotten_poll (g ∷ gs) stops.left) refl counted place_so g gs refl u ok

@@ -1,10 +1,9 @@
 -- A tick or run that finds nothing lies down: it sleeps with a copy of its waker, searches again, and replaces the copy by another.
 use Rattle.std.proofs.Common.{◌≡◌, ℕ, zero, suc, ◌+◌, ◌≤◌, ◌<◌, ◌++◌, Bool, true, false}
-use Rattle.std.proofs.Common.{List, [], ◌∷◌, length, map, get_or, Option, Some, None, slice_get, slice_set, if◌then◌else◌}
+use Rattle.std.proofs.Common.{List, [], ◌∷◌, length, map, get_or, Option, Some, None, slice_get, slice_set, if◌then◌else◌, is_some}
 use Rattle.std.proofs.Common.{refl, sym, ap, subst, ◌∙◌, arith, append_assoc}
 use Rattle.std.specs.Prelude.{find}
 use Rattle.std.proofs.lemmas.List.{get_or-set_same}
-use Rattle.executor_parts.specs.Marks.{turn_after}
 use Rattle.executor_parts.specs.Sleepers.{listed, next_number, position_of, put_to_sleep, waker_at, waker_in}
 use Rattle.executor_model.specs.declared.call.Reply.TheVariants as reply
 use Rattle.executor_model.specs.declared.op.Op.{Op}
@@ -21,8 +20,10 @@ use Rattle.executor_model.specs.World.{Asleep, Awake, Done, Left, Ticker, World}
 use Rattle.plain_scheduler.specs.Lists.{any, or, without}
 use Rattle.plain_scheduler.specs.Moves as plain
 use Rattle.plain_scheduler.specs.Takes as plain_takes
+use Rattle.plain_scheduler.specs.Usual.{lies_uncalled, searches_by, vain_turns}
 use Rattle.machine_roads.specs.View.{Output, wakes}
 use Rattle.machine_roads.specs.Road.{AreNumbered, Follows, place_in, sleeper, uncalled, who_of}
+use Rattle.machine_roads.specs.Turning.{TakesTurns}
 use Rattle.machine_roads.proofs.Aside.{copied_inside, goes_inside}
 use Rattle.machine_roads.proofs.Copying.{copied_wakers, goes_back, lain_has}
 use Rattle.machine_roads.proofs.Lain.{Lies, all_called, all_uncalled, below_test, count_at, count_before, count_others, get_at}
@@ -36,7 +37,10 @@ use Rattle.machine_roads.proofs.Numbers.{numbered_append, numbered_first, number
 use Rattle.machine_roads.proofs.Numbers.{same_who, up as is_up, which}
 use Rattle.machine_roads.proofs.PollCalls.{copied_lying}
 use Rattle.machine_roads.proofs.Polling.{copies_so}
+use Rattle.machine_roads.proofs.Still.{Still, still_on}
 use Rattle.machine_roads.proofs.Stepping.{Way, next}
+use Rattle.machine_roads.proofs.Turning.{answers_still, copied_still, ends_still, lay_called, lay_uncalled, placed_counted}
+use Rattle.machine_roads.proofs.Turning.{refused_at_once, took_still, took_twice}
 use Rattle.executor_model.specs.declared.call.Reply.{Reply}
 use Rattle.executor_model.specs.declared.op.Waker.TheVariants.{Task, Outside}
 use Rattle.executor_model.specs.Acts.{copied, is_copy_refused}
@@ -107,13 +111,14 @@ module _ (p : ℕ) (below : List Op) (under : is_resting below ≡ true) (end : 
     pub follows : Follows world z
     pub place : place_of world it ≡ place_of w it
     pub wakers : world.sleepers.wakers ≡ w.sleepers.wakers
-    pub turn : world.urgent_turns ≡ turn_after w.urgent_turns
+    pub took : TakesTurns 1 w world
     pub way : Way p end world (op.Tick (tick_op.CopyWaker s) ∷ below)
 
-  -- and it is refused memory once it lies only where it lies anew
-  abbrev pub Result : Plain Output Waker → Type 0
-  Result q =
+  -- and it is refused memory once it lies only where it lies anew; from where it began to search it takes so many turns
+  abbrev pub Result : World → Plain Output Waker → Type 0
+  Result early q =
       (r : Refusal) × Goes q (plain_takes.rests wakes c r who a q) × (r ≡ Later → OneMoreLies q (plain_takes.rests wakes c r who a q))
+      × TakesTurns (vain_turns r who q.lying) early end.world
 
   not_granted : Granted ≡ Later → ⊥
   not_granted is = cc
@@ -133,12 +138,13 @@ module _ (p : ℕ) (below : List Op) (under : is_resting below ≡ true) (end : 
 
   module _ (Quiet : List Due → Type 0)
       (finds_none : (w : World) (z : Plain Output Waker) → Follows w z → Quiet z.due → Way p end w (op.Tick (tick_op.Search s) ∷ below)
-      → Idles w z) where
+      → Idles w z)
+      (early : World) where
     -- it searches once more, and its copy is replaced by another one
     again : (w : World) (q z : Plain Output Waker) → Follows w z → fits z → z.inside ≡ q.inside → (bed : IsBedded w)
         → map sleeper bed.before ≡ uncalled q.lying → HasOne a z → Quiet z.due → plain_takes.lies_down wakes c who a q ≡ z
-        → Way p end w (op.Tick (tick_op.Search s) ∷ below) → Result q
-    again w q z follows fit inside bed others one quiet lies_is way =
+        → TakesTurns 1 early w → lies_uncalled who q.lying ≡ false → Way p end w (op.Tick (tick_op.Search s) ∷ below) → Result early q
+    again w q z follows fit inside bed others one quiet lies_is took called way =
         let one_more = finds_none w z follows quiet way in
         let step = next p end rests (op.Tick (tick_op.CopyWaker s)) one_more.world below refl one_more.way in
         by one_more (is_copy_refused step.hint one_more.world a) step.has step.way
@@ -153,13 +159,21 @@ module _ (p : ℕ) (below : List Op) (under : is_resting below ≡ true) (end : 
             ∙ (sym (length_map sleeper w.sleepers.wakers) ∙ ap (λ ls. length ls) follows.wakers)) in
             subst (λ (x : Plain Output Waker). OneMoreLies q x) (sym lies_is) (omega (arith, few, many))
 
+        twice : (r : Refusal) → searches_by r ≡ 2 → (i : Idles w z) → Still i.world end.world → TakesTurns (vain_turns r who q.lying) early
+            end.world
+        twice r two i still =
+            lay_called who q.lying early end.world r called
+            (subst (λ n. TakesTurns n early end.world) (sym two)
+            (took_still 2 early i.world end.world (took_twice early w i.world took i.took) still))
+
         by : (i : Idles w z) (b : Bool) → CanCopy i.world a
-            → Way p end (copy_sleeper_by b i.world s).world ((copy_sleeper_by b i.world s).next ++ below) → Result q
+            → Way p end (copy_sleeper_by b i.world s).world ((copy_sleeper_by b i.world s).next ++ below) → Result early q
         by i true can way = (
           Later,
           subst (λ z. Goes q (answers NoMemory z)) (sym lies_is)
               (answers_so i.world q z reply.NoMemory NoMemory refl inside i.follows way),
           λ is. more_lie,
+          twice Later refl i (ends_still p below under end reply.NoMemory (held_as it) i.world way),
         )
         by i false can way =
             let v = i.world in
@@ -198,11 +212,13 @@ module _ (p : ℕ) (below : List Op) (under : is_resting below ≡ true) (end : 
                   (answers_so g.world q (let_go wakes (tell wakes c) a q4) reply.Pending Pending
                   refl (ap (λ (q : Plain Output Waker). q.inside) back ∙ inside) g.follows g.way),
               λ is. absurd (not_granted is),
+              twice Granted refl i
+                  (still_on v w4 end.world (copied_still a v) (answers_still p below under end (Some s) it w4 way7)),
             )
 
     -- with a copy of its waker, in a world that is this
     module _ (w : World) (q : Plain Output Waker) (follows : Follows w q) (fit : fits q) (can_copy : CanCopy w a)
-        (quiet : Quiet q.due) where
+        (quiet : Quiet q.due) (took : TakesTurns 1 early w) where
       abbrev w1 : World
       w1 = copied w a
 
@@ -223,6 +239,16 @@ module _ (p : ℕ) (below : List Op) (under : is_resting below ≡ true) (end : 
           or o (λ l. or l.waker (λ old. plain_takes.lain_again wakes c who a old q1) (plain_takes.lain wakes c who a q1))
           (plain_takes.lain wakes c who a q1)
 
+      took1 : TakesTurns 1 early w1
+      took1 = took_still 1 early w w1 took (copied_still a w)
+
+      -- whether it lay with a waker
+      lay : (o : Option (Lying Waker)) → find (lies who) q1.lying ≡ o
+          → lies_uncalled who q.lying ≡ or o (λ l. is_some l.waker) false
+      lay o is =
+          ap (λ (o : Option (Lying Waker)). or o (λ l. is_some l.waker) false)
+          (ap (find (lies who)) (sym (copied_lying a q)) ∙ is)
+
       lies_by : (o : Option (Lying Waker)) → find (lies who) q1.lying ≡ o → plain_takes.lies_down wakes c who a q ≡ lying_by o
       lies_by o is = ap lying_by (ap (find (lies who)) (sym (copied_lying a q)) ∙ is)
 
@@ -238,7 +264,7 @@ module _ (p : ℕ) (below : List Op) (under : is_resting below ≡ true) (end : 
 
       -- it was awake
       lies_anew_so : CanLie w1 it → place_of w1 it ≡ Awake → any (lies who) q1.lying ≡ false → length q1.lying < c.tells
-          → Way p end (fall_asleep_by Awake w1 s).world ((fall_asleep_by Awake w1 s).next ++ below) → Result q
+          → Way p end (fall_asleep_by Awake w1 s).world ((fall_asleep_by Awake w1 s).next ++ below) → Result early q
       lies_anew_so can awake none room way =
           let n = next_number w1.sleepers in
           let as_it_was : without (lies who) q1.lying ≡ q1.lying = none_without (lies who) q1.lying none in
@@ -270,7 +296,13 @@ module _ (p : ℕ) (below : List Op) (under : is_resting below ≡ true) (end : 
           (omega (arith, room, ap (λ (ls : List (Lying Waker)). length ls) as_it_was, length_last (without (lies who) q1.lying) new_one))
           (copied_inside a q) bed (ap (λ ws. map sleeper ws) (copied_wakers a w) ∙ follows.wakers)
           (lain_has a q1 lain.lying (copied_has a w q follows can_copy)) quiet1
-          (lies_by None (none_found (lies who) q1.lying none)) now
+          (lies_by None (none_found (lies who) q1.lying none))
+          (record {
+            turn = took1.turn;
+            counted = λ k. placed_counted w1.runs it (Asleep n) k ∙ took1.counted k;
+            listed = took1.listed;
+          })
+          (lay None (none_found (lies who) q1.lying none)) now
         where
           one_more : (n : ℕ) → n + 1 ≡ suc n
           one_more n = omega arith
@@ -304,7 +336,7 @@ module _ (p : ℕ) (below : List Op) (under : is_resting below ≡ true) (end : 
       module _ (n : ℕ) (is : place_of w1 it ≡ Asleep n) (l : Lies who q1.lying) where
         -- it was called
         lies_called : (named : IsNamed n who w1.sleepers.wakers) → l.one.waker ≡ None
-            → Way p end (fall_asleep_by (Asleep n) w1 s).world ((fall_asleep_by (Asleep n) w1 s).next ++ below) → Result q
+            → Way p end (fall_asleep_by (Asleep n) w1 s).world ((fall_asleep_by (Asleep n) w1 s).next ++ below) → Result early q
         lies_called named called way =
             let less = left n who w1 q1 follows1 named l in
             let w2 = (sleep_listed_by true w1 n s).world in
@@ -329,7 +361,9 @@ module _ (p : ℕ) (below : List Op) (under : is_resting below ≡ true) (end : 
             (copied_inside a q) bed (ap (λ ws. map sleeper ws) (copied_wakers a w) ∙ follows.wakers)
             (lain_has a q1 lain.lying (copied_has a w q follows can_copy)) quiet1
             (lies_by (Some l.one) (found n who w1 q1 follows1 named l)
-            ∙ ap (λ (o : Option Waker). or o (λ old. plain_takes.lain_again wakes c who a old q1) lain) called) now
+            ∙ ap (λ (o : Option Waker). or o (λ old. plain_takes.lain_again wakes c who a old q1) lain) called)
+            (record { turn = took1.turn; counted = took1.counted; listed = took1.listed })
+            (lay (Some l.one) (found n who w1 q1 follows1 named l) ∙ ap (λ (o : Option Waker). is_some o) called) now
           where
             listed_count : (x : Who) → count x lain.lying ≡ count x q1.lying
             listed_count x =
@@ -341,7 +375,7 @@ module _ (p : ℕ) (below : List Op) (under : is_resting below ≡ true) (end : 
 
         -- it lay still: its waker is replaced
         lies_again : (named : IsNamed n who w1.sleepers.wakers) (x : Waker) → l.one.waker ≡ Some x
-            → Way p end (fall_asleep_by (Asleep n) w1 s).world ((fall_asleep_by (Asleep n) w1 s).next ++ below) → Result q
+            → Way p end (fall_asleep_by (Asleep n) w1 s).world ((fall_asleep_by (Asleep n) w1 s).next ++ below) → Result early q
         lies_again named x waker way =
             let sp = split_uncalled n who w1 q1 follows1 named l x waker in
             let i = length sp.first in
@@ -398,14 +432,18 @@ module _ (p : ℕ) (below : List Op) (under : is_resting below ≡ true) (end : 
                   (answers_so g.world q (let_go wakes more sp.one.1.waker q2) reply.Pending
                   Pending refl (goes_inside c (Some sp.one.1.waker) q2 ∙ copied_inside a q) g.follows g.way),
               λ is. absurd (not_granted is),
+              lay_uncalled who q.lying early end.world Granted
+                  (lay (Some l.one) (found n who w1 q1 follows1 named l) ∙ ap (λ (o : Option Waker). is_some o) waker)
+                  (took_still 1 early w2 end.world (record { turn = took1.turn; counted = took1.counted; listed = took1.listed })
+                  (answers_still p below under end (Some sp.one.1) it w2 way3)),
             )
 
       falls_asleep : length q.lying < c.tells → Rests w1 q1 it → CanLie w1 it
-          → Way p end (fall_asleep_by (place_of w1 it) w1 s).world ((fall_asleep_by (place_of w1 it) w1 s).next ++ below) → Result q
+          → Way p end (fall_asleep_by (place_of w1 it) w1 s).world ((fall_asleep_by (place_of w1 it) w1 s).next ++ below) → Result early q
       falls_asleep room (is_up awake none) can way = by (place_of w1 it) refl awake can.living way
         where
           by : (x : Ticker) → place_of w1 it ≡ x → sleeps x ≡ 0 → lives x ≡ true
-              → Way p end (fall_asleep_by x w1 s).world ((fall_asleep_by x w1 s).next ++ below) → Result q
+              → Way p end (fall_asleep_by x w1 s).world ((fall_asleep_by x w1 s).next ++ below) → Result early q
           by Awake is awake living way =
               lies_anew_so can is none (subst (λ ls. length ls < c.tells) (sym (copied_lying a q)) room) way
           by (Asleep n) is awake living way = absurd (omega (arith, awake))
@@ -416,26 +454,29 @@ module _ (p : ℕ) (below : List Op) (under : is_resting below ≡ true) (end : 
           (subst (λ x. Way p end (fall_asleep_by x w1 s).world ((fall_asleep_by x w1 s).next ++ below)) is way)
         where
           by : (l : Lies who q1.lying) (o : Option Waker) → l.one.waker ≡ o
-              → Way p end (fall_asleep_by (Asleep n) w1 s).world ((fall_asleep_by (Asleep n) w1 s).next ++ below) → Result q
+              → Way p end (fall_asleep_by (Asleep n) w1 s).world ((fall_asleep_by (Asleep n) w1 s).next ++ below) → Result early q
           by l None called way = lies_called n is l named called way
           by l (Some x) waker way = lies_again n is l named x waker way
 
     -- it lies down, where it can once it has a copy, or that is refused
     pub lies_down_so : (w : World) (q : Plain Output Waker) → Follows w q → length q.lying < c.tells
-        → (RunCanLie (copied w a) it → CanLie (copied w a) it) → Quiet q.due
-        → Way p end w (op.Tick (tick_op.CopyWaker s) ∷ below) → Result q
-    lies_down_so w q follows room can quiet way =
+        → (RunCanLie (copied w a) it → CanLie (copied w a) it) → Quiet q.due → TakesTurns 1 early w
+        → Way p end w (op.Tick (tick_op.CopyWaker s) ∷ below) → Result early q
+    lies_down_so w q follows room can quiet took way =
         let step = next p end rests (op.Tick (tick_op.CopyWaker s)) w below refl way in
         by (is_copy_refused step.hint w a) step.has step.way
       where
-        by : (b : Bool) → CanCopy w a → Way p end (copy_sleeper_by b w s).world ((copy_sleeper_by b w s).next ++ below) → Result q
+        by : (b : Bool) → CanCopy w a → Way p end (copy_sleeper_by b w s).world ((copy_sleeper_by b w s).next ++ below)
+            → Result early q
         by true can_copy way = (
           AtOnce,
           answers_so w q q reply.NoMemory NoMemory refl refl follows way,
           λ is. absurd (not_at_once is),
+          refused_at_once who q.lying early end.world
+              (took_still 1 early w end.world took (ends_still p below under end reply.NoMemory (held_as it) w way)),
         )
         by false can_copy way =
             let two = next p end rests (op.Tick (tick_op.FallAsleep s)) (copied w a) below refl way in
-            falls_asleep w q follows (omega (arith, room)) can_copy quiet room
+            falls_asleep w q follows (omega (arith, room)) can_copy quiet took room
             (rests_if it (copied w a) (plain.copied wakes a q) (copies_so a w q follows can_copy) (λ n is. two.has.0)) (can two.has.1)
             two.way

@@ -5,28 +5,33 @@ use Rattle.std.specs.Prelude.{reverse}
 use Rattle.executor_model.specs.declared.call.Call.{Call}
 use Rattle.executor_model.specs.declared.call.Call.TheVariants as call
 use Rattle.executor_model.specs.declared.event.Event.TheVariants as event
+use Rattle.executor_model.specs.declared.call.Reply.TheVariants as reply
+use Rattle.executor_model.specs.declared.op.Hold.TheVariants as hold
 use Rattle.executor_model.specs.declared.op.Op.{Op}
 use Rattle.executor_model.specs.declared.op.Op.TheVariants as op
 use Rattle.executor_model.specs.declared.op.UserOp.TheVariants as user_op
 use Rattle.executor_model.specs.declared.op.Waker.{Waker}
+use Rattle.executor_model.specs.declared.step.Hint.{Hint}
 use Rattle.executor_model.specs.declared.step.Step.{Step}
 use Rattle.executor_model.specs.declared.step.Step.TheVariants.{Answer, Begin, Go}
 use Rattle.executor_model.specs.declared.step.StepError.TheVariants.{NoSuch, WrongAnswer}
 use Rattle.executor_model.specs.declared.step.UserEnd.{UserEnd}
 use Rattle.executor_model.specs.declared.step.UserEnd.TheVariants.{Done as IsDone, Polled}
+use Rattle.executor_model.specs.Acts.{closing_ops}
 use Rattle.executor_model.specs.Executions.{run_all}
 use Rattle.executor_model.specs.Queues.{queue_in}
 use Rattle.executor_model.specs.Quiet.{IsQuiet}
 use Rattle.executor_model.specs.Steps.{Machine, accepts, after, answer_refusal, is_on_executor}
 use Rattle.executor_model.specs.Steps.{mine, part_refusal, party_of, refusal, stack, top}
-use Rattle.executor_model.specs.World.{Done, done, log}
+use Rattle.executor_model.specs.World.{Done, World, done, log}
 use Rattle.executor_model.proofs.Quiet.Resting.{rests}
 use Rattle.executor_model.proofs.Steps.Reached.{Reached, deep-here, reached-more, run-first}
 use Rattle.executor_model.proofs.Steps.Stepping.{refusal-there}
 use Rattle.executor_laws.proofs.Termination.LoneEnds.{OthersRest, still-rest}
-use Rattle.plain_scheduler.specs.State.{Choice, Code, Granted, Lose, Plain, Refusal}
+use Rattle.plain_scheduler.specs.State.{Choice, Close, Code, Granted, Lose, Plain, Refusal}
 use Rattle.plain_scheduler.specs.Calls as plain
 use Rattle.plain_scheduler.specs.Calls.{close, does}
+use Rattle.plain_scheduler.specs.Searches.{searches_inside}
 use Rattle.machine_roads.specs.View.{Output, wakes}
 use Rattle.machine_roads.specs.Road.{Follows, waking_in}
 use Rattle.machine_roads.specs.Alone.{alone, is_resting, HasAll, HasIn}
@@ -36,13 +41,15 @@ use Rattle.machine_roads.specs.Course.{IsCall}
 use Rattle.machine_roads.specs.InLoss.{AreLosing, IsCallInLoss, StopsInLoss, loss_codes, loss_ops, without_handles}
 use Rattle.machine_roads.specs.Losing.{left_of}
 use Rattle.machine_roads.specs.Lone.{EachLoneAlike, NoneWaits}
-use Rattle.machine_roads.specs.Within.{Act, ActsBy, IsCallIn, begins as begins_by, ends as ends_by, rests_after, standing}
+use Rattle.machine_roads.specs.Within.{Act, IsCallIn, begins as begins_by, ends as ends_by, rests_after, standing, start_in}
 use Rattle.machine_roads.specs.DropActs.{AreDropActs, AreLosingInDrop, DropActAlike, DropActsAlike, StandsDropping, behind, drops}
 use Rattle.machine_roads.specs.DropActs.{left_to_close}
 use Rattle.machine_roads.proofs.ActBegins.{choice_in, chosen_in, enough}
 use Rattle.machine_roads.proofs.Acts.{goes_rest, no_go_resting, taken_over}
+use Rattle.machine_roads.proofs.AloneKeeps.{due}
 use Rattle.machine_roads.proofs.Beside.{begins_does, go_append, rest_goes}
 use Rattle.machine_roads.proofs.CallsBehind.{Still, none_in, none_of, of_tasks, still_at}
+use Rattle.machine_roads.proofs.Counted.{counts}
 use Rattle.machine_roads.proofs.CourseBehind.{before_drop, drop_begun, still_gone}
 use Rattle.machine_roads.proofs.ActLosses.{spares_all}
 use Rattle.machine_roads.proofs.InDrop.{comes_on, drop_goes_on}
@@ -51,7 +58,7 @@ use Rattle.machine_roads.proofs.LossInDrop.{call_ends, call_loses, drop_ends_so}
 use Rattle.machine_roads.proofs.Unseen.{stands_in}
 use Rattle.machine_roads.proofs.InDrop.{stays_inside}
 use Rattle.machine_roads.proofs.Inside.{ends_inside}
-use Rattle.machine_roads.proofs.LaterAnew.{off_anew}
+use Rattle.machine_roads.proofs.LaterAnew.{granted_anew, off_anew}
 use Rattle.machine_roads.proofs.Lists.{clash}
 use Rattle.machine_roads.proofs.LoneCalls.{each}
 use Rattle.machine_roads.proofs.LoneCloses.{Closing, IsAny, drop_leads_so, walks}
@@ -61,14 +68,17 @@ use Rattle.machine_roads.proofs.DropPlaces.{are_losses, handles_back, handles_th
 use Rattle.machine_roads.proofs.DropPlaces.{still_left}
 use Rattle.machine_roads.proofs.Named.{Named, named}
 use Rattle.machine_roads.proofs.OpenCalls.{AreOpen, HasOpen, of_calls, open_all}
+use Rattle.machine_roads.proofs.Seeking.{seeks}
 use Rattle.machine_roads.proofs.Tying.{LeadsSoOf, none_of as none_left, top_of}
+use Rattle.machine_roads.proofs.Chosen.{ChoosesAnyhow}
+use Rattle.machine_roads.proofs.Unsearched.{ActsAnyhow, ended_so, loss_so, off_so}
 use Rattle.machine_roads.proofs.Waits.{HasOfTasks, NoTaskWaits, are_append, begins_calmly}
 use Rattle.machine_roads.proofs.Walked.{answer_leads_of, begun_leads_of, no_answer}
 
 module _ (s : Machine) (reached : Reached s) (p : ℕ) (there : p < length s.parties) (gone : s.world.gone ≡ true)
     (q : Plain Output Waker) (new : Machine) where
   abbrev Reaches : Step → Done → Type 0
-  Reaches t e = (r : Plain Output Waker) × ActsBy s p t q r × StandsDropping e r
+  Reaches t e = (r : Plain Output Waker) × ActsAnyhow s p t q r e.world × StandsDropping e r
 
   abbrev choice : Refusal → Choice
   choice r = choice_in s q r
@@ -80,18 +90,39 @@ module _ (s : Machine) (reached : Reached s) (p : ℕ) (there : p < length s.par
   its = top (stack s p)
 
   acts : (c : Call) (x : plain.Call Output Waker) (r : Refusal) → IsCallIn (mine its) s.world c x
-      → is_on_executor c ≡ false → ActsBy s p (Begin p c) q (does wakes (choice r) x q)
-  acts c x r is off = record {
+      → is_on_executor c ≡ false → (os : List Op) → is_resting os ≡ true → (hints : List Hint)
+      → ActsAnyhow s p (Begin p c) q (does wakes (choice r) x q) (alone p hints (upon os (begins p None c s.world))).world
+  acts c x r is off os under hints = λ start. record {
     choice = choice r;
     made = x;
     chosen = chosen_in s q r;
     is = begins_by c x is;
     so = refl;
-    anew = off_anew q (does wakes (choice r) x q) (mine its) s.world c r x is off;
+    anew = off_anew q (does wakes (choice r) x q) (mine its) s.world c (choice r) x is off;
+    chooses = off_so (mine its) s.world (choice r) q p hints c off os under x is None start;
   }
 
-  end_acts : ActsBy s p (Answer p IsDone) q (does wakes granted plain.Ends q)
-  end_acts = record { choice = granted; made = plain.Ends; chosen = (chosen_in s q Granted).tells; is = ends_by; so = refl; anew = tt }
+  end_acts : (v : World) → ChoosesAnyhow s.world v plain.Ends q granted
+      → ActsAnyhow s p (Answer p IsDone) q (does wakes granted plain.Ends q) v
+  end_acts v chooses = λ start. record {
+    choice = granted;
+    made = plain.Ends;
+    chosen = (chosen_in s q Granted).tells;
+    is = ends_by;
+    so = refl;
+    anew = granted_anew q (does wakes granted plain.Ends q) granted plain.Ends refl;
+    chooses = chooses start;
+  }
+
+  close_none : (fs ws : List ℕ) → due counts (closing_ops fs ws ++ op.End reply.Done hold.Nothing ∷ []) ≡ 0
+  close_none (f ∷ fs) ws = refl
+  close_none [] (f ∷ ws) = refl
+  close_none [] [] = refl
+
+  close_light : (fs ws : List ℕ) → due seeks (closing_ops fs ws ++ op.End reply.Done hold.Nothing ∷ []) ≡ 0
+  close_light (f ∷ fs) ws = refl
+  close_light [] (f ∷ ws) = refl
+  close_light [] [] = refl
 
   -- the executor's calls are refused
   no_executors : (c : Call) → refusal s (Begin p c) ≡ None → is_on_executor c ≡ true → ⊥
@@ -172,7 +203,7 @@ module _ (s : Machine) (reached : Reached s) (p : ℕ) (there : p < length s.par
                 let o = call_ends p gs below s.world fs all q granted hints under is c x.made it all_has rests keeps in
                 let z : Plain Output Waker = does wakes (choice o.0) x.made q in (
                   z,
-                  acts c x.made o.0 (is_in c x.made no_poll x.within_none) off,
+                  acts c x.made o.0 (is_in c x.made no_poll x.within_none) off below under hints,
                   stands_still gs e z (o.1 ∙ next) o.2,
                 )
             by true goes all_has =
@@ -181,7 +212,7 @@ module _ (s : Machine) (reached : Reached s) (p : ℕ) (there : p < length s.par
                 let g : ℕ = o.0 in
                 let z : Plain Output Waker = does wakes granted x.made q in (
                   z,
-                  acts c x.made Granted (is_in c x.made no_poll x.within_none) off,
+                  acts c x.made Granted (is_in c x.made no_poll x.within_none) off below under hints,
                   stands_still (g ∷ gs) e z (o.1 ∙ ap (λ os. op.User (user_op.DropOutput g) ∷ (left_of g ++ os)) next) o.2,
                 )
 
@@ -195,7 +226,9 @@ module _ (s : Machine) (reached : Reached s) (p : ℕ) (there : p < length s.par
         (left_to_close fs s.world) ts s reached there next
         (λ hints has rests. (
           does wakes granted plain.Ends q,
-          end_acts,
+          end_acts (alone p hints (done s.world (left_to_close fs s.world))).world
+              (ended_so p hints s.world (left_to_close fs s.world) (close_none fs s.world.waking) (close_light fs s.world.waking) granted q
+              (ap (λ codes. searches_inside wakes granted plain.Ends codes q) is.inside)),
           stands_on fs all (does wakes granted plain.Ends q) (alone p hints (done s.world (left_to_close fs s.world)))
               (drop_goes_on p s.world fs all [] q granted hints is has rests),
         ))
@@ -222,7 +255,8 @@ module _ (s : Machine) (reached : Reached s) (p : ℕ) (there : p < length s.par
         open_all p hints s.world os (opened (g ∷ gs) f fs all next is) (go_append (left_of g) left refl (rest_goes left under)) has in
         let o = drop_ends_so p gs left s.world fs all q granted hints under g is all_has rests in (
           does wakes granted plain.Ends q,
-          end_acts,
+          end_acts e.world
+              (loss_so p hints s.world g left under granted q None (loss_codes gs [] ++ Close fs all ∷ []) is.left.inside),
           stands_still (g ∷ gs) f fs all next is gs e (does wakes granted plain.Ends q) o.0 o.1,
         ))
         rests made
@@ -290,7 +324,7 @@ module _ (s : Machine) (reached : Reached s) (p : ℕ) (there : p < length s.par
                 let r : Refusal = k.so.0 in
                 let z : Plain Output Waker = does wakes (choice r) x.made q in (
                   z,
-                  acts c x.made r (is_in c x.made unpolled x.within_none) it.off,
+                  acts c x.made r (is_in c x.made unpolled x.within_none) it.off owed under_behind hints,
                   stands_behind gs (alone p hints (upon owed (begins p None c s.world))) z k.so.1
                       (stays_inside s.world c x.made (choice r) q it.off x.is keeps ∙ stops.inside) k.so.2 k.none,
                 )
@@ -303,7 +337,7 @@ module _ (s : Machine) (reached : Reached s) (p : ℕ) (there : p < length s.par
                 (λ has. loses_in_loss p gs owed s.world q granted hints c x.made under_behind stops.losing it goes has rests) in
                 let f : ℕ = k.so.0 in (
                   z,
-                  acts c x.made Granted (is_in c x.made unpolled x.within_none) it.off,
+                  acts c x.made Granted (is_in c x.made unpolled x.within_none) it.off owed under_behind hints,
                   stands_behind (f ∷ gs) (alone p hints (upon owed (begins p None c s.world))) z k.so.1
                       (k.so.2 ∙ ap (λ codes. Lose None None ∷ codes) stops.inside) k.so.3 k.none,
                 )
@@ -333,7 +367,8 @@ module _ (s : Machine) (reached : Reached s) (p : ℕ) (there : p < length s.par
         still_at p (λ e. (e.next ≡ loss_ops gs []) × AreLosing e.world gs z) hints s.world os (calm (g ∷ gs) none stops) (are_losses gs)
         (λ has. loss_ends_in_loss p gs (loss_ops gs []) s.world q0 granted hints g (loss_rests gs [] refl) it has rests) has in (
           does wakes granted plain.Ends q,
-          end_acts,
+          end_acts e.world
+              (loss_so p hints s.world g (loss_ops gs []) (loss_rests gs [] refl) granted q None (loss_codes gs []) stops.inside),
           subst (λ y. StandsDropping e (does wakes granted plain.Ends y)) same
               (stands_behind (g ∷ gs) none stops gs e z k.so.0 (ends_inside granted q1 inside refl) k.so.1 k.none),
         ))
@@ -409,7 +444,7 @@ drop_lists (a ∷ acts) s reached p others gone q so are =
     let now = subst (λ e. StandsDropping e q) (taken_over s p a.party others it.others (p == a.party) refl) so in
     let one = one_act s reached a.party there gone q a.left now a.first a.steps it.its it.rests it.made in (
       one.0,
-      one.1,
+      one.1 (start_in s a),
       one.2,
       drop_lists acts a.left next a.party (goes_rest a.steps (after s a.first) a.left a.party it.rests k.1
           (still-rest a.party s a.first it.its it.others)) (still_gone (a.first ∷ a.steps) s a.left reached it.made gone) one.0 one.2 are.1,

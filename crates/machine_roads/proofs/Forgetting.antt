@@ -26,6 +26,7 @@ use Rattle.plain_scheduler.specs.State.{Choice, Closed, Code, Drop, Drops as Dro
 use Rattle.plain_scheduler.specs.Lists.{on}
 use Rattle.plain_scheduler.specs.Moves.{let_go, put, release, see, task, tell}
 use Rattle.plain_scheduler.specs.Takes as plain_takes
+use Rattle.plain_scheduler.specs.Searches.{behind_drop, behind_out}
 use Rattle.plain_scheduler.specs.Calls as plain_calls
 use Rattle.plain_scheduler.specs.Calls.{does, Ends, Pends}
 use Rattle.machine_roads.specs.View.{Output, view, waker_in, wakes}
@@ -301,8 +302,35 @@ module _ (taker : Taker Waker) (final : Op) (p f : ℕ) (below : List Op) (w : W
       ∙ (ap (λ a. nexts e a (record its { awaiter = None })) is.awaited
       ∙ ap (λ t. nexts e (waker_in (awaiter_of w f)) (record t { awaiter = None })) (sym (marked_task f q x.0 x.1)))))))
 
+  -- and so it is behind that
+  abbrev behind_as : Choice → Plain Output Waker → Option (Plain Output Waker)
+  behind_as d q = let l = plain_takes.left_by wakes d Closed (task f q) in behind_out wakes d l (put f l.task q)
+
+  abbrev behinds : Choice → Option Waker → AbstractTask Output Waker → Option (Plain Output Waker)
+  behinds d a n = Some (on a (let_go wakes more) (put f n m))
+
+  abbrev behind_with : Choice → Option (Plain Output Waker)
+  behind_with d = behind_drop wakes d f Closed q
+
+  behind_is : w.is_static ≡ true → (d : Choice) → behind_with (telling c.tells d) ≡ Some let_alone
+  behind_is static d =
+      let x = its_place in
+      let kind : m.is_static ≡ true =
+      ap (λ (q : Plain Output Waker). q.is_static) (marked_is f q x.0 x.1)
+      ∙ (sym (put_by (λ p. p.is_static) f (record its { awaiter = None }) q (λ fs. refl)) ∙ (sym is.follows.kind ∙ static)) in
+      let e : Choice = telling c.tells d in
+      let by : AbstractTask Output Waker → Option (Plain Output Waker) = λ t.
+      let l = plain_takes.left_by wakes e Closed t in behind_out wakes e l (put f l.task m) in
+      ap (λ b. behind_as e (if b then m else release wakes more f m)) kind
+      ∙ (ap (λ t. by t) (marked_task f q x.0 x.1)
+      ∙ (ap (λ phase. let l = finish_by phase its in behind_out wakes e l (put f l.task m)) is.finished
+      ∙ (ap (λ phase. behinds e its.awaiter (record its { phase = phase; closed = true; awaiter = None })) (sym is.finished)
+      ∙ (ap (λ b. behinds e its.awaiter (record its { closed = b; awaiter = None })) (sym is.closed)
+      ∙ (ap (λ a. behinds e a (record its { awaiter = None })) is.awaited
+      ∙ ap (λ t. behinds e (waker_in (awaiter_of w f)) (record t { awaiter = None })) (sym (marked_task f q x.0 x.1)))))))
+
   pub goes : Way p end w (op.Table (table_op.LeaveTable f) ∷ op.Handle (handle_op.LetGo f) ∷ final ∷ below)
-      → Passes p taker final below q c.tells end ends_with
+      → Passes p taker final below q c.tells end ends_with behind_with
   goes way =
       by w.is_static refl
       (subst (λ b. Way p end (leave_by b w f).world ((leave_by b w f).next ++ os)) is.entered
@@ -312,6 +340,7 @@ module _ (taker : Taker Waker) (final : Op) (p f : ℕ) (below : List Op) (w : W
       os = op.Handle (handle_op.LetGo f) ∷ final ∷ below
 
       by : (b : Bool) → w.is_static ≡ b → Way p end w1 (entry_goes b f ++ os) → Passes p taker final below q c.tells end ends_with
+          behind_with
       by false owned way =
           let held : token (world.task w f) < (world.task w f).references =
           (next p end rests (op.Move move.Release f) w1 os refl way).has.1 in
@@ -345,6 +374,7 @@ module _ (taker : Taker Waker) (final : Op) (p f : ℕ) (below : List Op) (w : W
                 (stay_on m (unawaited f m) let_alone (put_stays f (record (task f m) { awaiter = None }) m)
                 (goes_stays c (waker_in (awaiter_of w f)) (unawaited f m)));
             is = ends_as static;
+            at = behind_is static;
           }
 
 abbrev pub forgets_with : (taker : Taker Waker) (f : ℕ) → Plain Output Waker → Choice → Plain Output Waker
@@ -354,6 +384,7 @@ pub forgotten_by : (taker : Taker Waker) (final : Op) (p f : ℕ) (below : List 
     → IsForgotten w f q → length q.lying ≤ c.tells → (hints : List Hint) → HasAll p hints (upon below (forgotten final p f w))
     → is_resting (alone p hints (upon below (forgotten final p f w))).next ≡ true
     → Passes p taker final below q c.tells (alone p hints (upon below (forgotten final p f w))) (forgets_with taker f q)
+    (λ d. behind_drop wakes d f Closed q)
 forgotten_by taker final p f below w q c is many hints has rests =
     goes taker final p f below w q c is many
     (alone p hints (done w (op.Table (table_op.LeaveTable f) ∷ op.Handle (handle_op.LetGo f) ∷ final ∷ below))) rests
@@ -363,5 +394,5 @@ pub forgotten_goes : ForgottenGoesAlike
 forgotten_goes taker final p f below w q c it under is many hints unit has rests =
     let e =
     passes_end p below under (alone p hints (upon below (forgotten final p f w))) rests taker final q it c (forgets_with taker f q)
-    (forgotten_by taker final p f below w q c is many hints has rests) in
+    (λ d. behind_drop wakes d f Closed q) (forgotten_by taker final p f below w q c is many hints has rests) in
     (e.0, e.1)

@@ -44,12 +44,13 @@ use Rattle.executor_model.proofs.Steps.Needing.{needs}
 use Rattle.executor_model.proofs.Steps.QueuesByMark.{any-shut}
 use Rattle.executor_model.proofs.Steps.Reached.{Reached, good-here}
 use Rattle.executor_model.proofs.Table.LeavingExecutions.{has-place}
+use Rattle.executor_laws.proofs.Wakeups.Sitting.{is_it}
 use Rattle.executor_laws.proofs.Wakeups.Stands.{used_of}
 use Rattle.executor_laws.proofs.Wakeups.StandsMachine.{standing}
 use Rattle.executor_laws.proofs.Wakeups.StandsSteps.{Standing}
 use Rattle.executor_laws.proofs.Walks.Enrolled.{Enrolled, kept-listed}
 use Rattle.executor_laws.proofs.Walks.Finding.{enrolled-here, listed-here, room-here}
-use Rattle.machine_roads.specs.Alone.{CanCopy, Has, HasIn, ListHas, RunCanLie, SleepsAlone, StealHas}
+use Rattle.machine_roads.specs.Alone.{CanCopy, Has, HasIn, ListHas, RunCanLie, SearchHas, SleepsAlone, StealHas}
 use Rattle.machine_roads.specs.Moving.{IsQueued}
 use Rattle.machine_roads.specs.Road.{is_ended}
 use Rattle.machine_roads.proofs.Lists.{clash, equal}
@@ -199,9 +200,37 @@ module _ (s : Machine) (p : ℕ) (reached : Reached s) (there : p < length s.par
   enrolled : Enrolled s
   enrolled = enrolled-here s reached
 
+  in_use : (r : ℕ) (o : Op) → top (stack s p) ≡ Some o → 1 ≤ used_of (tick_or_run.Run r) o
+      → (r < length s.world.runs) × (r < length s.world.own)
+  in_use r o is uses =
+      let there = made (nat_lt r (length s.world.runs)) refl in
+      (there, subst (λ n. r < n) (sym enrolled.even) there)
+    where
+      below : (n m : ℕ) → nat_lt n m ≡ true → n < m
+      below n m is = grind (arith, nat_tests)
+
+      used : 1 ≤ weigh_all (used_of (tick_or_run.Run r)) s.parties
+      used =
+          omega (
+            arith,
+            split (used_of (tick_or_run.Run r)) s.parties p (o ∷ []) (below_top (stack s p)) there (topped (stack s p) o is),
+            uses,
+          )
+
+      made : (b : Bool) → nat_lt r (length s.world.runs) ≡ b → r < length s.world.runs
+      made true is = below r (length s.world.runs) is
+      made false off =
+          let all : Standing s = subst Standing (sym reached.is) (standing reached.limit reached.kind reached.parties reached.steps) in
+          absurd (omega (arith, used, (all.stands (tick_or_run.Run r)).unborn off))
+
+  searches : (x : Sleeping) (who : TickOrRun) → x.who ≡ who → top (stack s p) ≡ Some (op.Tick (tick_op.Search x)) → SearchHas s.world who
+  searches x (tick_or_run.Tick t) same_who is = tt
+  searches x (tick_or_run.Run r) same_who is =
+      (in_use r (op.Tick (tick_op.Search x)) is (omega (arith, ap (is_it (tick_or_run.Run r)) same_who, same_self r))).0
+
   walks : (x : RunPoll) → top (stack s p) ≡ Some (op.List (list_op.LockRead x)) → ListHas s.world (list_op.LockRead x)
   walks x is = (
-    subst (λ n. x.run < n) (sym enrolled.even) (made (nat_lt x.run (length s.world.runs)) refl),
+    (in_use x.run (op.List (list_op.LockRead x)) is (omega (arith, same_self x.run))).1,
     λ k some going.
         omega (
           arith,
@@ -209,24 +238,6 @@ module _ (s : Machine) (p : ℕ) (reached : Reached s) (there : p < length s.par
         ),
   )
     where
-      below : (n m : ℕ) → nat_lt n m ≡ true → n < m
-      below n m is = grind (arith, nat_tests)
-
-      used : 1 ≤ weigh_all (used_of (tick_or_run.Run x.run)) s.parties
-      used =
-          let o = op.List (list_op.LockRead x) in
-          omega (
-            arith,
-            split (used_of (tick_or_run.Run x.run)) s.parties p (o ∷ []) (below_top (stack s p)) there (topped (stack s p) o is),
-            same_self x.run,
-          )
-
-      made : (b : Bool) → nat_lt x.run (length s.world.runs) ≡ b → x.run < length s.world.runs
-      made true is = below x.run (length s.world.runs) is
-      made false off =
-          let all : Standing s = subst Standing (sym reached.is) (standing reached.limit reached.kind reached.parties reached.steps) in
-          absurd (omega (arith, used, (all.stands (tick_or_run.Run x.run)).unborn off))
-
       unended : (b : Bool) (st : Stage) → (b || is_ended st) ≡ false → is_over_stage st ≡ false
       unended false New is = refl
       unended false Listed is = refl
@@ -292,6 +303,7 @@ module _ (s : Machine) (p : ℕ) (reached : Reached s) (there : p < length s.par
       (needs s p (op.Handle (handle_op.Look f a)) there is good, at_rest f)
   has_unless (op.Handle (handle_op.CopyAwaiter f a)) open_still is =
       can_copy a (needs s p (op.Handle (handle_op.CopyAwaiter f a)) there is good)
+  has_unless (op.Tick (tick_op.Search x)) open_still is = searches x x.who refl is
   has_unless (op.Tick (tick_op.CopyWaker x)) open_still is =
       can_copy x.waker (needs s p (op.Tick (tick_op.CopyWaker x)) there is good)
   has_unless (op.Tick (tick_op.FallAsleep x)) open_still is = (alone x.who, run_lies x x.who refl is)
@@ -304,6 +316,8 @@ module _ (s : Machine) (p : ℕ) (reached : Reached s) (there : p < length s.par
   has_unless (op.List (list_op.LockRead x)) open_still is = walks x is
   has_unless (op.Run (run_op.WakeOwn x)) open_still is =
       known_by s.world x.waker (needs s p (op.Run (run_op.WakeOwn x)) there is good)
+  has_unless (op.Steal (steal_op.Length x)) open_still is =
+      (in_use x.poll.run (op.Steal (steal_op.Length x)) is (omega (arith, same_self x.poll.run))).1
   has_unless (op.Steal (steal_op.Take x more)) open_still is = steals x more is
   has_unless o open_still is = tt
 

@@ -1,6 +1,6 @@
--- Only a poll of a tick, and a run behind its own future, is refused memory once it lies: other calls, and the ends of other code, have
+-- Only a poll of a tick, and a run that searches in vain, is refused memory once it lies: other calls, and the ends of other code, have
 -- nothing to say of that.
-use Rattle.std.proofs.Common.{◌≡◌, ◌&&◌, ℕ, Bool, true, false, not, List, ◌∷◌, Option, ap, ◌∙◌}
+use Rattle.std.proofs.Common.{◌≡◌, ◌<◌, ℕ, Bool, true, false, List, length, Option, Some, subst}
 use Rattle.executor_model.specs.declared.call.Call.{Call}
 use Rattle.executor_model.specs.declared.op.Waker.{Waker}
 use Rattle.executor_model.specs.declared.step.Step.{Step}
@@ -8,78 +8,90 @@ use Rattle.executor_model.specs.declared.step.Step.TheVariants.{Answer}
 use Rattle.executor_model.specs.Steps.{is_on_executor}
 use Rattle.executor_model.specs.Steps.{Machine}
 use Rattle.executor_model.specs.World.{World}
-use Rattle.plain_scheduler.specs.State.{Code, Granted, Later, Plain, Refusal}
-use Rattle.plain_scheduler.specs.Lists.{any}
-use Rattle.plain_scheduler.specs.Moves.{is_due}
+use Rattle.plain_scheduler.specs.State.{AtOnce, Choice, Granted, Later, Lying, Plain, Refusal}
 use Rattle.plain_scheduler.specs.Calls as plain
-use Rattle.machine_roads.specs.View.{Output}
-use Rattle.machine_roads.specs.Refused.{IsLaterAnew, is_in_own}
+use Rattle.plain_scheduler.specs.Searches.{Search, finds, searches}
+use Rattle.machine_roads.specs.View.{Output, wakes}
+use Rattle.machine_roads.specs.Refused.{IsLaterAnew, OneMoreLies, in_vain}
+use Rattle.machine_roads.specs.Road.{uncalled}
 use Rattle.machine_roads.specs.Within as within
 use Rattle.machine_roads.specs.Within.{IsCallIn, IsMade}
-use Rattle.machine_roads.proofs.Lists.{clash}
+use Rattle.machine_roads.proofs.Silent.{none_told, vain_at}
 
 abbrev pub is_answer : Step → Bool
 is_answer (Answer p u) = true
 is_answer t = false
 
 module _ (q z : Plain Output Waker) where
-  -- in other code than the poll of a run's own future
-  pub ends_anew : (s : Machine) (p : ℕ) (t : Step) (r : Refusal) (x : plain.Call Output Waker) → is_answer t ≡ true → IsMade s p t x
-      → (code : Code Output Waker) (inside : List (Code Output Waker)) → q.inside ≡ code ∷ inside → is_in_own (code ∷ inside) ≡ false
-      → IsLaterAnew r x q z
-  ends_anew s p t r x ends (within.begins c y is) code inside at other = absurd cc
-  ends_anew s p t r x ends within.pends code inside at other = λ vain later.
-      absurd (clash (ap (λ b. b && not (any is_due q.due)) (ap (λ codes. is_in_own codes) at ∙ other)) vain)
-  ends_anew s p t r x ends within.gives code inside at other = tt
-  ends_anew s p t r x ends within.ends code inside at other = tt
+  -- where the call comes to a search that finds nothing, one more lies behind that than there
+  abbrev pub LiesThere : Choice → plain.Call Output Waker → Type 0
+  LiesThere c x =
+      (y : Search Output Waker) → searches wakes c x q ≡ Some y → finds y ≡ false → c.refusal ≡ Later → OneMoreLies y.at z
 
-  apart : Granted ≡ Later → ⊥
-  apart is = cc
+  lies_more : (c : Choice) (x : plain.Call Output Waker) → LiesThere c x → in_vain wakes c x q ≡ true → c.refusal ≡ Later
+      → OneMoreLies q z
+  lies_more c x there vain later =
+      let y = vain_at (searches wakes c x q) vain in
+      subst (λ (ls : List (Lying Waker)). length (uncalled ls) < length (uncalled z.lying))
+      (none_told wakes c x q y.at y.is y.none) (there y.at y.is y.none later)
 
-  pub granted_anew : (x : plain.Call Output Waker) → IsLaterAnew Granted x q z
-  granted_anew (plain.PollTick t w) = λ is. absurd (apart is)
-  granted_anew (plain.Spawn m) = tt
-  granted_anew plain.TryTick = tt
-  granted_anew plain.IsEmpty = tt
-  granted_anew (plain.Wake f) = tt
-  granted_anew (plain.Use f) = tt
-  granted_anew (plain.Copy f) = tt
-  granted_anew (plain.Release f) = tt
-  granted_anew (plain.PollHandle f w) = tt
-  granted_anew (plain.Cancel f) = tt
-  granted_anew (plain.Detach f) = tt
-  granted_anew (plain.DropHandle f) = tt
-  granted_anew plain.NewTick = tt
-  granted_anew (plain.DropTick t) = tt
-  granted_anew plain.NewRun = tt
-  granted_anew (plain.PollRun r w) = tt
-  granted_anew (plain.DropRun r) = tt
-  granted_anew plain.Leak = tt
-  granted_anew plain.DropExecutor = tt
-  granted_anew plain.Pends = λ vain is. absurd (apart is)
-  granted_anew (plain.EndsWith v) = tt
-  granted_anew plain.Ends = tt
+  -- so it is where code ends
+  pub ends_anew : (s : Machine) (p : ℕ) (t : Step) (c : Choice) (x : plain.Call Output Waker) → is_answer t ≡ true → IsMade s p t x
+      → LiesThere c x → IsLaterAnew c x q z
+  ends_anew s p t c x ends (within.begins d y is) there = absurd cc
+  ends_anew s p t c x ends within.pends there = lies_more c plain.Pends there
+  ends_anew s p t c x ends within.gives there = tt
+  ends_anew s p t c x ends within.ends there = lies_more c plain.Ends there
+
+  apart : (r : Refusal) → r ≡ Granted → r ≡ Later → ⊥
+  apart Granted is later = cc
+  apart AtOnce is later = cc
+  apart Later is later = cc
+
+  pub granted_anew : (c : Choice) (x : plain.Call Output Waker) → c.refusal ≡ Granted → IsLaterAnew c x q z
+  granted_anew c (plain.PollTick t w) is = λ later. absurd (apart c.refusal is later)
+  granted_anew c (plain.Spawn m) is = tt
+  granted_anew c plain.TryTick is = tt
+  granted_anew c plain.IsEmpty is = tt
+  granted_anew c (plain.Wake f) is = tt
+  granted_anew c (plain.Use f) is = tt
+  granted_anew c (plain.Copy f) is = tt
+  granted_anew c (plain.Release f) is = tt
+  granted_anew c (plain.PollHandle f w) is = tt
+  granted_anew c (plain.Cancel f) is = tt
+  granted_anew c (plain.Detach f) is = tt
+  granted_anew c (plain.DropHandle f) is = tt
+  granted_anew c plain.NewTick is = tt
+  granted_anew c (plain.DropTick t) is = tt
+  granted_anew c plain.NewRun is = tt
+  granted_anew c (plain.PollRun r w) is = tt
+  granted_anew c (plain.DropRun r) is = tt
+  granted_anew c plain.Leak is = tt
+  granted_anew c plain.DropExecutor is = tt
+  granted_anew c plain.Pends is = λ vain later. absurd (apart c.refusal is later)
+  granted_anew c (plain.EndsWith v) is = tt
+  granted_anew c plain.Ends is = λ vain later. absurd (apart c.refusal is later)
 
   -- where the executor isn't asked
-  pub off_anew : (here : Option Waker) (w : World) (c : Call) (r : Refusal) (x : plain.Call Output Waker) → IsCallIn here w c x
-      → is_on_executor c ≡ false → IsLaterAnew r x q z
-  off_anew here w c r x (within.poll_tick t b) off = absurd cc
-  off_anew here w c r x (within.spawn m) off = tt
-  off_anew here w c r x within.try_tick off = tt
-  off_anew here w c r x within.is_empty off = tt
-  off_anew here w c r x (within.use_waker k f is) off = tt
-  off_anew here w c r x (within.wake k f is) off = tt
-  off_anew here w c r x (within.copy k f is) off = tt
-  off_anew here w c r x (within.release k f is) off = tt
-  off_anew here w c r x (within.keep f is) off = tt
-  off_anew here w c r x (within.wake_self f is) off = tt
-  off_anew here w c r x (within.poll_handle f b) off = tt
-  off_anew here w c r x (within.cancel f) off = tt
-  off_anew here w c r x (within.detach f) off = tt
-  off_anew here w c r x (within.drop_handle f) off = tt
-  off_anew here w c r x within.new_tick off = tt
-  off_anew here w c r x (within.drop_tick t) off = tt
-  off_anew here w c r x within.new_run off = tt
-  off_anew here w c r x (within.poll_run k b) off = tt
-  off_anew here w c r x (within.drop_run k) off = tt
-  off_anew here w c r x within.leak off = tt
+  pub off_anew : (here : Option Waker) (w : World) (c : Call) (d : Choice) (x : plain.Call Output Waker) → IsCallIn here w c x
+      → is_on_executor c ≡ false → IsLaterAnew d x q z
+  off_anew here w c d x (within.poll_tick t b) off = absurd cc
+  off_anew here w c d x (within.spawn m) off = tt
+  off_anew here w c d x within.try_tick off = tt
+  off_anew here w c d x within.is_empty off = tt
+  off_anew here w c d x (within.use_waker k f is) off = tt
+  off_anew here w c d x (within.wake k f is) off = tt
+  off_anew here w c d x (within.copy k f is) off = tt
+  off_anew here w c d x (within.release k f is) off = tt
+  off_anew here w c d x (within.keep f is) off = tt
+  off_anew here w c d x (within.wake_self f is) off = tt
+  off_anew here w c d x (within.poll_handle f b) off = tt
+  off_anew here w c d x (within.cancel f) off = tt
+  off_anew here w c d x (within.detach f) off = tt
+  off_anew here w c d x (within.drop_handle f) off = tt
+  off_anew here w c d x within.new_tick off = tt
+  off_anew here w c d x (within.drop_tick t) off = tt
+  off_anew here w c d x within.new_run off = tt
+  off_anew here w c d x (within.poll_run k b) off = tt
+  off_anew here w c d x (within.drop_run k) off = tt
+  off_anew here w c d x within.leak off = tt

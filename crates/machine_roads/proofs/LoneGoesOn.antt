@@ -36,7 +36,8 @@ use Rattle.machine_roads.proofs.LoneRunsOn.{from_after, takes_on}
 use Rattle.machine_roads.proofs.LoneTaking.{end_is, over_keeps_none}
 use Rattle.machine_roads.proofs.Passing.{telling}
 use Rattle.machine_roads.proofs.Runs.{over_is}
-use Rattle.machine_roads.proofs.RunsOn.{After, Between, goes_from}
+use Rattle.machine_roads.specs.Searching.{start_of}
+use Rattle.machine_roads.proofs.RunsOn.{After, Between, anyhow, goes_from}
 use Rattle.machine_roads.proofs.Tying.{LeadsSo}
 
 -- it has taken fewer than 200
@@ -109,15 +110,18 @@ module _ (s : Machine) (reached : Reached s) (q : Plain Output Waker) (quiet : I
       sym (ap (λ b. if b then plain_takes.take wakes e (ByRun r a) q else plain_takes.gives_way wakes e r a q) few)
 
   abbrev S : Done → Type 0
-  S e = After p x [] q (suc (length q.lying)) t e pends_with
+  S e = After p x [] q (suc (length q.lying)) t e pends_with anyhow
 
   one_more : (n : ℕ) → n < suc n
   one_more n = omega arith
 
   leads : LeadsSo p (done own.world (op.Tick (tick_op.Search (asleep x)) ∷ [])) S
   leads hints all rests =
-      goes_from p x [] q (suc (length q.lying)) t (alone p hints (done own.world (op.Tick (tick_op.Search (asleep x)) ∷ []))) pends_with
-      refl rests c own.world q own.follows_in (one_more (length q.lying)) now refl (record { hints = hints; has = all; is = refl }) next_so
+      let search = op.Tick (tick_op.Search (asleep x)) ∷ [] in
+      goes_from p x [] q (suc (length q.lying)) t (alone p hints (done own.world search)) pends_with
+      anyhow refl rests c (start_of p hints (done own.world search)) own.world q own.follows_in (one_more (length q.lying)) now refl
+      (record { way = record { hints = hints; has = all; is = refl }; starts = refl }) next_so
+      (λ d said. tt)
 
   rested : Rests p S new
   rested =

@@ -41,8 +41,8 @@ use Rattle.machine_roads.specs.Stopped.{IsInPoll}
 use Rattle.machine_roads.proofs.LoneRuns.{InCode, Inside, IsBefore, Rests, Whole, before, goes_on_of}
 use Rattle.machine_roads.proofs.Passing.{GoesBy, passed, stood, telling}
 use Rattle.machine_roads.proofs.Pending.{gives_so, pends_by}
-use Rattle.machine_roads.proofs.RunEnding.{dropped_by, drops_with, loses_with, lost_by}
-use Rattle.machine_roads.proofs.RunsOn.{After, Between, between_stays, ends, goes_on as runs_on, takes}
+use Rattle.machine_roads.proofs.RunEnding.{behind_dropped, behind_lost, dropped_by, drops_with, loses_with, lost_by}
+use Rattle.machine_roads.proofs.RunsOn.{After, Between, anyhow, between_stays, ends, goes_on as runs_on, takes}
 use Rattle.machine_roads.proofs.Tying.{LeadsSo}
 
 -- the same but for the code in which it stands
@@ -120,37 +120,39 @@ module _ (p : ℕ) (new : Machine) (later : new.world.gone ≡ false) (at_last :
     -- it has taken the next one, has let others go first, or has lain down
     pub from_after : (e : plain_calls.Call Output Waker) (r : Plain Output Waker) → is_end r.inside e ≡ true
         → (b : Plain Output Waker) → b.inside ≡ codes
-        → Rests p (λ d. After p x [] b (tells_for r) t d (λ d. does wakes d e r)) new → Result r
+        → Rests p (λ d. After p x [] b (tells_for r) t d (λ d. does wakes d e r) anyhow) new → Result r
     from_after e r it b same (Whole so) = by so
       where
-        by : After p x [] b (tells_for r) t (done new.world []) (λ d. does wakes d e r) → Result r
-        by (takes d l stands now) =
+        by : After p x [] b (tells_for r) t (done new.world []) (λ d. does wakes d e r) anyhow → Result r
+        by (takes d l stands now said) =
             let d1 = telling (tells_for r) d in
             once_more d1 e r it refl (on l b (does wakes d1 e r) same now (Whole stands))
-        by (ends d next follows inside) =
+        by (ends d next follows inside said) =
             let d1 = telling (tells_for r) d in
             once_more d1 e r it refl (ends_here (does wakes d1 e r) (inside ∙ same) follows)
     from_after e r it b same (Inside y) = by y.so
       where
-        by : After p x [] b (tells_for r) t (done y.machine.world (y.first ∷ y.rest)) (λ d. does wakes d e r) → Result r
-        by (takes d l stands now) =
+        by : After p x [] b (tells_for r) t (done y.machine.world (y.first ∷ y.rest)) (λ d. does wakes d e r) anyhow → Result r
+        by (takes d l stands now said) =
             let d1 = telling (tells_for r) d in
             once_more d1 e r it refl
             (on l b (does wakes d1 e r) same now
-            (Inside (again p new (λ d. After p x [] b (tells_for r) t d (λ d. does wakes d e r))
+            (Inside (again p new (λ d. After p x [] b (tells_for r) t d (λ d. does wakes d e r) anyhow)
             (λ d. StandsSo taker (goes_on_by x l) [] b d (does wakes d1 e r)) y stands)))
-        by (ends d next follows inside) = absurd cc
+        by (ends d next follows inside said) = absurd cc
 
     -- or more user code has come before that
     data Left (So : Plain Output Waker → Done → Type 0) (b : Plain Output Waker) (n : ℕ) (will : Choice → Plain Output Waker) (e : Done)
         : Type 0 where
-      goes : After p x [] b n t e will → Left So b n will e
+      goes : After p x [] b n t e will anyhow → Left So b n will e
       still : So (will (telling n c)) e → Now (will (telling n c)) → Left So b n will e
 
     left_by : (So : Plain Output Waker → Done → Type 0) (b : Plain Output Waker) (n : ℕ) (will : Choice → Plain Output Waker) (e : Done)
-        → is_resting e.next ≡ true → length b.lying < n → Now b → GoesBy p taker final [] b n e will (λ z. So z e) → Left So b n will e
-    left_by So b n will e rests fit now (passed so) = goes (runs_on p x [] b n t e will refl rests c last fit now so)
-    left_by So b n will e rests fit now (stood so stays) =
+        → is_resting e.next ≡ true → length b.lying < n → Now b → (behind : Choice → Option (Plain Output Waker))
+        → GoesBy p taker final [] b n e will behind (λ z. So z e) → Left So b n will e
+    left_by So b n will e rests fit now behind (passed so) =
+        goes (runs_on p x [] b n t e will anyhow refl rests c behind last fit now so (λ d said. tt) (λ it none. tt))
+    left_by So b n will e rests fit now behind (stood so stays none) =
         still (so c) (between_stays x.run last t b (will (telling n c)) (stays c) now)
 
     from_left : (So : Plain Output Waker → Done → Type 0) (e : plain_calls.Call Output Waker) (r : Plain Output Waker)
@@ -172,7 +174,7 @@ module _ (p : ℕ) (new : Machine) (later : new.world.gone ≡ false) (at_last :
         by : Left So b (tells_for r) (λ d. does wakes d e r) (done y.machine.world (y.first ∷ y.rest)) → Result r
         by (goes so) =
             from_after e r it b same
-            (Inside (again p new R (λ d. After p x [] b (tells_for r) t d (λ d. does wakes d e r)) y so))
+            (Inside (again p new R (λ d. After p x [] b (tells_for r) t d (λ d. does wakes d e r) anyhow) y so))
         by (still so now) =
             let d1 = telling (tells_for r) c in
             once_more d1 e r it refl (more (does wakes d1 e r) now (Inside (again p new R (λ d. So (does wakes d1 e r) d) y so)))
@@ -189,14 +191,14 @@ module _ (p : ℕ) (new : Machine) (later : new.world.gone ≡ false) (at_last :
             let m = y.machine in
             let os = rest_of (task m.world f).awaiter f final ++ [] in
             let both = cons_is y.first (op.User (user_op.DropOutput f)) y.rest os next in
-            let r0 : Plain Output Waker = record r { inside = codes } in
-            let r1 : Plain Output Waker = record r { inside = Lose awaiter (Some taker) ∷ codes } in
+            let outer : Plain Output Waker = record r { inside = codes } in
+            let inner : Plain Output Waker = record r { inside = Lose awaiter (Some taker) ∷ codes } in
             let n = tells_for r in
             let c1 = telling n c in
-            let is : r1 ≡ r =
+            let is : inner ≡ r =
             ap (λ (codes : List (Code Output Waker)). record r { inside = codes })
             (ap (λ (codes : List (Code Output Waker)). Lose awaiter (Some taker) ∷ codes) (sym same) ∙ sym inside) in
-            let ending0 : IsEnding m.world f awaiter r0 =
+            let ending0 : IsEnding m.world f awaiter outer =
             record {
               known = ending.known;
               over = ending.over;
@@ -208,16 +210,16 @@ module _ (p : ℕ) (new : Machine) (later : new.world.gone ≡ false) (at_last :
                   stands_in codes (without_run f m.world) r ending.follows
                   (sym (ap (λ codes. waking_in codes) inside ∙ ap (λ codes. waking_in codes) same));
             } in
-            let S : Done → Type 0 = λ e. After p x [] r0 n t e (λ d. does wakes d Ends r1) in
+            let S : Done → Type 0 = λ e. After p x [] outer n t e (λ d. does wakes d Ends inner) anyhow in
             let leads : LeadsSo p (done m.world os) S =
             λ hints all rests.
-            runs_on p x [] r0 n t (alone p hints (done m.world os)) (loses_with taker awaiter r0) refl rests c last (most r0)
-            (between_inside x.run last t r codes now)
-            (lost_by taker final p f [] m.world r0 awaiter c1 ending0 (least r0) hints all rests) in
+            runs_on p x [] outer n t (alone p hints (done m.world os)) (loses_with taker awaiter outer) anyhow refl rests c
+            (behind_lost awaiter outer) last (most outer) (between_inside x.run last t r codes now)
+            (lost_by taker final p f [] m.world outer awaiter c1 ending0 (least outer) hints all rests) (λ d said. tt) (λ it none. tt) in
             let here : LeadsSo p (done (react p y.first y.end m.world).world ((react p y.first y.end m.world).next ++ y.rest)) S =
             subst (λ o. LeadsSo p (done (react p o y.end m.world).world ((react p o y.end m.world).next ++ y.rest)) S) (sym both.0)
             (subst (λ os. LeadsSo p (done m.world os) S) (sym both.1) leads) in
-            subst Result is (from_after Ends r1 refl r0 refl (goes_on (λ e. Drops taker final [] f b e r) S y here))
+            subst Result is (from_after Ends inner refl outer refl (goes_on (λ e. Drops taker final [] f b e r) S y here))
 
     -- so does the drop of a future
     from_drop : (R : Done → Type 0) (y : InCode p R new) (f : ℕ) (mv : Move) (why : End Output) → IsGoing y.machine.world f mv why
@@ -227,23 +229,23 @@ module _ (p : ℕ) (new : Machine) (later : new.world.gone ≡ false) (at_last :
         let m = y.machine in
         let os = op.Table (table_op.LeaveTable f) ∷ op.Move mv f ∷ final ∷ [] in
         let both = cons_is y.first (op.User (user_op.Drop f)) y.rest os next in
-        let r0 : Plain Output Waker = record r { inside = codes } in
-        let r1 : Plain Output Waker = record r { inside = Drop f why taker ∷ codes } in
+        let outer : Plain Output Waker = record r { inside = codes } in
+        let inner : Plain Output Waker = record r { inside = Drop f why taker ∷ codes } in
         let n = tells_for r in
-        let is : r1 ≡ r = ap (λ (codes : List (Code Output Waker)). record r { inside = codes }) (sym inside) in
-        let So : Plain Output Waker → Done → Type 0 = λ z d. Drops taker final [] f r0 d z in
-        let S : Done → Type 0 = λ e. Left So r0 n (λ d. does wakes d Ends r1) e in
+        let is : inner ≡ r = ap (λ (codes : List (Code Output Waker)). record r { inside = codes }) (sym inside) in
+        let So : Plain Output Waker → Done → Type 0 = λ z d. Drops taker final [] f outer d z in
+        let S : Done → Type 0 = λ e. Left So outer n (λ d. does wakes d Ends inner) e in
         let leads : LeadsSo p (done m.world os) S =
         λ hints all rests.
-        left_by So r0 n (drops_with taker f why r0) (alone p hints (done m.world os)) rests (most r0)
-        (between_inside x.run last t r codes now)
-        (dropped_by p [] m.world r0 refl (stands_in codes m.world r follows (sym (ap (λ codes. waking_in codes) inside))) taker final
-        f mv why going.known going.entered going.ends (telling n c) (least r0) hints all rests) in
+        left_by So outer n (drops_with taker f why outer) (alone p hints (done m.world os)) rests (most outer)
+        (between_inside x.run last t r codes now) (behind_dropped f why outer)
+        (dropped_by p [] m.world outer refl (stands_in codes m.world r follows (sym (ap (λ codes. waking_in codes) inside))) taker final
+        f mv why going.known going.entered going.ends (telling n c) (least outer) hints all rests) in
         let here : LeadsSo p (done (react p y.first y.end m.world).world ((react p y.first y.end m.world).next ++ y.rest)) S =
         subst (λ o. LeadsSo p (done (react p o y.end m.world).world ((react p o y.end m.world).next ++ y.rest)) S) (sym both.0)
         (subst (λ os. LeadsSo p (done m.world os) S) (sym both.1) leads) in
         subst Result is
-        (from_left So Ends r1 refl r0 refl (λ z now rests. from_loss f r0 z refl now rests) (goes_on R S y here))
+        (from_left So Ends inner refl outer refl (λ z now rests. from_loss f outer z refl now rests) (goes_on R S y here))
 
     -- so does the drop of a future that nobody could wake any more
     from_forgotten : (f : ℕ) (b r : Plain Output Waker) → b.inside ≡ codes → Now b → Rests p (λ e. Forgets taker final [] f b e r) new
@@ -256,14 +258,14 @@ module _ (p : ℕ) (new : Machine) (later : new.world.gone ≡ false) (at_last :
         let m = y.machine in
         let os = op.Table (table_op.LeaveTable f) ∷ op.Handle (handle_op.LetGo f) ∷ final ∷ [] in
         let both = cons_is y.first (op.User (user_op.Drop f)) y.rest os y.so.stops.left in
-        let r0 : Plain Output Waker = record r { inside = codes } in
-        let r1 : Plain Output Waker = record r { inside = Drop f Closed taker ∷ codes } in
+        let outer : Plain Output Waker = record r { inside = codes } in
+        let inner : Plain Output Waker = record r { inside = Drop f Closed taker ∷ codes } in
         let n = tells_for r in
-        let is : r1 ≡ r =
+        let is : inner ≡ r =
         ap (λ (codes : List (Code Output Waker)). record r { inside = codes })
         (ap (λ (codes : List (Code Output Waker)). Drop f Closed taker ∷ codes) (sym same) ∙ sym y.so.stops.inside) in
         let it_is = y.so.stops.forgotten in
-        let forgotten0 : IsForgotten m.world f r0 =
+        let forgotten0 : IsForgotten m.world f outer =
         record {
           known = it_is.known;
           entered = it_is.entered;
@@ -278,16 +280,18 @@ module _ (p : ℕ) (new : Machine) (later : new.world.gone ≡ false) (at_last :
               (sym (ap (λ codes. waking_in codes) (put_by (λ p. p.inside) f (record (plain_task f r) { awaiter = None }) r (λ fs. refl))
               ∙ (ap (λ codes. waking_in codes) y.so.stops.inside ∙ ap (λ codes. waking_in codes) same))));
         } in
-        let S : Done → Type 0 = λ e. After p x [] r0 n t e (λ d. does wakes d Ends r1) in
+        let S : Done → Type 0 = λ e. After p x [] outer n t e (λ d. does wakes d Ends inner) anyhow in
         let leads : LeadsSo p (done m.world os) S =
         λ hints all rests.
-        runs_on p x [] r0 n t (alone p hints (done m.world os)) (forgets_with taker f r0) refl rests c last (most r0)
-        (between_inside x.run last t r codes (between_stays x.run last t b r y.so.stay now))
-        (forgotten_by taker final p f [] m.world r0 (telling n c) forgotten0 (least r0) hints all rests) in
+        runs_on p x [] outer n t (alone p hints (done m.world os)) (forgets_with taker f outer) anyhow refl rests c
+        (behind_dropped f Closed outer) last (most outer) (between_inside x.run last t r codes
+        (between_stays x.run last t b r y.so.stay now))
+        (forgotten_by taker final p f [] m.world outer (telling n c) forgotten0 (least outer) hints all rests) (λ d said. tt)
+        (λ it none. tt) in
         let here : LeadsSo p (done (react p y.first y.end m.world).world ((react p y.first y.end m.world).next ++ y.rest)) S =
         subst (λ o. LeadsSo p (done (react p o y.end m.world).world ((react p o y.end m.world).next ++ y.rest)) S) (sym both.0)
         (subst (λ os. LeadsSo p (done m.world os) S) (sym both.1) leads) in
-        subst Result is (from_after Ends r1 refl r0 refl (goes_on (λ e. Forgets taker final [] f b e r) S y here))
+        subst Result is (from_after Ends inner refl outer refl (goes_on (λ e. Forgets taker final [] f b e r) S y here))
       where
         unawaited_in : (f : ℕ) (r : Plain Output Waker)
             → record (unawaited f r) { inside = codes } ≡ unawaited f (record r { inside = codes })
@@ -328,19 +332,19 @@ module _ (p : ℕ) (new : Machine) (later : new.world.gone ≡ false) (at_last :
         both : (y.first ≡ op.User (user_op.Poll f)) × (y.rest ≡ final ∷ [])
         both = cons_is y.first (op.User (user_op.Poll f)) y.rest (final ∷ []) next
 
-        r0 : Plain Output Waker
-        r0 = record r { inside = codes }
+        outer : Plain Output Waker
+        outer = record r { inside = codes }
 
-        r1 : Plain Output Waker
-        r1 = record r { inside = Poll f taker ∷ codes }
+        inner : Plain Output Waker
+        inner = record r { inside = Poll f taker ∷ codes }
 
-        is : r1 ≡ r
+        is : inner ≡ r
         is = ap (λ (codes : List (Code Output Waker)). record r { inside = codes }) (sym inside)
 
-        follows0 : Follows y.machine.world r0
+        follows0 : Follows y.machine.world outer
         follows0 = stands_in codes y.machine.world r follows (sym (ap (λ codes. waking_in codes) inside))
 
-        now0 : Now r0
+        now0 : Now outer
         now0 = between_inside x.run last t r codes now
 
         n : ℕ
@@ -363,36 +367,36 @@ module _ (p : ℕ) (new : Machine) (later : new.world.gone ≡ false) (at_last :
             ((react p (op.User (user_op.Poll f)) e y.machine.world).next ++ os)) S)
             (sym both.1) leads))
 
-        by : (e : UserEnd) → y.end ≡ e → accepts (op.User (user_op.Poll f)) e ≡ true → Result r1
+        by : (e : UserEnd) → y.end ≡ e → accepts (op.User (user_op.Poll f)) e ≡ true → Result inner
         by (end.Polled answer.Pending) at ok = pends (is_last_waker move.EndPending (world.task y.machine.world f)) refl
           where
-            pends : (b : Bool) → is_last_waker move.EndPending (world.task y.machine.world f) ≡ b → Result r1
+            pends : (b : Bool) → is_last_waker move.EndPending (world.task y.machine.world f) ≡ b → Result inner
             pends false reached =
-                let So : Plain Output Waker → Done → Type 0 = λ z d. StaysSo taker final [] r0 d z in
-                let S : Done → Type 0 = λ e. Left So r0 n (λ d. does wakes d Pends r1) e in
+                let So : Plain Output Waker → Done → Type 0 = λ z d. StaysSo taker final [] outer d z in
+                let S : Done → Type 0 = λ e. Left So outer n (λ d. does wakes d Pends inner) e in
                 let in_poll : IsInPoll y.machine.world f =
                 record { known = taken.known; polled = taken.polled; entered = taken.entered; reached = reached } in
-                from_left So Pends r1 refl r0 refl (λ z now rests. from_stays r0 z refl now rests)
+                from_left So Pends inner refl outer refl (λ z now rests. from_stays outer z refl now rests)
                 (goes_on R S y (here (end.Polled answer.Pending) S at
                 (λ hints all rests.
-                left_by So r0 n (λ d. does wakes d Pends r1) _ rests (most r0) now0
-                (pends_by p [] y.machine.world r0 refl follows0 taker final f in_poll c1 (least r0) hints all rests))))
+                left_by So outer n (λ d. does wakes d Pends inner) _ rests (most outer) now0 _
+                (pends_by p [] y.machine.world outer refl follows0 taker final f in_poll c1 (least outer) hints all rests))))
             pends true last_one =
-                let S : Done → Type 0 = λ e. Forgets taker final [] f r0 e (does wakes c1 Pends r1) in
+                let S : Done → Type 0 = λ e. Forgets taker final [] f outer e (does wakes c1 Pends inner) in
                 let last_poll : IsLastPoll y.machine.world f =
                 record { known = taken.known; polled = taken.polled; entered = taken.entered; last = last_one } in
-                once_more c1 Pends r1 refl refl
-                (from_forgotten f r0 (does wakes c1 Pends r1) refl now0
+                once_more c1 Pends inner refl refl
+                (from_forgotten f outer (does wakes c1 Pends inner) refl now0
                 (goes_on R S y (here (end.Polled answer.Pending) S at
-                (λ hints all rests. forgets_by p [] y.machine.world r0 refl follows0 taker final f last_poll c1 hints all rests))))
+                (λ hints all rests. forgets_by p [] y.machine.world outer refl follows0 taker final f last_poll c1 hints all rests))))
         by (end.Polled answer.Ready) at ok =
-            let S : Done → Type 0 = λ e. StaysSo taker final [] r0 e (does wakes c1 (EndsWith tt) r1) in
-            let new_one = does wakes c1 (EndsWith tt) r1 in
-            once_more c1 (EndsWith tt) r1 refl refl
-            (from_stays r0 new_one refl
-            (between_stays x.run last t r0 new_one (record { runs = refl; kept = λ k. refl; lying = refl }) now0)
+            let S : Done → Type 0 = λ e. StaysSo taker final [] outer e (does wakes c1 (EndsWith tt) inner) in
+            let new_one = does wakes c1 (EndsWith tt) inner in
+            once_more c1 (EndsWith tt) inner refl refl
+            (from_stays outer new_one refl
+            (between_stays x.run last t outer new_one (record { runs = refl; kept = λ k. refl; lying = refl }) now0)
             (goes_on R S y (here (end.Polled answer.Ready) S at
-            (λ hints all rests. (gives_so p [] y.machine.world r0 refl follows0 taker final f c1 hints all rests).0 taken))))
+            (λ hints all rests. (gives_so p [] y.machine.world outer refl follows0 taker final f c1 hints all rests).0 taken))))
         by e at ok = absurd cc
 
     -- from where it rests first

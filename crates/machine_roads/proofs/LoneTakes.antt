@@ -64,9 +64,12 @@ lone_tick_is_polled = each LoneTickIsPolled (λ s reached q quiet follows p t c 
     (does wakes (record c { refusal = r }) (PollTick t a) q) in
     first_rest s new reached p (call.PollTick t b) steps so lone
     (lone_calls_rest s reached p (call.PollTick t b) steps new so quiet later
-    (λ hints all rests. polls_tick p None [] s.world q refl follows c t b first room
+    (λ hints all rests.
+    let so =
+    polls_tick p None [] s.world q refl follows c t b first room
     (can_poll s reached p t b (may_begin s p (call.PollTick t b) (run-first (Begin p (call.PollTick t b)) steps s new lone.made).0))
-    hints all rests) lone))
+    hints all rests in
+    (so.0, so.2)) lone))
 
 -- a lone leak is one of an executor that isn't static
 pub leaks_so : (s : Machine) → Reached s → (q : Plain Output Waker) → IsQuiet s.world.trace → Follows s.world q → LoneLeaks s q

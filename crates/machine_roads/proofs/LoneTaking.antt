@@ -129,8 +129,8 @@ module _ (s : Machine) (reached : Reached s) (q : Plain Output Waker) (quiet : I
           k.3,
           subst
               (λ z. Stops (ByRun r a) (goes_on_by x k.1) [] q (alone p hints (done own.world (op.Tick (tick_op.Search (asleep x)) ∷ [])))
-              (does wakes k.0 Pends z)) (sym polled) k.4,
-          subst (λ z. IsLast r k.1 (does wakes k.0 Pends z)) (sym polled) k.5,
+              (does wakes k.0 Pends z)) (sym polled) k.5,
+          subst (λ z. IsLast r k.1 (does wakes k.0 Pends z)) (sym polled) k.6,
         )
 
     takes : RestsFirst p S new

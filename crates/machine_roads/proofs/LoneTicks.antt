@@ -113,8 +113,9 @@ lone_tick_lies = each LoneTickLies (λ s reached q quiet follows p t c b steps f
     (λ e. (r : Refusal) × Stops (Tick t a) (op.End reply.Ready (hold.Tick t)) [] q e
     (does wakes (record c { refusal = r }) (PollTick t a) q))
     quiet later
-    (λ hints all rests. polls_tick p None [] s.world q refl follows c t b first room (can_poll s reached p t b may) hints all
-    rests)
+    (λ hints all rests.
+    let so = polls_tick p None [] s.world q refl follows c t b first room (can_poll s reached p t b may) hints all rests in
+    (so.0, so.2))
     lone))
   where
     impossible : (o : Op) (os : List Op) → o ∷ os ≡ [] → ⊥

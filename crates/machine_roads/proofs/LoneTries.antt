@@ -44,7 +44,7 @@ use Rattle.machine_roads.proofs.LyingDown.{polls_tick_so}
 use Rattle.machine_roads.proofs.Passing.{passes_end}
 use Rattle.machine_roads.proofs.Pending.{gives_so, pends_so}
 use Rattle.machine_roads.proofs.Puts.{put_at, put_by}
-use Rattle.machine_roads.proofs.RunEnding.{drops, loses_with, lost_by}
+use Rattle.machine_roads.proofs.RunEnding.{behind_dropped, behind_lost, drops, loses_with, lost_by}
 use Rattle.machine_roads.proofs.Standing.{Answered, Behind, InDrop, InPoll, IsGoing, IsTaken, Stands, StandsSo, Stays, StaysSo}
 use Rattle.machine_roads.proofs.Trying.{tries_so, yes}
 use Rattle.machine_roads.proofs.Tying.{AtEnd, Leads, LeadsSo}
@@ -91,13 +91,13 @@ module _ (p : ℕ) (new : Machine) (later : new.world.gone ≡ false) (last : Re
           let m = x.machine in
           let both =
           cons_is x.first (op.User (user_op.DropOutput f)) x.rest (rest_of (task m.world f).awaiter f final ++ []) next in
-          let r0 : Plain Output Waker = record r { inside = codes } in
-          let r1 : Plain Output Waker = record r { inside = Lose awaiter (Some taker) ∷ codes } in
+          let outer : Plain Output Waker = record r { inside = codes } in
+          let inner : Plain Output Waker = record r { inside = Lose awaiter (Some taker) ∷ codes } in
           let c1 = telling r in
-          let is : r1 ≡ r =
+          let is : inner ≡ r =
           ap (λ (codes : List (Code Output Waker)). record r { inside = codes })
           (ap (λ (codes : List (Code Output Waker)). Lose awaiter (Some taker) ∷ codes) (sym same) ∙ sym inside) in
-          let ending0 : IsEnding m.world f awaiter r0 =
+          let ending0 : IsEnding m.world f awaiter outer =
           record {
             known = ending.known;
             over = ending.over;
@@ -109,20 +109,21 @@ module _ (p : ℕ) (new : Machine) (later : new.world.gone ≡ false) (last : Re
                 stands_in codes (without_run f m.world) r ending.follows
                 (sym (ap (λ codes. waking_in codes) inside ∙ ap (λ codes. waking_in codes) same));
           } in
-          let P : World → Type 0 = Leaves (does wakes c1 Ends r1) in
+          let P : World → Type 0 = Leaves (does wakes c1 Ends inner) in
           let os = rest_of (task m.world f).awaiter f final ++ [] in
           let leads : Leads p (done m.world os) P =
           λ hints all rests.
           let e =
-          passes_end p [] refl (alone p hints (done m.world os)) rests taker final r0 (it r0) c1 (loses_with taker awaiter r0)
-          (lost_by taker final p f [] m.world r0 awaiter c1 ending0 (least (length r.lying)) hints all rests) in
+          passes_end p [] refl (alone p hints (done m.world os)) rests taker final outer (it outer) c1 (loses_with taker awaiter outer)
+          (behind_lost awaiter outer) (lost_by taker final p f [] m.world outer awaiter c1 ending0 (least (length r.lying)) hints all
+          rests) in
           (e.0, record { follows = e.1; inside = e.2 }) in
           let now : Leads p (done (react p x.first x.end m.world).world ((react p x.first x.end m.world).next ++ x.rest)) P =
           subst (λ o. Leads p (done (react p o x.end m.world).world ((react p o x.end m.world).next ++ x.rest)) P) (sym both.0)
           (subst (λ os. Leads p (done m.world os) P) (sym both.1) leads) in
           let ended = ends_so p P new (goes_on (λ e. Drops taker final [] f b e r) (AtEnd P) x now) in
           subst Result is
-          (once_more Ends r1 refl (does wakes c1 Ends r1, over (does wakes c1 Ends r1), ended.inside, ended.follows))
+          (once_more Ends inner refl (does wakes c1 Ends inner, over (does wakes c1 Ends inner), ended.inside, ended.follows))
 
   -- so does the drop of a future
   from_drop : (R : Done → Type 0) (x : InCode p R new) (f : ℕ) (mv : Move) (why : End Output) → IsGoing x.machine.world f mv why
@@ -132,19 +133,20 @@ module _ (p : ℕ) (new : Machine) (later : new.world.gone ≡ false) (last : Re
       let m = x.machine in
       let os = op.Table (table_op.LeaveTable f) ∷ op.Move mv f ∷ final ∷ [] in
       let both = cons_is x.first (op.User (user_op.Drop f)) x.rest os next in
-      let r0 : Plain Output Waker = record r { inside = codes } in
-      let r1 : Plain Output Waker = record r { inside = Drop f why taker ∷ codes } in
+      let outer : Plain Output Waker = record r { inside = codes } in
+      let inner : Plain Output Waker = record r { inside = Drop f why taker ∷ codes } in
       let c1 = telling r in
-      let is : r1 ≡ r = ap (λ (codes : List (Code Output Waker)). record r { inside = codes }) (sym inside) in
-      let S : Done → Type 0 = λ e. Drops taker final [] f r0 e (does wakes c1 Ends r1) in
+      let is : inner ≡ r = ap (λ (codes : List (Code Output Waker)). record r { inside = codes }) (sym inside) in
+      let S : Done → Type 0 = λ e. Drops taker final [] f outer e (does wakes c1 Ends inner) in
       let leads : LeadsSo p (done m.world os) S =
       λ hints all rests.
-      drops p None [] m.world r0 refl (stands_in codes m.world r follows (sym (ap (λ codes. waking_in codes) inside))) taker final (it r0)
+      drops p None [] m.world outer refl (stands_in codes m.world r follows (sym (ap (λ codes. waking_in codes) inside))) taker final
+      (it outer)
       f mv why going.known going.entered going.ends c1 (least (length r.lying)) hints all rests in
       let now : LeadsSo p (done (react p x.first x.end m.world).world ((react p x.first x.end m.world).next ++ x.rest)) S =
       subst (λ o. LeadsSo p (done (react p o x.end m.world).world ((react p o x.end m.world).next ++ x.rest)) S) (sym both.0)
       (subst (λ os. LeadsSo p (done m.world os) S) (sym both.1) leads) in
-      subst Result is (once_more Ends r1 refl (from_loss f r0 (does wakes c1 Ends r1) refl (goes_on R S x now)))
+      subst Result is (once_more Ends inner refl (from_loss f outer (does wakes c1 Ends inner) refl (goes_on R S x now)))
 
   -- so does the drop of a future that nobody could wake any more
   from_forgotten : (f : ℕ) (b r : Plain Output Waker) → b.inside ≡ codes → Rests p (λ e. StopsForgetting taker final [] f b e r) new
@@ -157,14 +159,14 @@ module _ (p : ℕ) (new : Machine) (later : new.world.gone ≡ false) (last : Re
       let m = x.machine in
       let os = op.Table (table_op.LeaveTable f) ∷ op.Handle (handle_op.LetGo f) ∷ final ∷ [] in
       let both = cons_is x.first (op.User (user_op.Drop f)) x.rest os x.so.left in
-      let r0 : Plain Output Waker = record r { inside = codes } in
-      let r1 : Plain Output Waker = record r { inside = Drop f Closed taker ∷ codes } in
+      let outer : Plain Output Waker = record r { inside = codes } in
+      let inner : Plain Output Waker = record r { inside = Drop f Closed taker ∷ codes } in
       let c1 = telling r in
-      let is : r1 ≡ r =
+      let is : inner ≡ r =
       ap (λ (codes : List (Code Output Waker)). record r { inside = codes })
       (ap (λ (codes : List (Code Output Waker)). Drop f Closed taker ∷ codes) (sym same) ∙ sym x.so.inside) in
       let it_is = x.so.forgotten in
-      let forgotten0 : IsForgotten m.world f r0 =
+      let forgotten0 : IsForgotten m.world f outer =
       record {
         known = it_is.known;
         entered = it_is.entered;
@@ -179,20 +181,21 @@ module _ (p : ℕ) (new : Machine) (later : new.world.gone ≡ false) (last : Re
             (sym (ap (λ codes. waking_in codes) (put_by (λ p. p.inside) f (record (plain_task f r) { awaiter = None }) r (λ fs. refl))
             ∙ (ap (λ codes. waking_in codes) x.so.inside ∙ ap (λ codes. waking_in codes) same))));
       } in
-      let P : World → Type 0 = Leaves (does wakes c1 Ends r1) in
+      let P : World → Type 0 = Leaves (does wakes c1 Ends inner) in
       let leads : Leads p (done m.world os) P =
       λ hints all rests.
       let e =
-      passes_end p [] refl (alone p hints (done m.world os)) rests taker final r0 (it r0) c1 (forgets_with taker f r0)
-      (forgotten_by taker final p f [] m.world r0 c1 forgotten0 (least (length r.lying)) hints all rests) in
+      passes_end p [] refl (alone p hints (done m.world os)) rests taker final outer (it outer) c1 (forgets_with taker f outer)
+      (behind_dropped f Closed outer) (forgotten_by taker final p f [] m.world outer c1 forgotten0 (least (length r.lying)) hints all
+      rests) in
       (e.0, record { follows = e.1; inside = e.2 }) in
       let now : Leads p (done (react p x.first x.end m.world).world ((react p x.first x.end m.world).next ++ x.rest)) P =
       subst (λ o. Leads p (done (react p o x.end m.world).world ((react p o x.end m.world).next ++ x.rest)) P) (sym both.0)
       (subst (λ os. Leads p (done m.world os) P) (sym both.1) leads) in
       let ended = ends_so p P new (goes_on (λ e. StopsForgetting taker final [] f b e r) (AtEnd P) x now) in
       subst Result is
-      (once_more Ends r1 refl
-      (does wakes c1 Ends r1, over (does wakes c1 Ends r1), ended.inside, ended.follows))
+      (once_more Ends inner refl
+      (does wakes c1 Ends inner, over (does wakes c1 Ends inner), ended.inside, ended.follows))
     where
       unawaited_in : (f : ℕ) (r : Plain Output Waker)
           → record (unawaited f r) { inside = codes } ≡ unawaited f (record r { inside = codes })
@@ -233,16 +236,16 @@ module _ (p : ℕ) (new : Machine) (later : new.world.gone ≡ false) (last : Re
       both : (x.first ≡ op.User (user_op.Poll f)) × (x.rest ≡ final ∷ [])
       both = cons_is x.first (op.User (user_op.Poll f)) x.rest (final ∷ []) next
 
-      r0 : Plain Output Waker
-      r0 = record r { inside = codes }
+      outer : Plain Output Waker
+      outer = record r { inside = codes }
 
-      r1 : Plain Output Waker
-      r1 = record r { inside = Poll f taker ∷ codes }
+      inner : Plain Output Waker
+      inner = record r { inside = Poll f taker ∷ codes }
 
-      is : r1 ≡ r
+      is : inner ≡ r
       is = ap (λ (codes : List (Code Output Waker)). record r { inside = codes }) (sym inside)
 
-      follows0 : Follows x.machine.world r0
+      follows0 : Follows x.machine.world outer
       follows0 = stands_in codes x.machine.world r follows (sym (ap (λ codes. waking_in codes) inside))
 
       now : (e : UserEnd) (S : Done → Type 0) → x.end ≡ e
@@ -259,37 +262,38 @@ module _ (p : ℕ) (new : Machine) (later : new.world.gone ≡ false) (last : Re
           ((react p (op.User (user_op.Poll f)) e x.machine.world).next ++ os)) S)
           (sym both.1) leads))
 
-      by : (e : UserEnd) → x.end ≡ e → accepts (op.User (user_op.Poll f)) e ≡ true → Result r1
+      by : (e : UserEnd) → x.end ≡ e → accepts (op.User (user_op.Poll f)) e ≡ true → Result inner
       by (end.Polled answer.Pending) at ok = pends (is_last_waker move.EndPending (world.task x.machine.world f)) refl
         where
           c1 : Choice
-          c1 = telling r1
+          c1 = telling inner
 
-          pends : (b : Bool) → is_last_waker move.EndPending (world.task x.machine.world f) ≡ b → Result r1
+          pends : (b : Bool) → is_last_waker move.EndPending (world.task x.machine.world f) ≡ b → Result inner
           pends false reached =
-              let S : Done → Type 0 = λ e. StaysSo taker final [] r0 e (does wakes c1 Pends r1) in
+              let S : Done → Type 0 = λ e. StaysSo taker final [] outer e (does wakes c1 Pends inner) in
               let in_poll : IsInPoll x.machine.world f =
               record { known = taken.known; polled = taken.polled; entered = taken.entered; reached = reached } in
-              once_more Pends r1 refl
-              (from_stays r0 (does wakes c1 Pends r1) refl
+              once_more Pends inner refl
+              (from_stays outer (does wakes c1 Pends inner) refl
               (goes_on R S x (now (end.Polled answer.Pending) S at
               (λ hints all rests.
-              pends_so p [] x.machine.world r0 refl follows0 taker final (it r0) f in_poll c1 (least (length r.lying)) hints all rests))))
+              pends_so p [] x.machine.world outer refl follows0 taker final (it outer) f in_poll c1 (least (length r.lying)) hints all
+              rests))))
           pends true last =
-              let S : Done → Type 0 = λ e. StopsForgetting taker final [] f r0 e (does wakes c1 Pends r1) in
+              let S : Done → Type 0 = λ e. StopsForgetting taker final [] f outer e (does wakes c1 Pends inner) in
               let last_poll : IsLastPoll x.machine.world f =
               record { known = taken.known; polled = taken.polled; entered = taken.entered; last = last } in
-              once_more Pends r1 refl
-              (from_forgotten f r0 (does wakes c1 Pends r1) refl
+              once_more Pends inner refl
+              (from_forgotten f outer (does wakes c1 Pends inner) refl
               (goes_on R S x (now (end.Polled answer.Pending) S at
-              (λ hints all rests. forgets_so p None [] x.machine.world r0 refl follows0 taker final f last_poll c1 hints all rests))))
+              (λ hints all rests. forgets_so p None [] x.machine.world outer refl follows0 taker final f last_poll c1 hints all rests))))
       by (end.Polled answer.Ready) at ok =
-          let c1 = telling r1 in
-          let S : Done → Type 0 = λ e. StaysSo taker final [] r0 e (does wakes c1 (EndsWith tt) r1) in
-          once_more (EndsWith tt) r1 refl
-          (from_stays r0 (does wakes c1 (EndsWith tt) r1) refl
+          let c1 = telling inner in
+          let S : Done → Type 0 = λ e. StaysSo taker final [] outer e (does wakes c1 (EndsWith tt) inner) in
+          once_more (EndsWith tt) inner refl
+          (from_stays outer (does wakes c1 (EndsWith tt) inner) refl
           (goes_on R S x (now (end.Polled answer.Ready) S at
-          (λ hints all rests. (gives_so p [] x.machine.world r0 refl follows0 taker final f c1 hints all rests).0 taken))))
+          (λ hints all rests. (gives_so p [] x.machine.world outer refl follows0 taker final f c1 hints all rests).0 taken))))
       by e at ok = absurd cc
 
   -- from where the call rests first

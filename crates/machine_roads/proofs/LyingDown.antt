@@ -1,8 +1,9 @@
 -- A tick that finds nothing lies down.
 use Rattle.std.proofs.Common.{◌≡◌, ℕ, ◌<◌, true, false}
 use Rattle.std.proofs.Common.{List, ◌∷◌, length, Option}
-use Rattle.std.proofs.Common.{refl, sym, subst, arith}
+use Rattle.std.proofs.Common.{if◌then◌else◌, refl, sym, ap, subst, ◌∙◌, arith}
 use Rattle.executor_parts.specs.declared.mark.Mark.{Mark}
+use Rattle.executor_parts.specs.declared.mark.Mark.TheVariants.{Plain as PlainMark, Urgent}
 use Rattle.executor_parts.specs.Marks.{first_of}
 use Rattle.executor_model.specs.declared.call.By.{By}
 use Rattle.executor_model.specs.declared.call.Call.TheVariants as call
@@ -25,12 +26,15 @@ use Rattle.plain_scheduler.specs.State.{ATick, Choice, Due, Later, Plain, Refusa
 use Rattle.plain_scheduler.specs.Lists.{any}
 use Rattle.plain_scheduler.specs.Moves.{is_common}
 use Rattle.plain_scheduler.specs.Takes as plain_takes
+use Rattle.plain_scheduler.specs.Turns.{tick_turns}
+use Rattle.plain_scheduler.specs.Usual.{vain_turns}
 use Rattle.plain_scheduler.specs.Calls.{does, PollTick}
 use Rattle.machine_roads.specs.View.{Output, wakes}
 use Rattle.machine_roads.specs.Road.{Follows}
 use Rattle.machine_roads.specs.Alone.{alone, is_resting, HasAll}
 use Rattle.machine_roads.specs.Ticking.{CanPoll, TickIsPolledAlike, polling}
 use Rattle.machine_roads.specs.Refused.{OneMoreLies}
+use Rattle.machine_roads.specs.Turning.{TakesTurns}
 use Rattle.machine_roads.proofs.Bedding.{Goes, Idles, lies_down_so}
 use Rattle.machine_roads.proofs.Changing.{logs}
 use Rattle.machine_roads.proofs.Copying.{copied_can}
@@ -62,7 +66,7 @@ module _ (p : ℕ) (below : List Op) (under : is_resting below ≡ true) (end : 
             (event.Looked p (first_of w.urgent_turns)) refl;
         place = refl;
         wakers = refl;
-        turn = refl;
+        took = record { turn = refl; counted = λ k. refl; listed = refl };
         way = searches_none p below under end rests c t a k w q follows quiet way;
       }
 
@@ -77,15 +81,22 @@ module _ (p : ℕ) (below : List Op) (under : is_resting below ≡ true) (end : 
         follows = g.follows;
       }
 
-  lies_down : (w : World) (q : Plain Output Waker) → Follows w q → length q.lying < c.tells → CanPoll w t → IsQuiet q.due
-      → Way p end w (op.Tick (tick_op.CopyWaker s) ∷ below)
-      → ComesTo p below under end rests c t a q (λ r. plain_takes.rests wakes c r (ATick t) a q)
-  lies_down w q follows room can quiet way =
+  lies_down : (early w : World) (q : Plain Output Waker) → TakesTurns 1 early w → Follows w q → length q.lying < c.tells → CanPoll w t
+      → IsQuiet q.due → Way p end w (op.Tick (tick_op.CopyWaker s) ∷ below)
+      → ComesTo p below under end rests c t a early q (λ r. plain_takes.rests wakes c r (ATick t) a q)
+  lies_down early w q took follows room can quiet way =
       let still = copied_can a w t can in
       let g =
-      lies_down_so p below under end rests c it a k IsQuiet finds_none w q follows room
-      (λ none. record { living = still.living; roomed = still.roomed }) quiet way in
-      (g.0, comes q (plain_takes.rests wakes c g.0 (ATick t) a q) g.1, g.2)
+      lies_down_so p below under end rests c it a k IsQuiet finds_none early w q follows room
+      (λ none. record { living = still.living; roomed = still.roomed }) quiet took way in (
+        g.0,
+        comes q (plain_takes.rests wakes c g.0 (ATick t) a q) g.1,
+        g.2,
+        subst (λ n. TakesTurns n early end.world)
+            (sym
+            (ap (λ b. if b then 1 else (if any (is_common Urgent) q.due then 1 else vain_turns g.0 (ATick t) q.lying)) (quiet PlainMark)
+            ∙ ap (λ b. if b then 1 else vain_turns g.0 (ATick t) q.lying) (quiet Urgent))) g.3,
+      )
 
 pub polls_tick_so : (p : ℕ) (here : Option Waker) (below : List Op) (w : World) (q : Plain Output Waker) → is_resting below ≡ true
     → Follows w q → (c : Choice) (t : ℕ) (b : By) → c.first ≡ first_of w.urgent_turns → length q.lying < c.tells → CanPoll w t
@@ -94,6 +105,7 @@ pub polls_tick_so : (p : ℕ) (here : Option Waker) (below : List Op) (w : World
     → (r : Refusal) × StandsSo (Tick t (waker_of here b)) (op.End reply.Ready (hold.Tick t)) below q
     (alone p hints (polling p here below w q t b)) (does wakes (record c { refusal = r }) (PollTick t (waker_of here b)) q)
     × (r ≡ Later → OneMoreLies q (does wakes (record c { refusal = r }) (PollTick t (waker_of here b)) q))
+    × TakesTurns (tick_turns r t q) w (alone p hints (polling p here below w q t b)).world
 polls_tick_so p here below w q under follows c t b first room can hints has rests =
     let a = waker_of here b in
     let begun = event.CallBegun p (call.PollTick t b) in
@@ -109,9 +121,11 @@ polls_tick_so p here below w q under follows c t b first room can hints has rest
     let follows1 : Follows w1 q =
     logs (record w0 { urgent_turns = w1.urgent_turns }) q (turns w1.urgent_turns w0 q follows0)
     (event.Looked p (first_of w.urgent_turns)) refl in
-    searches p below under end rests c t a k w1 q (omega (arith, room)) follows1
+    let took : TakesTurns 1 w w1 = record { turn = refl; counted = λ k. refl; listed = refl } in
+    searches p below under end rests c t a k w w1 q took (omega (arith, room)) follows1
     (λ quiet way.
-    lies_down p below under end rests c t a k w1 q follows1 room (record { living = can.living; roomed = can.roomed }) quiet way)
+    lies_down p below under end rests c t a k w w1 q took follows1 room
+    (record { living = can.living; roomed = can.roomed }) quiet way)
     (subst (λ m. Way p end w1 (op.Tick (tick_op.Look s (look.First m)) ∷ below)) (sym first) one.way)
 
 pub polls_tick : (p : ℕ) (here : Option Waker) (below : List Op) (w : World) (q : Plain Output Waker) → is_resting below ≡ true
@@ -120,6 +134,7 @@ polls_tick p here below w q under follows c t b first room can hints has rests =
     let so = polls_tick_so p here below w q under follows c t b first room can hints has rests in
     let a = waker_of here b in (
       so.0,
+      so.3,
       stops_so (Tick t a) (op.End reply.Ready (hold.Tick t)) below q (alone p hints (polling p here below w q t b))
           (does wakes (record c { refusal = so.0 }) (PollTick t a) q) so.1,
     )

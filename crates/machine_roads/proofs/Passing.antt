@@ -1,5 +1,5 @@
 -- What comes behind the poll or the drop of a future that was taken, whoever took it: what takes goes on, or more user code comes.
-use Rattle.std.proofs.Common.{◌≡◌, ℕ, ◌≤◌, true, List, ◌∷◌, length, slice_get, sym, ap, subst, ◌∙◌}
+use Rattle.std.proofs.Common.{◌≡◌, ℕ, ◌≤◌, true, List, ◌∷◌, length, slice_get, Option, Some, None, sym, ap, subst, ◌∙◌}
 use Rattle.executor_model.specs.declared.op.Op.{Op}
 use Rattle.executor_model.specs.declared.op.Waker.{Waker}
 use Rattle.executor_model.specs.World.{Done}
@@ -21,7 +21,7 @@ abbrev pub telling : ℕ → Choice → Choice
 telling n d = record d { tells = n }
 
 module _ (p : ℕ) (taker : Taker Waker) (final : Op) (below : List Op) (q : Plain Output Waker) (n : ℕ) (end : Done)
-    (new : Choice → Plain Output Waker) where
+    (new : Choice → Plain Output Waker) (behind : Choice → Option (Plain Output Waker)) where
   -- only what takes is left to do; so the plain scheduler stands before it goes on, which it does by any choice that tells alike
   pub record Passes : Type 0 where
     pub before : Plain Output Waker
@@ -30,10 +30,12 @@ module _ (p : ℕ) (taker : Taker Waker) (final : Op) (below : List Op) (q : Pla
     pub inside : before.inside ≡ q.inside
     pub stay : RunsStay q before
     pub is : (d : Choice) → new (telling n d) ≡ plain_takes.next wakes (telling n d) taker before
+    pub at : (d : Choice) → behind (telling n d) ≡ Some before
 
   pub data GoesBy (So : Plain Output Waker → Type 0) : Type 0 where
     passed : Passes → GoesBy So
-    stood : ((d : Choice) → So (new (telling n d))) → ((d : Choice) → RunsStay q (new (telling n d))) → GoesBy So
+    stood : ((d : Choice) → So (new (telling n d))) → ((d : Choice) → RunsStay q (new (telling n d)))
+        → ((d : Choice) → behind (telling n d) ≡ None) → GoesBy So
 
 pub finally_stays : (taker : Taker Waker) (final : Op) (q r : Plain Output Waker) → RunsStay q r → Finally q taker final
     → Finally r taker final
@@ -45,8 +47,8 @@ finally_stays taker final q r stay (of_last x last) =
 -- a try or a tick is answered then, and so is a run with its 200th
 module _ (p : ℕ) (below : List Op) (under : is_resting below ≡ true) (end : Done) (rests : is_resting end.next ≡ true)
     (taker : Taker Waker) (final : Op) (q : Plain Output Waker) (it : Finally q taker final) (c : Choice)
-    (new : Choice → Plain Output Waker) where
-  pub passes_end : Passes p taker final below q c.tells end new
+    (new : Choice → Plain Output Waker) (behind : Choice → Option (Plain Output Waker)) where
+  pub passes_end : Passes p taker final below q c.tells end new behind
       → (end.next ≡ below) × Follows end.world (new c) × ((new c).inside ≡ q.inside)
   passes_end so =
       let last = finally_stays taker final q so.before so.stay it in
@@ -57,8 +59,9 @@ module _ (p : ℕ) (below : List Op) (under : is_resting below ≡ true) (end : 
         ap (λ (q : Plain Output Waker). q.inside) is ∙ (final_inside taker final c so.before last ∙ so.inside),
       )
 
-  pub stays_by : GoesBy p taker final below q c.tells end new (StaysSo taker final below q end) → StaysSo taker final below q end (new c)
-  stays_by (stood so stay) = so c
+  pub stays_by : GoesBy p taker final below q c.tells end new behind (StaysSo taker final below q end)
+      → StaysSo taker final below q end (new c)
+  stays_by (stood so stay none) = so c
   stays_by (passed so) =
       let e = passes_end so in
       record {
@@ -68,7 +71,7 @@ module _ (p : ℕ) (below : List Op) (under : is_resting below ≡ true) (end : 
         follows = e.1;
       }
 
-  pub drops_by : (f : ℕ) → GoesBy p taker final below q c.tells end new (Drops taker final below f q end)
+  pub drops_by : (f : ℕ) → GoesBy p taker final below q c.tells end new behind (Drops taker final below f q end)
       → Drops taker final below f q end (new c)
-  drops_by f (stood so stay) = so c
+  drops_by f (stood so stay none) = so c
   drops_by f (passed so) = let e = passes_end so in answered e.0 e.2 e.1

@@ -1,5 +1,5 @@
 -- The end of a poll of a future that a try or a tick took: the task rests, or comes into its queue, or its future is to be dropped.
-use Rattle.std.proofs.Common.{◌≡◌, ℕ, ◌≤◌, ◌++◌, ◌&&◌, not, Bool, true, false, List, ◌∷◌, length, Option, is_some}
+use Rattle.std.proofs.Common.{◌≡◌, ℕ, ◌≤◌, ◌++◌, ◌&&◌, not, Bool, true, false, List, ◌∷◌, length, Option, Some, is_some}
 use Rattle.std.proofs.Common.{slice_set, refl, sym, ap, subst, ◌∙◌}
 use Rattle.std.proofs.lemmas.List.{set-get_or}
 use Rattle.task_moves.specs.declared.moves.owed.Move.TheVariants as move
@@ -24,6 +24,7 @@ use Rattle.executor_model.specs.World as world
 use Rattle.plain_scheduler.specs.State.{Choice, Closed, Drop, Gave, Drops as DropsFuture, Plain, Poll, Taker}
 use Rattle.plain_scheduler.specs.Moves.{becomes, put, see, task, tell}
 use Rattle.plain_scheduler.specs.Takes as plain_takes
+use Rattle.plain_scheduler.specs.Searches.{behind_pending}
 use Rattle.plain_scheduler.specs.Calls as plain_calls
 use Rattle.plain_scheduler.specs.Calls.{does, EndsWith, Pends}
 use Rattle.machine_roads.specs.View.{Output, view, waker_in, wakes}
@@ -59,16 +60,20 @@ module _ (p : ℕ) (below : List Op) (under : is_resting below ≡ true) (end : 
   abbrev pends_with : ℕ → Plain Output Waker → Choice → Plain Output Waker
   pends_with f q d = does wakes d Pends (record q { inside = Poll f taker ∷ q.inside })
 
+  abbrev behind_with : ℕ → Plain Output Waker → Choice → Option (Plain Output Waker)
+  behind_with f q d = behind_pending wakes d (abstract.pending_end (task f q)) f q
+
   abbrev pub PendsBy : ℕ → Plain Output Waker → Type 0
-  PendsBy f q = GoesBy p taker final below q c.tells end (pends_with f q) (StaysSo taker final below q end)
+  PendsBy f q = GoesBy p taker final below q c.tells end (pends_with f q) (behind_with f q) (StaysSo taker final below q end)
 
   -- a task that stays becomes another
   stays : (f : ℕ) (q : Plain Output Waker) (new : AbstractTask Output Waker) → length q.lying ≤ c.tells
       → Then p end (final ∷ below) (becomes wakes (tell wakes c) f new q)
       → ((d : Choice) → pends_with f q (telling c.tells d)
       ≡ plain_takes.next wakes (telling c.tells d) taker (becomes wakes (tell wakes c) f new q))
+      → ((d : Choice) → behind_with f q (telling c.tells d) ≡ Some (becomes wakes (tell wakes c) f new q))
       → PendsBy f q
-  stays f q new many so is =
+  stays f q new many so is at =
       passed
       (record {
         before = becomes wakes (tell wakes c) f new q;
@@ -77,6 +82,7 @@ module _ (p : ℕ) (below : List Op) (under : is_resting below ≡ true) (end : 
         inside = becomes_inside c f new q;
         stay = becomes_stays c f new q;
         is = is;
+        at = at;
       })
 
   pended_ends : (f : ℕ) (w : World) (q : Plain Output Waker) → length q.lying ≤ c.tells → Follows w q → IsInPoll w f
@@ -122,6 +128,7 @@ module _ (p : ℕ) (below : List Op) (under : is_resting below ≡ true) (end : 
           (λ d. subst (λ e. RunsStay q (plain_calls.pending_by wakes (telling c.tells d) e f taker q))
           (sym (ap abstract.pending_end (follows.tasks f is.known) ∙ ending))
           (record { runs = refl; kept = λ k. refl; lying = refl }))
+          (λ d. ap (λ e. behind_pending wakes (telling c.tells d) e f q) (ap abstract.pending_end (follows.tasks f is.known) ∙ ending))
       by false true z open_still woken last_one reached ending way =
           let os = final ∷ below in
           let s = world.task w f in
@@ -146,6 +153,8 @@ module _ (p : ℕ) (below : List Op) (under : is_resting below ≡ true) (end : 
           ∙ ap
           (λ e. plain_takes.next wakes (telling c.tells d) taker (becomes wakes (tell wakes c) f (abstract.end_pending_by e t).task q))
           ending_is)
+          (λ d. ap (λ e. behind_pending wakes (telling c.tells d) e f q) ending_is
+          ∙ ap (λ e. Some (becomes wakes (tell wakes c) f (abstract.end_pending_by e t).task q)) ending_is)
       by false false true open_still woken last_one reached ending way = absurd cc
       by false false false open_still woken last_one reached ending way =
           let os = final ∷ below in
@@ -174,6 +183,8 @@ module _ (p : ℕ) (below : List Op) (under : is_resting below ≡ true) (end : 
           ∙ ap
           (λ e. plain_takes.next wakes (telling c.tells d) taker (becomes wakes (tell wakes c) f (abstract.end_pending_by e t).task q))
           ending_is)
+          (λ d. ap (λ e. behind_pending wakes (telling c.tells d) e f q) ending_is
+          ∙ ap (λ e. Some (becomes wakes (tell wakes c) f (abstract.end_pending_by e t).task q)) ending_is)
 
 pub pends_by : (p : ℕ) (below : List Op) (w : World) (q : Plain Output Waker) (under : is_resting below ≡ true) → Follows w q
     → (taker : Taker Waker) (final : Op) (f : ℕ) → IsInPoll w f → (c : Choice) → length q.lying ≤ c.tells
@@ -200,6 +211,7 @@ pub pends_so : (p : ℕ) (below : List Op) (w : World) (q : Plain Output Waker) 
 pends_so p below w q under follows taker final it f is c many hints has rests =
     stays_by p below under (alone p hints (pended p f final below w)) rests taker final q it c
     (λ d. does wakes d Pends (record q { inside = Poll f taker ∷ q.inside }))
+    (λ d. behind_pending wakes d (abstract.pending_end (task f q)) f q)
     (pends_by p below w q under follows taker final f is c many hints has rests)
 
 pub pends : (p : ℕ) (here : Option Waker) (below : List Op) (w : World) (q : Plain Output Waker) → is_resting below ≡ true

@@ -24,6 +24,7 @@ use Rattle.plain_scheduler.specs.State.{Choice, Closed, Drop, End, Gave, Lose, L
 use Rattle.plain_scheduler.specs.Lists.{on, or}
 use Rattle.plain_scheduler.specs.Moves.{called, enters, let_go, put, see, task, tell}
 use Rattle.plain_scheduler.specs.Takes as plain_takes
+use Rattle.plain_scheduler.specs.Searches.{behind_drop, behind_loss, behind_out}
 use Rattle.plain_scheduler.specs.Calls.{does, Ends}
 use Rattle.machine_roads.specs.View.{Output, view, wakes, waker_in}
 use Rattle.machine_roads.specs.Moving.{IsPolled, IsQueued}
@@ -227,6 +228,16 @@ goes_out taker c l z a d called_is let_go_is dropped_is =
     ∙ ap (λ (a : Option Waker). or d (λ v. enters (Lose a (Some taker)) (see (Loses v) z)) (plain_takes.lost wakes c a (Some taker) z))
     called_is)
 
+-- and what is behind that
+behind_goes : (c : Choice) (l : abstract.Left Output Waker) (z : Plain Output Waker) (a : Option Waker) (d : Option Output)
+    → l.called ≡ a → l.let_go ≡ None → l.dropped ≡ d
+    → behind_out wakes c l z ≡ or d (λ v. None) (Some (on a (called wakes (tell wakes c)) z))
+behind_goes c l z a d called_is let_go_is dropped_is =
+    let goes : Option Waker → Option Waker → Plain Output Waker = λ a o. behind_loss wakes c a (on o (let_go wakes (tell wakes c)) z) in
+    ap (λ (d : Option Output). or d (λ v. None) (Some (goes l.called l.let_go))) dropped_is
+    ∙ (ap (λ (o : Option Waker). or d (λ v. None) (Some (goes l.called o))) let_go_is
+    ∙ ap (λ (a : Option Waker). or d (λ v. None) (Some (goes a None))) called_is)
+
 module _ (p : ℕ) (below : List Op) (under : is_resting below ≡ true) (end : Done) (rests : is_resting end.next ≡ true) (c : Choice)
     (taker : Taker Waker) (final : Op) (f : ℕ) (w : World) (q : Plain Output Waker)
     (many : length q.lying ≤ c.tells) (follows : Follows w q) (at : f < length w.tasks)
@@ -322,7 +333,8 @@ module _ (p : ℕ) (below : List Op) (under : is_resting below ≡ true) (end : 
 
   abbrev pub EndsOut : Type 0
   EndsOut =
-      GoesBy p taker final below q c.tells end (λ d. plain_takes.ended wakes d f l (Some taker) q) (Drops taker final below f q end)
+      GoesBy p taker final below q c.tells end (λ d. plain_takes.ended wakes d f l (Some taker) q) (λ d. behind_out wakes d l z)
+      (Drops taker final below f q end)
 
   pub runs_out : Way p end w (op.Move m f ∷ os) → EndsOut
   runs_out way =
@@ -352,6 +364,7 @@ module _ (p : ℕ) (below : List Op) (under : is_resting below ≡ true) (end : 
             inside = called_inside c aw z ∙ z_inside;
             stay = stay_on q z (on aw (called wakes (tell wakes c)) z) (put_stays f l.task q) (called_stays c aw z);
             is = λ d. goes_out taker (telling c.tells d) l z aw None called_so let_go_so none;
+            at = λ d. behind_goes (telling c.tells d) l z aw None called_so let_go_so none;
           })
       by true some way =
           let v = event.OutputDropped p f in
@@ -379,6 +392,7 @@ module _ (p : ℕ) (below : List Op) (under : is_resting below ≡ true) (end : 
           (sym (goes_out taker (telling c.tells d) l z aw (Some tt) called_so let_go_so some)) there)
           (λ d. subst (RunsStay q) (sym (goes_out taker (telling c.tells d) l z aw (Some tt) called_so let_go_so some))
           (record { runs = (put_stays f l.task q).runs; kept = (put_stays f l.task q).kept; lying = (put_stays f l.task q).lying }))
+          (λ d. behind_goes (telling c.tells d) l z aw (Some tt) called_so let_go_so some)
 
 -- of another plain scheduler whose code is the same
 module _ (p : ℕ) (taker : Taker Waker) (final : Op) (below : List Op) (f n : ℕ) (end : Done) (q after : Plain Output Waker)
@@ -389,9 +403,10 @@ module _ (p : ℕ) (taker : Taker Waker) (final : Op) (below : List Op) (f n : �
       loses awaiter next (inside ∙ ap (λ codes. Lose awaiter (Some taker) ∷ codes) same) ending
 
   moved_on : (new old : Choice → Plain Output Waker) → ((d : Choice) → new (telling n d) ≡ old (telling n d))
-      → GoesBy p taker final below after n end old (Drops taker final below f after end)
-      → GoesBy p taker final below q n end new (Drops taker final below f q end)
-  moved_on new old alike (passed so) =
+      → (behind was : Choice → Option (Plain Output Waker)) → ((d : Choice) → behind (telling n d) ≡ was (telling n d))
+      → GoesBy p taker final below after n end old was (Drops taker final below f after end)
+      → GoesBy p taker final below q n end new behind (Drops taker final below f q end)
+  moved_on new old alike behind was alike_behind (passed so) =
       passed
       (record {
         before = so.before;
@@ -400,14 +415,19 @@ module _ (p : ℕ) (taker : Taker Waker) (final : Op) (below : List Op) (f n : �
         inside = so.inside ∙ same;
         stay = stay_on q after so.before stay so.stay;
         is = λ d. alike d ∙ so.is d;
+        at = λ d. alike_behind d ∙ so.at d;
       })
-  moved_on new old alike (stood so stays) =
+  moved_on new old alike behind was alike_behind (stood so stays none) =
       stood (λ d. subst (Drops taker final below f q end) (sym (alike d)) (moved_one (old (telling n d)) (so d)))
       (λ d. subst (RunsStay q) (sym (alike d)) (stay_on q after (old (telling n d)) stay (stays d)))
+      (λ d. alike_behind d ∙ none d)
 
 -- the drop of the future ends
 abbrev pub drops_with : (taker : Taker Waker) (f : ℕ) (why : End Output) → Plain Output Waker → Choice → Plain Output Waker
 drops_with taker f why q d = does wakes d Ends (record q { inside = Drop f why taker ∷ q.inside })
+
+abbrev pub behind_dropped : (f : ℕ) (why : End Output) → Plain Output Waker → Choice → Option (Plain Output Waker)
+behind_dropped f why q d = behind_drop wakes d f why q
 
 pub dropped_by : (p : ℕ) (below : List Op) (w : World) (q : Plain Output Waker) → is_resting below ≡ true
     → Follows w q → (taker : Taker Waker) (final : Op) (f : ℕ) (m : Move) (why : End Output) → f < length w.tasks
@@ -415,7 +435,7 @@ pub dropped_by : (p : ℕ) (below : List Op) (w : World) (q : Plain Output Waker
     → (c : Choice) → length q.lying ≤ c.tells → (hints : List Hint) → HasAll p hints (upon below (dropped m final p f w))
     → is_resting (alone p hints (upon below (dropped m final p f w))).next ≡ true
     → GoesBy p taker final below q c.tells (alone p hints (upon below (dropped m final p f w))) (drops_with taker f why q)
-    (Drops taker final below f q (alone p hints (upon below (dropped m final p f w))))
+    (behind_dropped f why q) (Drops taker final below f q (alone p hints (upon below (dropped m final p f w))))
 dropped_by p below w q under follows taker final f m why at there ends c many hints has rests =
     let os = op.Move m f ∷ (final ∷ below) in
     let end = alone p hints (done w (op.Table (table_op.LeaveTable f) ∷ os)) in
@@ -424,23 +444,30 @@ dropped_by p below w q under follows taker final f m why at there ends c many hi
     let after = plain_takes.given_up wakes c f (marked f q) in
     moved_on p taker final below f c.tells end q after left.inside (given_up_stays c f q) (drops_with taker f why q)
     (λ d. plain_takes.ended wakes d f (plain_takes.left_by wakes c why (task f after)) (Some taker) after) (λ d. refl)
+    (behind_dropped f why q)
+    (λ d. let l = plain_takes.left_by wakes c why (task f after) in behind_out wakes d l (put f l.task after)) (λ d. refl)
     (runs_out p below under end rests c taker final f left.now after (subst (λ ls. length ls ≤ c.tells) (sym left.lying) many)
     left.stands left.known m why left.run left.way)
 
 pub drops : (p : ℕ) (here : Option Waker) (below : List Op) (w : World) (q : Plain Output Waker) → is_resting below ≡ true
     → Follows w q → DropsAlikeInTake p here below w q
 drops p here below w q under follows taker final it f m why at there ends c many hints has rests =
-    drops_by p below under (alone p hints (upon below (dropped m final p f w))) rests taker final q it c (drops_with taker f why q) f
+    drops_by p below under (alone p hints (upon below (dropped m final p f w))) rests taker final q it c (drops_with taker f why q)
+    (behind_dropped f why q) f
     (dropped_by p below w q under follows taker final f m why at there ends c many hints has rests)
 
 -- the drop of the output ends
 abbrev pub loses_with : (taker : Taker Waker) (awaiter : Option Waker) → Plain Output Waker → Choice → Plain Output Waker
 loses_with taker awaiter q d = does wakes d Ends (record q { inside = Lose awaiter (Some taker) ∷ q.inside })
 
+abbrev pub behind_lost : (awaiter : Option Waker) → Plain Output Waker → Choice → Option (Plain Output Waker)
+behind_lost awaiter q d = Some (behind_loss wakes d awaiter q)
+
 pub lost_by : (taker : Taker Waker) (final : Op) (p f : ℕ) (below : List Op) (w : World) (q : Plain Output Waker)
     (awaiter : Option Waker) (c : Choice) → IsEnding w f awaiter q → length q.lying ≤ c.tells → (hints : List Hint)
     → HasAll p hints (upon below (lost final p f w)) → is_resting (alone p hints (upon below (lost final p f w))).next ≡ true
     → Passes p taker final below q c.tells (alone p hints (upon below (lost final p f w))) (loses_with taker awaiter q)
+    (behind_lost awaiter q)
 lost_by taker final p f below w q awaiter c ending many hints has rests =
     let end = alone p hints (done w (rest_of (world.task w f).awaiter f final ++ below)) in
     record {
@@ -450,11 +477,12 @@ lost_by taker final p f below w q awaiter c ending many hints has rests =
       inside = called_inside c awaiter q;
       stay = called_stays c awaiter q;
       is = λ d. refl;
+      at = λ d. refl;
     }
 
 pub loses_in_take : LosesAlikeInTake
 loses_in_take taker final p f below w q awaiter c it under ending many hints unit has rests =
     let e =
     passes_end p below under (alone p hints (upon below (lost final p f w))) rests taker final q it c (loses_with taker awaiter q)
-    (lost_by taker final p f below w q awaiter c ending many hints has rests) in
+    (behind_lost awaiter q) (lost_by taker final p f below w q awaiter c ending many hints has rests) in
     (e.0, e.1)

@@ -112,6 +112,6 @@ module _ (p : ℕ) (below : List Op) (under : is_resting below ≡ true) (end : 
           follows = locked l3 w2 q follows2;
           place = refl;
           wakers = refl;
-          turn = refl;
+          took = record { turn = refl; counted = λ k. refl; listed = refl };
           way = ten.way;
         }

@@ -1,10 +1,9 @@
 -- What a run does with a future that it has found: it gets up, tells, steals more at every 64th, counts, and the future's run begins.
-use Rattle.std.proofs.Common.{◌≡◌, ℕ, zero, suc, ◌+◌, ◌≤◌, ◌==◌, ◌++◌, nat_lt, not, Bool, true, false, List, [], ◌∷◌, length}
-use Rattle.std.proofs.Common.{slice_get, slice_set, drop, take, if◌then◌else◌, append-nil, refl, sym}
-use Rattle.std.proofs.Common.{ap, subst, ◌∙◌, arith}
+use Rattle.std.proofs.Common.{◌≡◌, ℕ, ◌+◌, ◌≤◌, ◌<◌, ◌==◌, ◌++◌, nat_lt, not, Bool, true, false, List, [], ◌∷◌, length}
+use Rattle.std.proofs.Common.{slice_get, slice_set, if◌then◌else◌, refl, sym}
+use Rattle.std.proofs.Common.{ap, subst, ◌∙◌}
 use Rattle.executor_parts.specs.declared.mark.Mark.{Mark}
 use Rattle.executor_parts.specs.declared.mark.Mark.TheVariants.{Plain as PlainMark, Urgent}
-use Rattle.executor_parts.specs.Marks.{other}
 use Rattle.task_moves.specs.declared.moves.owed.Move.TheVariants as move
 use Rattle.task_moves.specs.AbstractTask as abstract
 use Rattle.executor_model.specs.declared.op.Op.{Op}
@@ -27,142 +26,31 @@ use Rattle.plain_scheduler.specs.Lists.{each, or, repeat}
 use Rattle.plain_scheduler.specs.Moves.{enters, is_common, is_kept, keeps, put, see, task, tell, up}
 use Rattle.plain_scheduler.specs.Moves as plain
 use Rattle.plain_scheduler.specs.Takes as plain_takes
+use Rattle.plain_scheduler.specs.Usual.{is_64th, one_counted, share, so_many}
+use Rattle.plain_scheduler.specs.Usual as usual
 use Rattle.machine_roads.specs.View.{Output, wakes}
 use Rattle.machine_roads.specs.Road.{Follows, futures_in}
 use Rattle.machine_roads.specs.Alone.{is_resting}
-use Rattle.machine_roads.specs.Searching.{IsLast}
-use Rattle.machine_roads.proofs.Adding.{Adds, AreBare, bare_none, risen_adds, with_both, with_due}
+use Rattle.machine_roads.specs.Searching.{CountsOne, IsLast}
+use Rattle.machine_roads.proofs.Adding.{Adds, risen_adds, with_both, with_due}
 use Rattle.machine_roads.proofs.Aside.{tell_inside, up_inside}
-use Rattle.machine_roads.proofs.Changing.{futures_append}
-use Rattle.machine_roads.proofs.Due.{marks_apart}
+use Rattle.machine_roads.proofs.BehindTake.{counted_due, found_due, taken_still, taking_resting}
 use Rattle.machine_roads.proofs.Exchanging.{loudly}
-use Rattle.machine_roads.proofs.Keeping.{HasPlaces, IsBeside, Kept, Lined}
-use Rattle.machine_roads.proofs.Keeping.{common_away, common_beside, kept_due, keeps_is, lined_so, many_kept}
+use Rattle.machine_roads.proofs.Keeping.{HasPlaces, Lined}
+use Rattle.machine_roads.proofs.Keeping.{common_away, lined_so}
+use Rattle.machine_roads.proofs.KeepingMarks.{both_is, both_of, each_many, each_marks, keeping, lined_added, lined_more, share_of}
+use Rattle.machine_roads.proofs.KeepingMarks.{share_same}
 use Rattle.machine_roads.proofs.Leaving.{gets_up}
-use Rattle.machine_roads.proofs.Lists.{same_of}
 use Rattle.machine_roads.proofs.Moved.{Then}
 use Rattle.machine_roads.proofs.Numbers.{put_view}
 use Rattle.machine_roads.proofs.Puts.{put_by}
+use Rattle.machine_roads.proofs.RunCounting.{counts_so}
 use Rattle.machine_roads.proofs.Runs.{changed, counted_alike, counted_last, one_more, runs_is, same_place}
 use Rattle.machine_roads.proofs.Standing.{Stands, StandsSo}
 use Rattle.machine_roads.proofs.Stealing.{steals}
 use Rattle.machine_roads.proofs.Stepping.{Way}
 use Rattle.machine_roads.proofs.Trying.{runs}
 use Rattle.machine_roads.proofs.Unseen.{ran}
-
--- so many marks, and then these
-abbrev pub marks_of : ℕ → Mark → List Mark → List Mark
-marks_of n m ms = elim n [ zero ↦ ms | suc (k → rest) ↦ m ∷ rest ]
-
--- a run keeps what is common of this mark
-abbrev pub keeping : ℕ → Mark → List Due → List Due
-keeping r m ds = kept_due r (is_common m) ds
-
-pub each_marks : (r n : ℕ) (m : Mark) (ms : List Mark) (q : Plain Output Waker)
-    → each (marks_of n m ms) (λ mark. keeps r (is_common mark)) q
-    ≡ each ms (λ mark. keeps r (is_common mark)) (with_due (repeat n (keeping r m) q.due) q)
-each_marks r zero m ms q = refl
-each_marks r (suc n) m ms q =
-    ap (each (marks_of n m ms) (λ mark. keeps r (is_common mark))) (keeps_is r (is_common m) q)
-    ∙ each_marks r n m ms (with_due (keeping r m q.due) q)
-
--- of two lists that are alike class by class a run keeps alike
-module _ (r : ℕ) (m : Mark) (n : ℕ) where
-  abbrev keep : List Due → List Due
-  keep ds = repeat n (keeping r m) ds
-
-  marks_beside : IsBeside r (is_common m) (is_common (other m))
-  marks_beside = record { apart = marks_apart m; back = λ d. refl }
-
-  -- from what is kept, each class
-  lined_by : (ds es dk ek : List Due) → Lined ds es → Kept r (is_common m) n ds dk → Kept r (is_common m) n es ek → Lined dk ek
-  lined_by ds es dk ek same one two = record {
-    common = λ k. mark m k;
-    kept = λ k. keeper k (k == r) refl;
-  }
-    where
-      its : futures_in (is_common m) dk ≡ futures_in (is_common m) ek
-      its = one.left ∙ (ap (drop n) (same.common m) ∙ sym two.left)
-
-      others : futures_in (is_common (other m)) dk ≡ futures_in (is_common (other m)) ek
-      others =
-          one.beside (is_common (other m)) marks_beside ∙ (same.common (other m) ∙ sym (two.beside (is_common (other m)) marks_beside))
-
-      mark : (m k : Mark) → futures_in (is_common k) dk ≡ futures_in (is_common k) ek
-      mark j k = by m k its others
-        where
-          by : (m k : Mark) → futures_in (is_common m) dk ≡ futures_in (is_common m) ek
-              → futures_in (is_common (other m)) dk ≡ futures_in (is_common (other m)) ek
-              → futures_in (is_common k) dk ≡ futures_in (is_common k) ek
-          by PlainMark PlainMark its others = its
-          by PlainMark Urgent its others = others
-          by Urgent PlainMark its others = others
-          by Urgent Urgent its others = its
-
-      keeper : (k : ℕ) (b : Bool) → (k == r) ≡ b → futures_in (is_kept k) dk ≡ futures_in (is_kept k) ek
-      keeper k true here =
-          subst (λ k. futures_in (is_kept k) dk ≡ futures_in (is_kept k) ek) (sym (same_of k r here))
-          (one.come
-          ∙ (ap (λ fs. fs ++ take n (futures_in (is_common m) ds)) (same.kept r)
-          ∙ (ap (λ fs. futures_in (is_kept r) es ++ take n fs) (same.common m) ∙ sym two.come)))
-      keeper k false apart =
-          one.beside (is_kept k) (common_beside r m k apart)
-          ∙ (same.kept k ∙ sym (two.beside (is_kept k) (common_beside r m k apart)))
-
-  pub lined_more : (ds es : List Due) → Lined ds es → n ≤ length (futures_in (is_common m) ds) → HasPlaces r n ds
-      → Lined (keep ds) (keep es)
-  lined_more ds es same there few =
-      lined_by ds es (keep ds) (keep es) same (many_kept r (is_common m) (common_away r m) n ds there few)
-      (many_kept r (is_common m) (common_away r m) n es (subst (λ fs. n ≤ length fs) (same.common m) there)
-      (λ some. subst (λ fs. length fs + n ≤ 512) (same.kept r) (few some)))
-
-  -- and whether others are added before or behind that
-  pub lined_added : (ds more : List Due) → AreBare more → n ≤ length (futures_in (is_common m) ds) → HasPlaces r n ds
-      → Lined (keep ds ++ more) (keep (ds ++ more))
-  lined_added ds more bare there few =
-      let C : List ℕ = futures_in (is_common m) ds in
-      let one = many_kept r (is_common m) (common_away r m) n ds there few in
-      let mine : futures_in (is_kept r) (ds ++ more) ≡ futures_in (is_kept r) ds =
-      futures_append (is_kept r) ds more
-      ∙ (ap (λ fs. futures_in (is_kept r) ds ++ fs) (bare_none r more bare) ∙ append-nil (futures_in (is_kept r) ds)) in
-      let two =
-      many_kept r (is_common m) (common_away r m) n (ds ++ more)
-      (subst (λ fs. n ≤ length fs) (sym (futures_append (is_common m) ds more)) (longer n C (futures_in (is_common m) more) there))
-      (λ some. subst (λ fs. length fs + n ≤ 512) (sym mine) (few some)) in
-      lined_by (ds ++ more) (ds ++ more) (keep ds ++ more) (keep (ds ++ more)) (record { common = λ k. refl; kept = λ k. refl })
-      (record {
-        left =
-            futures_append (is_common m) (keep ds) more
-            ∙ (ap (λ fs. fs ++ futures_in (is_common m) more) one.left
-            ∙ (sym (drop_front n C (futures_in (is_common m) more) there) ∙ ap (drop n) (sym (futures_append (is_common m) ds more))));
-        come =
-            futures_append (is_kept r) (keep ds) more
-            ∙ (ap (λ fs. futures_in (is_kept r) (keep ds) ++ fs) (bare_none r more bare)
-            ∙ (append-nil (futures_in (is_kept r) (keep ds))
-            ∙ (one.come
-            ∙ (ap (λ fs. fs ++ take n C) (sym mine)
-            ∙ ap (λ fs. futures_in (is_kept r) (ds ++ more) ++ fs)
-            (sym (take_front n C (futures_in (is_common m) more) there) ∙ ap (take n) (sym (futures_append (is_common m) ds more)))))));
-        beside = λ u x.
-            futures_append u (keep ds) more
-            ∙ (ap (λ fs. fs ++ futures_in u more) (one.beside u x) ∙ sym (futures_append u ds more));
-      })
-      two
-    where
-      longer : (n : ℕ) (xs ys : List ℕ) → n ≤ length xs → n ≤ length (xs ++ ys)
-      longer zero xs ys there = omega arith
-      longer (suc n) [] ys there = absurd (omega (arith, there))
-      longer (suc n) (x ∷ xs) ys there = let more = longer n xs ys (omega (arith, there)) in omega (arith, more)
-
-      drop_front : (n : ℕ) (xs ys : List ℕ) → n ≤ length xs → drop n (xs ++ ys) ≡ drop n xs ++ ys
-      drop_front zero xs ys there = refl
-      drop_front (suc n) [] ys there = absurd (omega (arith, there))
-      drop_front (suc n) (x ∷ xs) ys there = drop_front n xs ys (omega (arith, there))
-
-      take_front : (n : ℕ) (xs ys : List ℕ) → n ≤ length xs → take n (xs ++ ys) ≡ take n xs
-      take_front zero xs ys there = refl
-      take_front (suc n) [] ys there = absurd (omega (arith, there))
-      take_front (suc n) (x ∷ xs) ys there = ap (λ zs. x ∷ zs) (take_front n xs ys (omega (arith, there)))
 
 -- the begin of a future's run is nothing to the runs
 run_runs : (c : Choice) (f : ℕ) (by : Taker Waker) (q : Plain Output Waker) → (plain_takes.run wakes c f by q).runs ≡ q.runs
@@ -310,8 +198,44 @@ module _ (p : ℕ) (below : List Op) (under : is_resting below ≡ true) (end : 
       first_lined : Lined (D ++ adds.more) E
       first_lined = lined_added r m k q0.due adds.more adds.bare there few
 
-      abbrev Found : Type 0
-      Found = (ms : List Mark) × (last : Bool) × Begun f last (takes_so ms)
+      -- which it keeps by then of this mark, and with every 64th of both
+      abbrev kept_beside : Plain Output Waker
+      kept_beside = usual.keeping wakes c r (so_many k m) z
+
+      abbrev kept_so : Bool → List Mark
+      kept_so last = so_many k m ++ (if last then usual.of_both wakes c r kept_beside else [])
+
+      kept_due_is : kept_beside.due ≡ E
+      kept_due_is =
+          ap (λ (y : Plain Output Waker). y.due) (each_many r k m z)
+          ∙ ap (λ (y : Plain Output Waker). repeat k (keeping r m) y.due) z_is
+
+      pub record Runs (w : World) : Type 0 where
+        pub marks : List Mark
+        pub last : Bool
+        pub begun : Begun f last (takes_so marks)
+        pub kept : marks ≡ kept_so (is_64th (run_of w r).counted)
+        pub behind : CountsOne r w.urgent_turns w end.world
+
+      -- behind that nothing counts or takes a turn until the future's run has begun
+      counts_one : (b : Bool) (w : World) → is_64th (run_of w r).counted ≡ b → r < length w.runs
+          → Way p end (counted_by b w x f).world
+          ((found_by (run_of w r).place it (op.Sleeper sleeper_op.ExchangeFlag ∷ []) ++ (counted_by b w x f).next) ++ below)
+          → CountsOne r w.urgent_turns w end.world
+      counts_one b w is at way =
+          let it = counts_so w x f b is at in
+          let resting = taking_resting below under in
+          let still =
+          taken_still p end (counted_by b w x f).world
+          ((found_by (run_of w r).place (tick_or_run.Run x.run) (op.Sleeper sleeper_op.ExchangeFlag ∷ [])
+          ++ (counted_by b w x f).next) ++ below)
+          (found_due below resting (run_of w r).place (tick_or_run.Run x.run) (counted_by b w x f).next (counted_due below resting b w x f))
+          way in
+          record {
+            counted = λ k. still.counted k ∙ it.counted k;
+            listed = still.listed ∙ it.listed;
+            turn = still.turn ∙ it.turn;
+          }
 
       counted_follows : (n : ℕ) (w : World) → Follows w (with_due D q0) → Follows (counted_to w r n) (with_due D q0)
       counted_follows n w follows =
@@ -332,11 +256,11 @@ module _ (p : ℕ) (below : List Op) (under : is_resting below ≡ true) (end : 
       regroup (Asleep n) w os way = way
 
       -- one of those that come between
-      at_once : (w : World) → Follows w (with_due D q0)
+      at_once : (w : World) → is_64th (run_of w r).counted ≡ false → r < length w.runs → Follows w (with_due D q0)
           → Way p end (counted_by false w x f).world
           ((found_by (run_of w r).place it (op.Sleeper sleeper_op.ExchangeFlag ∷ []) ++ (counted_by false w x f).next) ++ below)
-          → Found
-      at_once w follows way =
+          → Runs w
+      at_once w early at follows way =
           let n = (run_of w r).counted + 1 in
           let w1 = counted_to w r n in
           let k1 = counts f w1 (with_due D q0) (counted_follows n w follows) going in
@@ -355,18 +279,24 @@ module _ (p : ℕ) (below : List Op) (under : is_resting below ≡ true) (end : 
           let g = risen D (counted q0.runs) k1.world (os ++ below) k1.follows up_now in
           let follows3 : Follows g.world (with_both E (counted q0.runs) z) =
           lined_so g.world (with_both (D ++ adds.more) (counted q0.runs) z) E g.follows first_lined in
-          let same : takes_so (marks_of k m []) ≡ with_both E (counted q0.runs) z =
+          let same : takes_so (so_many k m ++ []) ≡ with_both E (counted q0.runs) z =
           ap (plain.runs one_more r) (each_marks r k m [] z)
           ∙ (runs_is one_more r (with_due (repeat k (keeping r m) z.due) z)
           ∙ ap (λ (y : Plain Output Waker). with_both (repeat k (keeping r m) y.due) (counted y.runs) z) z_is) in
-          (marks_of k m [], k1.last, begins f k1.last g.world E (marks_of k m []) follows3 same k1.early g.way)
+          record {
+            marks = so_many k m ++ [];
+            last = k1.last;
+            begun = begins f k1.last g.world E (so_many k m ++ []) follows3 same k1.early g.way;
+            kept = ap kept_so (sym early);
+            behind = counts_one false w early at way;
+          }
 
       -- every 64th: it steals more
-      steals_first : (w : World) → Follows w (with_due D q0)
+      steals_first : (w : World) → is_64th (run_of w r).counted ≡ true → r < length w.runs → Follows w (with_due D q0)
           → Way p end (counted_by true w x f).world
           ((found_by (run_of w r).place it (op.Sleeper sleeper_op.ExchangeFlag ∷ []) ++ (counted_by true w x f).next) ++ below)
-          → Found
-      steals_first w follows way =
+          → Runs w
+      steals_first w each_64th at follows way =
           let w1 = counted_to w r 0 in
           let os = (counted_by true w x f).next in
           let place : (run_of w r).place ≡ place_of w1 it = sym (counted_place 0 w) in
@@ -377,43 +307,57 @@ module _ (p : ℕ) (below : List Op) (under : is_resting below ≡ true) (end : 
           let q2 : Plain Output Waker = with_both (D ++ adds.more) q0.runs z in
           let one =
           steals p end rests x below (Common Urgent) (common_away r Urgent) (then.StealPlain f) g.world q2 g.follows g.way in
-          let ds : List Due = repeat one.many (keeping r Urgent) (D ++ adds.more) in
+          let urgent = share_of r Urgent (D ++ adds.more) in
+          let ds : List Due = repeat urgent (keeping r Urgent) (D ++ adds.more) in
           let q3 : Plain Output Waker = with_both ds q0.runs z in
           let two =
           steals p end rests x below (Common PlainMark) (common_away r PlainMark) (then.Run f) one.world q3 one.follows one.way in
-          let es : List Due = repeat two.many (keeping r PlainMark) ds in
+          let plain_ones = share_of r PlainMark ds in
+          let es : List Due = repeat plain_ones (keeping r PlainMark) ds in
           let q4 : Plain Output Waker = with_both es q0.runs z in
           let k1 = counts f two.world q4 two.follows going in
           let now : Way p end k1.world (op.Move move.TakeUp f ∷ final k1.last ∷ below) =
           subst (λ ops. Way p end k1.world (ops ++ below)) k1.leads
           (subst (λ v. Way p end v ((run_found two.world x f).next ++ below)) k1.is two.way) in
-          let E1 : List Due = repeat one.many (keeping r Urgent) E in
-          let E2 : List Due = repeat two.many (keeping r PlainMark) E1 in
-          let lined1 : Lined ds E1 = lined_more r Urgent one.many (D ++ adds.more) E first_lined one.most one.few in
-          let lined2 : Lined es E2 = lined_more r PlainMark two.many ds E1 lined1 two.most two.few in
-          let follows3 : Follows k1.world (with_both E2 (counted q0.runs) z) =
-          lined_so k1.world (with_both es (counted q0.runs) z) E2 k1.follows lined2 in
-          let later = marks_of two.many PlainMark [] in
-          let more = marks_of one.many Urgent later in
+          let urgent_kept : List Due = repeat urgent (keeping r Urgent) E in
+          let both_kept : List Due = repeat plain_ones (keeping r PlainMark) urgent_kept in
+          let lined1 : Lined ds urgent_kept = lined_more r Urgent urgent (D ++ adds.more) E first_lined one.most one.few in
+          let lined2 : Lined es both_kept = lined_more r PlainMark plain_ones ds urgent_kept lined1 two.most two.few in
+          let follows3 : Follows k1.world (with_both both_kept (counted q0.runs) z) =
+          lined_so k1.world (with_both es (counted q0.runs) z) both_kept k1.follows lined2 in
+          let later = so_many plain_ones PlainMark in
+          let more = so_many urgent Urgent ++ later in
           let zk : Plain Output Waker = with_due (repeat k (keeping r m) z.due) z in
-          let zu : Plain Output Waker = with_due (repeat one.many (keeping r Urgent) zk.due) z in
-          let same : takes_so (marks_of k m more) ≡ with_both E2 (counted q0.runs) z =
+          let zu : Plain Output Waker = with_due (repeat urgent (keeping r Urgent) zk.due) z in
+          let same : takes_so (so_many k m ++ more) ≡ with_both both_kept (counted q0.runs) z =
           ap (plain.runs one_more r)
-          (each_marks r k m more z ∙ (each_marks r one.many Urgent later zk ∙ each_marks r two.many PlainMark [] zu))
-          ∙ (runs_is one_more r (with_due (repeat two.many (keeping r PlainMark) zu.due) z)
+          (each_marks r k m more z ∙ (each_marks r urgent Urgent later zk ∙ each_many r plain_ones PlainMark zu))
+          ∙ (runs_is one_more r (with_due (repeat plain_ones (keeping r PlainMark) zu.due) z)
           ∙ ap
           (λ (y : Plain Output Waker). with_both
-          (repeat two.many (keeping r PlainMark) (repeat one.many (keeping r Urgent) (repeat k (keeping r m) y.due))) (counted y.runs) z)
+          (repeat plain_ones (keeping r PlainMark) (repeat urgent (keeping r Urgent) (repeat k (keeping r m) y.due))) (counted y.runs) z)
           z_is) in
-          (marks_of k m more, k1.last, begins f k1.last k1.world E2 (marks_of k m more) follows3 same k1.early now)
+          let both : more ≡ usual.of_both wakes c r kept_beside =
+          ap (λ n. so_many urgent Urgent ++ so_many n PlainMark) (share_same r PlainMark ds urgent_kept lined1)
+          ∙ (ap (λ n. so_many n Urgent ++ so_many (share_of r PlainMark (repeat n (keeping r Urgent) E)) PlainMark)
+          (share_same r Urgent (D ++ adds.more) E first_lined)
+          ∙ (ap (both_of r) (sym kept_due_is) ∙ sym (both_is c r kept_beside))) in
+          record {
+            marks = so_many k m ++ more;
+            last = k1.last;
+            begun = begins f k1.last k1.world both_kept (so_many k m ++ more) follows3 same k1.early now;
+            kept = ap (λ ms. so_many k m ++ ms) both ∙ ap kept_so (sym each_64th);
+            behind = counts_one true w each_64th at way;
+          }
 
       -- it has found one, and so many more of this mark came to its own queue
-      pub finds : (w : World) → Follows w (with_due D q0) → Way p end (found w x f).world ((found w x f).next ++ below) → Found
-      finds w follows way = by ((run_of w r).counted + 1 == 64) way
+      pub finds : (w : World) → r < length w.runs → Follows w (with_due D q0)
+          → Way p end (found w x f).world ((found w x f).next ++ below) → Runs w
+      finds w at follows way = by (is_64th (run_of w r).counted) refl way
         where
-          by : (b : Bool)
+          by : (b : Bool) → is_64th (run_of w r).counted ≡ b
               → Way p end (counted_by b w x f).world
               ((found_by (run_of w r).place it (op.Sleeper sleeper_op.ExchangeFlag ∷ []) ++ (counted_by b w x f).next) ++ below)
-              → Found
-          by true way = steals_first w follows way
-          by false way = at_once w follows way
+              → Runs w
+          by true is way = steals_first w is at follows way
+          by false is way = at_once w is at follows way

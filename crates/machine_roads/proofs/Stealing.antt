@@ -55,6 +55,10 @@ source_listed : (from : Source) (w : World) (rest : List ℕ) → (without_first
 source_listed (Common m) w rest = refl
 source_listed (Own k) w rest = refl
 
+source_turn : (from : Source) (w : World) (rest : List ℕ) → (without_first w from rest).urgent_turns ≡ w.urgent_turns
+source_turn (Common m) w rest = refl
+source_turn (Own k) w rest = refl
+
 source_long : (from : Source) (w : World) (rest : List ℕ) → length (without_first w from rest).own ≡ length w.own
 source_long (Common m) w rest = refl
 source_long (Own k) w rest = length_set w.own k rest
@@ -131,7 +135,21 @@ places_there w r more room = by (nat_lt r (length w.own)) refl room
     by true is room = (below r (length w.own) is, room)
     by false is room = absurd (omega (arith, room))
 
-share_some : (n free : ℕ) → 1 ≤ n → 1 ≤ free → 1 ≤ share n free
+-- a share is of those that are there, and where one is there, and a place, one is in it
+share_most : (n free : ℕ) → share n free ≤ n
+share_most n free = by (nat_lt ((n + 1) / 2) free) refl
+  where
+    by : (b : Bool) → nat_lt ((n + 1) / 2) free ≡ b → cond b ((n + 1) / 2) free ≤ n
+    by true few = omega arith
+    by false few = grind (arith, nat_tests)
+
+share_none : (free : ℕ) → share 0 free ≡ 0
+share_none free = zero_of (share 0 free) (share_most 0 free)
+  where
+    zero_of : (n : ℕ) → n ≤ 0 → n ≡ 0
+    zero_of n few = omega (arith, few)
+
+pub share_some : (n free : ℕ) → 1 ≤ n → 1 ≤ free → 1 ≤ share n free
 share_some n free some places = by (nat_lt ((n + 1) / 2) free)
   where
     by : (b : Bool) → 1 ≤ cond b ((n + 1) / 2) free
@@ -149,75 +167,49 @@ module _ (p : ℕ) (end : Done) (rests : is_resting end.next ≡ true) (x : RunP
   abbrev keep : List Due → List Due
   keep ds = kept_due r (class_of from) ds
 
+  -- so many come: half of those that are there, as far as there are places
+  abbrev pub shared : Plain Output Waker → ℕ
+  shared q = share (count_by (class_of from) q.due) (512 - count_by (is_kept r) q.due)
+
   -- so many have come, and this is what the steal is followed by
-  pub record Stolen (w : World) (q : Plain Output Waker) : Type 0 where
-    pub many : ℕ
+  pub record Came (many : ℕ) (w : World) (q : Plain Output Waker) : Type 0 where
     pub world : World
     pub follows : Follows world (with_due (repeat many keep q.due) q)
     pub most : many ≤ length (futures_in (class_of from) q.due)
     pub few : HasPlaces r many q.due
-    -- at least one, where there is one, and a place
-    pub some : 1 ≤ length (futures_in (class_of from) q.due) → r < length w.own → length (own_of w r) < 512 → 1 ≤ many
     pub runs : world.runs ≡ w.runs
     pub listed : world.listed ≡ w.listed
+    pub turn : world.urgent_turns ≡ w.urgent_turns
     pub long : length world.own ≡ length w.own
     pub way : Way p end (stolen after world x).world ((stolen after world x).next ++ below)
 
-  -- behind the first
-  record More (w : World) (q : Plain Output Waker) : Type 0 where
-    many : ℕ
-    world : World
-    follows : Follows world (with_due (repeat many keep q.due) q)
-    most : many ≤ length (futures_in (class_of from) q.due)
-    few : HasPlaces r many q.due
-    runs : world.runs ≡ w.runs
-    listed : world.listed ≡ w.listed
-    long : length world.own ≡ length w.own
-    way : Way p end (stolen after world x).world ((stolen after world x).next ++ below)
-
-  more_of : (w : World) (q : Plain Output Waker) → Stolen w q → More w q
-  more_of w q k = record {
-    many = k.many;
-    world = k.world;
-    follows = k.follows;
-    most = k.most;
-    few = k.few;
-    runs = k.runs;
-    listed = k.listed;
-    long = k.long;
-    way = k.way;
+  none_come : (w : World) (q : Plain Output Waker) → Follows w q → Way p end (stolen after w x).world ((stolen after w x).next ++ below)
+      → Came 0 w q
+  none_come w q follows way = record {
+    world = w;
+    follows = follows;
+    most = omega arith;
+    few = λ some. absurd (omega (arith, some));
+    runs = refl;
+    listed = refl;
+    turn = refl;
+    long = refl;
+    way = way;
   }
-
-  nothing_stolen : (w : World) (q : Plain Output Waker) → Follows w q
-      → (1 ≤ length (futures_in (class_of from) q.due) → r < length w.own → length (own_of w r) < 512 → ⊥)
-      → Way p end (stolen after w x).world ((stolen after w x).next ++ below) → Stolen w q
-  nothing_stolen w q follows none way =
-      record {
-        many = 0;
-        world = w;
-        follows = follows;
-        most = omega arith;
-        few = λ some. absurd (omega (arith, some));
-        some = λ there at room. absurd (none there at room);
-        runs = refl;
-        listed = refl;
-        long = refl;
-        way = way;
-      }
 
   -- it takes and puts
   takes_by : (more : ℕ)
-      → ((w : World) (q : Plain Output Waker) → Follows w q → Way p end (steal_by more w its).world ((steal_by more w its).next ++ below)
-      → More w q)
-      → (w : World) (q : Plain Output Waker) → Follows w q → Way p end w (op.Steal (steal_op.Take its more) ∷ below) → Stolen w q
-  takes_by more goes_on w q follows way =
+      → ((w : World) (q : Plain Output Waker) → Follows w q → more ≤ length (futures_in (class_of from) q.due)
+      → Way p end (steal_by more w its).world ((steal_by more w its).next ++ below) → Came more w q)
+      → (w : World) (q : Plain Output Waker) → Follows w q → suc more ≤ length (futures_in (class_of from) q.due)
+      → Way p end w (op.Steal (steal_op.Take its more) ∷ below) → Came (suc more) w q
+  takes_by more goes_on w q follows there way =
       let step = next p end rests (op.Steal (steal_op.Take its more)) w below refl way in
       by (source_of w from) refl (places_there w r more step.has) step.way
     where
       by : (fs : List ℕ) → source_of w from ≡ fs → (r < length w.own) × (length (own_of w r) + suc more ≤ 512)
-          → Way p end (steal_take_by fs w its more).world ((steal_take_by fs w its more).next ++ below) → Stolen w q
-      by [] is room way =
-          nothing_stolen w q follows (λ there at few. omega (arith, there, ap length (sym (source_is from w q follows) ∙ is))) way
+          → Way p end (steal_take_by fs w its more).world ((steal_take_by fs w its more).next ++ below) → Came (suc more) w q
+      by [] is room way = absurd (omega (arith, there, ap length (sym (source_is from w q follows) ∙ is)))
       by (f ∷ rest) is room way =
           let t = takes_source from w q f rest follows is in
           let w0 = without_first w from rest in
@@ -245,16 +237,15 @@ module _ (p : ℕ) (end : Done) (rests : is_resting end.next ≡ true) (x : RunP
           ap length (one.come ∙ ap (λ fs. futures_in (is_kept r) q.due ++ take 1 fs) here) in
           let gone : length (futures_in (class_of from) es) ≡ length rest = ap length (one.left ∙ ap (drop 1) here) in
           let long = longer (futures_in (is_kept r) q.due) f in
-          let rest_of = goes_on w1 (with_due es q) follows1 now in
+          let rest_of = goes_on w1 (with_due es q) follows1 (omega (arith, there, gone, ap length here)) now in
           record {
-            many = suc rest_of.many;
             world = rest_of.world;
             follows = rest_of.follows;
-            most = omega (arith, rest_of.most, gone, ap length here);
-            few = λ some. places rest_of.many rest_of.few come long free;
-            some = λ there at few. omega arith;
+            most = there;
+            few = λ some. places more rest_of.few come long free;
             runs = rest_of.runs ∙ source_runs from w rest;
             listed = rest_of.listed ∙ source_listed from w rest;
+            turn = rest_of.turn ∙ source_turn from w rest;
             long = rest_of.long ∙ (length_set w0.own r (own_of w0 r ++ f ∷ []) ∙ source_long from w rest);
             way = rest_of.way;
           }
@@ -270,42 +261,39 @@ module _ (p : ℕ) (end : Done) (rests : is_resting end.next ≡ true) (x : RunP
           places zero few come long free = omega (arith, free, count_is (is_kept r) q.due)
           places (suc many) few come long free = omega (arith, few (omega arith), come, long)
 
-  takes : (more : ℕ) (w : World) (q : Plain Output Waker) → Follows w q → Way p end w (op.Steal (steal_op.Take its more) ∷ below)
-      → Stolen w q
-  takes zero w q follows way =
-      takes_by zero
-      (λ w1 q1 follows way. record {
-        many = 0;
-        world = w1;
-        follows = follows;
-        most = omega arith;
-        few = λ some. absurd (omega (arith, some));
-        runs = refl;
-        listed = refl;
-        long = refl;
-        way = way;
-      })
-      w q follows way
-  takes (suc more) w q follows way = takes_by (suc more) (λ w1 q1 follows way. more_of w1 q1 (takes more w1 q1 follows way)) w q follows way
+  takes : (more : ℕ) (w : World) (q : Plain Output Waker) → Follows w q → suc more ≤ length (futures_in (class_of from) q.due)
+      → Way p end w (op.Steal (steal_op.Take its more) ∷ below) → Came (suc more) w q
+  takes zero w q follows there way = takes_by zero (λ w1 q1 follows some way. none_come w1 q1 follows way) w q follows there way
+  takes (suc more) w q follows there way =
+      takes_by (suc more) (λ w1 q1 follows some way. takes more w1 q1 follows some way) w q follows there way
 
   -- from its beginning
-  pub steals : (w : World) (q : Plain Output Waker) → Follows w q → Way p end w (op.Steal (steal_op.Length its) ∷ below) → Stolen w q
+  pub steals : (w : World) (q : Plain Output Waker) → Follows w q → Way p end w (op.Steal (steal_op.Length its) ∷ below)
+      → Came (shared q) w q
   steals w q follows way =
-      by (length (source_of w from)) refl (next p end rests (op.Steal (steal_op.Length its)) w below refl way).way
+      let step = next p end rests (op.Steal (steal_op.Length its)) w below refl way in
+      by (length (source_of w from)) refl step.has step.way
     where
-      shared : (n k : ℕ) → share (suc k) (free_places w r) ≡ n → Way p end (steal_by n w its).world ((steal_by n w its).next ++ below)
-          → Stolen w q
-      shared zero k is way =
-          nothing_stolen w q follows
-          (λ there at few.
-          let free : 1 ≤ free_places w r = omega (arith, free_few w r at, few) in
-          omega (arith, is, share_some (suc k) (free_places w r) (omega arith) free)) way
-      shared (suc more) k is way = takes more w q follows way
+      there : length (source_of w from) ≡ count_by (class_of from) q.due
+      there = ap length (source_is from w q follows) ∙ sym (count_is (class_of from) q.due)
 
-      by : (n : ℕ) → length (source_of w from) ≡ n
-          → Way p end (steal_length_by n w its).world ((steal_length_by n w its).next ++ below) → Stolen w q
-      by zero is way =
-          nothing_stolen w q follows (λ there at few. omega (arith, there, is, ap length (source_is from w q follows))) way
-      by (suc n) is way =
-          shared (share (suc n) (free_places w r)) n refl
-          (next p end rests (op.Steal (steal_op.OwnLength its (suc n))) w below refl way).way
+      came : (many k : ℕ) → share (suc k) (free_places w r) ≡ many → length (source_of w from) ≡ suc k
+          → Way p end (steal_by many w its).world ((steal_by many w its).next ++ below) → Came many w q
+      came zero k is long way = none_come w q follows way
+      came (suc more) k is long way =
+          takes more w q follows
+          (omega (arith, is, share_most (suc k) (free_places w r), long, ap length (source_is from w q follows))) way
+
+      by : (n : ℕ) → length (source_of w from) ≡ n → r < length w.own
+          → Way p end (steal_length_by n w its).world ((steal_length_by n w its).next ++ below) → Came (shared q) w q
+      by zero is at way =
+          subst (λ n. Came n w q)
+          (sym (ap (λ n. share n (512 - count_by (is_kept r) q.due)) (sym there ∙ is) ∙ share_none (512 - count_by (is_kept r) q.due)))
+          (none_come w q follows way)
+      by (suc n) is at way =
+          let free : free_places w r ≡ 512 - count_by (is_kept r) q.due =
+          free_few w r at ∙ ap (λ n. 512 - n) (ap length (follows.kept r) ∙ sym (count_is (is_kept r) q.due)) in
+          subst (λ n. Came n w q)
+          (ap (λ free. share (suc n) free) free ∙ ap (λ n. share n (512 - count_by (is_kept r) q.due)) (sym is ∙ there))
+          (came (share (suc n) (free_places w r)) n refl is
+          (next p end rests (op.Steal (steal_op.OwnLength its (suc n))) w below refl way).way)

@@ -19,16 +19,20 @@ use Rattle.executor_model.specs.declared.op.TickOrRun.TheVariants as tick_or_run
 use Rattle.executor_model.specs.declared.op.Waker.{Waker}
 use Rattle.executor_model.specs.Acts.{turned}
 use Rattle.executor_model.specs.ActsOfSleepers.{found_by, look_tick_by}
+use Rattle.executor_model.specs.Weights.{weigh}
 use Rattle.executor_model.specs.World.{Asleep, Awake, Done, Left, Ticker, World, put_queue, queue_of, tick_of}
 use Rattle.plain_scheduler.specs.State.{ATick, Choice, Due, Later, Plain, Refusal, Granted, Tick, Who}
 use Rattle.plain_scheduler.specs.Lists.{any, or, without}
 use Rattle.plain_scheduler.specs.Moves.{chosen, commons, is_common, tell, up}
 use Rattle.plain_scheduler.specs.Takes as plain_takes
+use Rattle.plain_scheduler.specs.Turns.{tick_turns}
+use Rattle.plain_scheduler.specs.Usual.{vain_turns}
 use Rattle.plain_scheduler.specs.Calls.{does, PollTick}
 use Rattle.machine_roads.specs.View.{Output, wakes}
 use Rattle.machine_roads.specs.Road.{Follows, futures_in}
 use Rattle.machine_roads.specs.Alone.{is_resting}
 use Rattle.machine_roads.specs.Refused.{OneMoreLies}
+use Rattle.machine_roads.specs.Turning.{TakesTurns}
 use Rattle.machine_roads.proofs.Aside.{tell_inside}
 use Rattle.machine_roads.proofs.Due.{First, find_never, find_same, nothing, without_same}
 use Rattle.machine_roads.proofs.Exchanging.{loudly}
@@ -36,6 +40,8 @@ use Rattle.machine_roads.proofs.Lain.{neither}
 use Rattle.machine_roads.proofs.Leaving.{gets_up}
 use Rattle.machine_roads.proofs.Stepping.{Way, next}
 use Rattle.machine_roads.proofs.Standing.{Stands, StandsSo}
+use Rattle.machine_roads.proofs.Still.{Still, still_on, stirs}
+use Rattle.machine_roads.proofs.Turning.{light, took_still}
 use Rattle.machine_roads.proofs.Trying.{runs, takes_first}
 
 -- of each mark, where of one and of the other
@@ -136,32 +142,71 @@ module _ (p : ℕ) (below : List Op) (under : is_resting below ≡ true) (end : 
   abbrev pub sleepy : ℕ → Sleeping
   sleepy k = record { waker = a; who = tick_or_run.Tick t; poll = k }
 
-  -- it comes to that, and is refused memory once it lies only where it lies anew
-  abbrev pub ComesTo : Plain Output Waker → (Refusal → Plain Output Waker) → Type 0
-  ComesTo q to = (r : Refusal) × Comes q (to r) × (r ≡ Later → OneMoreLies q (to r))
+  -- it comes to that, and is refused memory once it lies only where it lies anew; and it takes so many turns
+  abbrev pub ComesTo : World → Plain Output Waker → (Refusal → Plain Output Waker) → Type 0
+  ComesTo early q to =
+      (r : Refusal) × Comes q (to r) × (r ≡ Later → OneMoreLies q (to r)) × TakesTurns (tick_turns r t q) early end.world
 
   not_granted : Granted ≡ Later → ⊥
   not_granted is = cc
 
+  -- what it finds takes none but the turn in which it was found
+  finds_took : (early w : World) (q : Plain Output Waker) (m : Mark) (f : ℕ) (rest : List ℕ) (r : Refusal) → TakesTurns 1 early w →
+      Follows w q
+      → (queue_of w m).items ≡ f ∷ rest
+      → Way p end (put_queue w m (taken (queue_of w m)))
+      (found_by (tick_of w t) (tick_or_run.Tick t) (op.Sleeper sleeper_op.ExchangeFlag ∷ op.Move move.TakeUp f ∷ final ∷ []) ++ below)
+      → TakesTurns (tick_turns r t q) early end.world
+  finds_took early w q m f rest r took follows is way =
+      subst (λ n. TakesTurns n early end.world) (sym (one_turn m (takes_first m w q f rest follows is).0.some))
+      (took_still 1 early w end.world took
+      (still_by (record { turn = refl; counted = λ k. refl; listed = refl })
+      (light p below under end (found_by (tick_of w t) (tick_or_run.Tick t) os) (none (tick_of w t)) w1 way)))
+    where
+      os : List Op
+      os = op.Sleeper sleeper_op.ExchangeFlag ∷ op.Move move.TakeUp f ∷ final ∷ []
+
+      w1 : World
+      w1 = put_queue w m (taken (queue_of w m))
+
+      still_by : Still w w1 → Still w1 end.world → Still w end.world
+      still_by one two = still_on w w1 end.world one two
+
+      none : (x : Ticker) → weigh stirs (found_by x (tick_or_run.Tick t) os) ≡ 0
+      none Awake = refl
+      none Left = refl
+      none (Asleep n) = refl
+
+      one_turn : (m : Mark) → any (is_common m) q.due ≡ true → tick_turns r t q ≡ 1
+      one_turn PlainMark some =
+          ap (λ b. if b then 1 else (if any (is_common Urgent) q.due then 1 else vain_turns r (ATick t) q.lying)) some
+      one_turn Urgent some =
+          ap (λ b. if any (is_common PlainMark) q.due then 1 else (if b then 1 else vain_turns r (ATick t) q.lying)) some
+          ∙ one_or_one (any (is_common PlainMark) q.due)
+        where
+          one_or_one : (b : Bool) → ◌≡◌ {A = ℕ} (if b then 1 else 1) 1
+          one_or_one true = refl
+          one_or_one false = refl
+
   -- a search: it finds one, or nothing without a keeper is due
-  pub searches : (k : ℕ) (w : World) (q : Plain Output Waker) → fits q → Follows w q
+  pub searches : (k : ℕ) (early w : World) (q : Plain Output Waker) → TakesTurns 1 early w → fits q → Follows w q
       → (((m : Mark) → any (is_common m) q.due ≡ false) → Way p end w (op.Tick (tick_op.CopyWaker (sleepy k)) ∷ below)
-      → ComesTo q (λ r. plain_takes.rests wakes c r who a q))
+      → ComesTo early q (λ r. plain_takes.rests wakes c r who a q))
       → Way p end w (op.Tick (tick_op.Look (sleepy k) (look.First c.first)) ∷ below)
-      → ComesTo q (λ r. does wakes (refusing r) (PollTick t a) q)
-  searches k w q fit follows rests_so way =
+      → ComesTo early q (λ r. does wakes (refusing r) (PollTick t a) q)
+  searches k early w q took fit follows rests_so way =
       by (queue_of w c.first).items refl
       (next p end rests (op.Tick (tick_op.Look (sleepy k) (look.First c.first))) w below refl way).way
     where
       second : any (is_common c.first) q.due ≡ false → (xs : List ℕ) → (queue_of w (other c.first)).items ≡ xs
           → Way p end (look_tick_by (tick_of w t) w (look.Second (other c.first)) xs (sleepy k)).world
           ((look_tick_by (tick_of w t) w (look.Second (other c.first)) xs (sleepy k)).next ++ below)
-          → ComesTo q (λ r. does wakes (refusing r) (PollTick t a) q)
+          → ComesTo early q (λ r. does wakes (refusing r) (PollTick t a) q)
       second none [] is way =
           let nor = (nothing (is_common (other c.first)) q.due (sym (follows.common (other c.first)) ∙ is)).none in
           let so = rests_so (λ m. both_marks c.first m q.due none nor) way in
           let same = sym (finds_nothing c t a so.0 q none nor) in
-          (so.0, subst (Comes q) same so.1, λ is. subst (OneMoreLies q) same (so.2 is))
+          (so.0, subst (Comes q) same so.1, λ is. subst (OneMoreLies q) same (so.2 is), so.3)
       second none (f ∷ rest) is way = (
         Granted,
         finds Granted (other c.first) f rest w q fit follows is
@@ -170,12 +215,13 @@ module _ (p : ℕ) (below : List Op) (under : is_resting below ≡ true) (end : 
             else false)) none
             ∙ ap (λ b. if b then is_common (other c.first) d else false) some) way,
         λ is. absurd (not_granted is),
+        finds_took early w q (other c.first) f rest Granted took follows is way,
       )
 
       by : (xs : List ℕ) → (queue_of w c.first).items ≡ xs
           → Way p end (look_tick_by (tick_of w t) w (look.First c.first) xs (sleepy k)).world
           ((look_tick_by (tick_of w t) w (look.First c.first) xs (sleepy k)).next ++ below)
-          → ComesTo q (λ r. does wakes (refusing r) (PollTick t a) q)
+          → ComesTo early q (λ r. does wakes (refusing r) (PollTick t a) q)
       by [] is way =
           let none = (nothing (is_common c.first) q.due (sym (follows.common c.first) ∙ is)).none in
           let s = next p end rests (op.Tick (tick_op.Look (sleepy k) (look.Second (other c.first)))) w below refl way in
@@ -187,6 +233,7 @@ module _ (p : ℕ) (below : List Op) (under : is_resting below ≡ true) (end : 
             (λ b. if b then is_common c.first d else (if any (is_common (other c.first)) q.due then is_common (other c.first) d
             else false)) some) way,
         λ is. absurd (not_granted is),
+        finds_took early w q c.first f rest Granted took follows is way,
       )
 
   -- and a search where nothing is due

@@ -51,7 +51,7 @@ module _ (Asked : World → Op → Type 0) (Fine : Machine → Type 0) (walks : 
       → run_all ts s ≡ Ok new → R (standing new p)
 
   -- behind a step that goes so
-  step_on : (ts : List Step) → ((s : Machine) (os : List Op) → Walking ts s os) → (s : Machine) → Reached s → p < length s.parties
+  pub step_on : (ts : List Step) → ((s : Machine) (os : List Op) → Walking ts s os) → (s : Machine) → Reached s → p < length s.parties
       → (t : Step) (d : Done) → Goes p s (after s t) d → LeadsSoOf Asked p d R → refusal s t ≡ None → rests_after p ts (after s t) ≡ true
       → run_all ts (after s t) ≡ Ok new → R (standing new p)
   step_on ts onwards s reached there t d goes leads may rests made =
@@ -60,7 +60,7 @@ module _ (Asked : World → Op → Type 0) (Fine : Machine → Type 0) (walks : 
       (leads_ended Asked walks.easy p R d.world d.next leads))
       rests made
 
-  walked : (ts : List Step) (s : Machine) (os : List Op) → Walking ts s os
+  pub walked : (ts : List Step) (s : Machine) (os : List Op) → Walking ts s os
   walked [] s os reached there is leads rests made =
       let same = made_is s new made in
       subst (λ (m : Machine). R (standing m p)) same

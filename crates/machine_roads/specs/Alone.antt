@@ -120,7 +120,13 @@ abbrev pub RunCanLie : World → TickOrRun → Type 0
 RunCanLie w (tick_or_run.Tick t) = Unit {0}
 RunCanLie w (tick_or_run.Run r) = CanLie w (tick_or_run.Run r)
 
+-- a run that searches is there
+abbrev pub SearchHas : World → TickOrRun → Type 0
+SearchHas w (tick_or_run.Tick t) = Unit {0}
+SearchHas w (tick_or_run.Run r) = r < length w.runs
+
 abbrev pub TickHas : World → TickOp → Type 0
+TickHas w (tick_op.Search s) = SearchHas w s.who
 TickHas w (tick_op.CopyWaker s) = CanCopy w s.waker
 TickHas w (tick_op.FallAsleep s) = SleepsAlone w s.who × RunCanLie w s.who
 TickHas w (tick_op.WakeUp x) = SleepsAlone w x
@@ -145,8 +151,9 @@ ListHas w (list_op.LockRead x) =
     × ((k : ℕ) → 1 ≤ length (own_of w k) → (run_view (run_of w k)).is_over ≡ false → 1 ≤ times k w.listed)
 ListHas w _ = Unit {0}
 
--- a steal has a place for each that it may still take
+-- who steals has an own queue, and a place for each that it may still take
 abbrev pub StealHas : World → StealOp → Type 0
+StealHas w (steal_op.Length s) = s.poll.run < length w.own
 StealHas w (steal_op.Take s more) = length (own_of w s.poll.run) + suc more ≤ own_places w s.poll.run
 StealHas w _ = Unit {0}
 

@@ -20,7 +20,7 @@ use Rattle.machine_roads.specs.View.{Output, wakes}
 use Rattle.machine_roads.specs.InLoss.{AreShut, StopsInLoss, loss_codes, loss_ops, without_handles}
 use Rattle.machine_roads.specs.Lone.{NoneWaits}
 use Rattle.machine_roads.specs.Closing.{IsInDropBelow}
-use Rattle.machine_roads.specs.Within.{Act, ActAlike, ActsBy, AreActs, IsAct, standing}
+use Rattle.machine_roads.specs.Within.{Act, ActAlike, ActsBy, AreActs, IsAct, standing, start_in}
 
 -- what is left to do of the executor's drop behind that of a future
 abbrev pub left_to_close : List ℕ → World → List Op
@@ -46,7 +46,8 @@ AreDropActs s (a ∷ acts) = IsAct s a × AreDropActs a.left acts
 abbrev pub DropActAlike : Machine → Plain Output Waker → List Act → Type 0
 DropActAlike s q [] = Unit {0}
 DropActAlike s q (a ∷ acts) =
-    (r : Plain Output Waker) × ActsBy s a.party a.first q r × StandsDropping (standing a.left a.party) r × DropActAlike a.left r acts
+    (r : Plain Output Waker) × ActsBy s a.party a.first q r a.left.world (start_in s a) × StandsDropping (standing a.left a.party) r
+    × DropActAlike a.left r acts
 
 -- so it is from a lone machine's executor's drop on, where the plain scheduler stands in no code
 abbrev pub DropActsAlike : Machine → Plain Output Waker → Type 0

@@ -1,6 +1,7 @@
 pub mod Untaken
 pub mod InForgotten
 pub mod View
+pub mod Choosing
 pub mod Moving
 pub mod Seeing
 pub mod Road
@@ -10,6 +11,7 @@ pub mod Stopped
 pub mod Forgotten
 pub mod Losing
 pub mod Dropped
+pub mod Turning
 pub mod Ticking
 pub mod Searching
 pub mod GoingOn
@@ -21,3 +23,4 @@ pub mod InLoss
 pub mod Refused
 pub mod Within
 pub mod DropActs
+pub mod Ordering

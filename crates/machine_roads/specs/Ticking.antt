@@ -13,10 +13,12 @@ use Rattle.executor_model.specs.Steps.{lives, waker_of}
 use Rattle.executor_model.specs.World.{Awake, Done, World, tick_of}
 use Rattle.plain_scheduler.specs.State.{Choice, Plain, Refusal, Tick}
 use Rattle.plain_scheduler.specs.Calls.{does, is_granted, DropTick, NewTick, PollTick}
+use Rattle.plain_scheduler.specs.Turns.{tick_turns}
 use Rattle.machine_roads.specs.View.{Output, wakes}
 use Rattle.machine_roads.specs.Alone.{alone, is_resting, HasAll}
 use Rattle.machine_roads.specs.Alike.{begins, refused_first, upon, LeavesAlike, LeavesAlikeIf}
 use Rattle.machine_roads.specs.Stopped.{Stops}
+use Rattle.machine_roads.specs.Turning.{TakesTurns}
 
 -- it can be polled: it lives, and finds room where it is awake
 pub record CanPoll (w : World) (t : ℕ) : Type 0 where
@@ -32,7 +34,7 @@ module _ (p : ℕ) (here : Option Waker) (below : List Op) (w : World) (q : Plai
       (does wakes c NewTick q)
 
   -- a tick that is polled has come to the poll or the drop of a future that it took, or is answered: it lies, or that is refused,
-  -- in which case memory was refused before or once it lay
+  -- in which case memory was refused before or once it lay; and it has taken so many turns
   abbrev pub polling : ℕ → By → Done
   polling t b = upon below (begins p here (call.PollTick t b) w)
 
@@ -40,7 +42,8 @@ module _ (p : ℕ) (here : Option Waker) (below : List Op) (w : World) (q : Plai
   TickIsPolledAlike =
       (c : Choice) (t : ℕ) (b : By) → c.first ≡ first_of w.urgent_turns → length q.lying < c.tells → CanPoll w t
       → (hints : List Hint) → HasAll p hints (polling t b) → is_resting (alone p hints (polling t b)).next ≡ true
-      → (r : Refusal) × Stops (Tick t (waker_of here b)) (op.End reply.Ready (hold.Tick t)) below q (alone p hints (polling t b))
+      → (r : Refusal) × TakesTurns (tick_turns r t q) w (alone p hints (polling t b)).world
+      × Stops (Tick t (waker_of here b)) (op.End reply.Ready (hold.Tick t)) below q (alone p hints (polling t b))
       (does wakes (record c { refusal = r }) (PollTick t (waker_of here b)) q)
 
   abbrev pub TickGoesAlike : Type 0

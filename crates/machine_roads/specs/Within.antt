@@ -38,13 +38,14 @@ use Rattle.plain_scheduler.specs.Calls.{does, new}
 use Rattle.machine_roads.specs.View.{Output, wakes}
 use Rattle.machine_roads.specs.Road.{Follows}
 use Rattle.machine_roads.specs.Alone.{is_outside, is_resting}
+use Rattle.machine_roads.specs.Choosing.{Chooses}
 use Rattle.machine_roads.specs.Course.{IsChosen}
 use Rattle.machine_roads.specs.Dropped.{Drops, rest_of}
 use Rattle.machine_roads.specs.Forgotten.{StopsForgetting}
 use Rattle.machine_roads.specs.InForgotten.{StandsForgotten}
 use Rattle.machine_roads.specs.InLoss.{AreLosing, StopsInLoss, loss_codes, loss_ops}
 use Rattle.machine_roads.specs.Refused.{IsLaterAnew}
-use Rattle.machine_roads.specs.Searching.{goes_on_by}
+use Rattle.machine_roads.specs.Searching.{goes_on_by, start_at}
 use Rattle.machine_roads.specs.Stopped.{Stopped}
 use Rattle.machine_roads.specs.Untaken.{StandsUntaken, polls}
 
@@ -69,6 +70,10 @@ goes_on p s (Answer q e) = (p == q) && calls_outside (top (stack s p))
 abbrev pub rests_after : ℕ → List Step → Machine → Bool
 rests_after p [] s = is_resting (reverse (stack s p))
 rests_after p (t ∷ ts) s = goes_on p s t && rests_after p ts (after s t)
+
+-- from here on the list of queues is read in it
+abbrev pub start_in : Machine → Act → ℕ
+start_in s a = start_at a.party (after s a.first) a.steps
 
 -- it acts so, and no other party has begun anything
 pub record IsAct (s : Machine) (a : Act) : Type 0 where
@@ -159,14 +164,16 @@ abbrev pub IsChosenAt : Step → World → Plain Output Waker → Choice → Typ
 IsChosenAt (Begin p c) w q d = IsChosen w q d
 IsChosenAt t w q d = length q.lying < d.tells
 
--- the plain scheduler makes that
-pub record ActsBy (s : Machine) (p : ℕ) (t : Step) (q r : Plain Output Waker) : Type 0 where
+-- the plain scheduler makes that, and where a run searches in it the machine chooses as told, from this starting word on; this world
+-- it leaves
+pub record ActsBy (s : Machine) (p : ℕ) (t : Step) (q r : Plain Output Waker) (v : World) (start : ℕ) : Type 0 where
   pub choice : Choice
   pub made : plain.Call Output Waker
   pub chosen : IsChosenAt t s.world q choice
   pub is : IsMade s p t made
   pub so : does wakes choice made q ≡ r
-  pub anew : IsLaterAnew choice.refusal made q r
+  pub anew : IsLaterAnew choice made q r
+  pub chooses : Chooses start s.world v choice made q
 
 -- how a call that takes goes on behind what it took: a try and a tick's poll are answered, and a run searches on, or after its 200th
 -- calls its own waker
@@ -240,7 +247,8 @@ pub data StandsAlike (e : Done) (q : Plain Output Waker) : Type 0 where
 abbrev pub ActAlike : Machine → Plain Output Waker → List Act → Type 0
 ActAlike s q [] = Unit {0}
 ActAlike s q (a ∷ acts) =
-    (r : Plain Output Waker) × ActsBy s a.party a.first q r × StandsAlike (standing a.left a.party) r × ActAlike a.left r acts
+    (r : Plain Output Waker) × ActsBy s a.party a.first q r a.left.world (start_in s a) × StandsAlike (standing a.left a.party) r
+    × ActAlike a.left r acts
 
 -- so it is from a new machine on
 abbrev pub ListsActAlike : Type 0

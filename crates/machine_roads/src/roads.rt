@@ -134,7 +134,8 @@ pub fn a_tick_is_made_alike()
 {}
 
 /// A tick that is polled has come to the poll or the drop of a future that it took, or is answered:
-/// it lies down, or lies again by another waker, or is refused memory for one.
+/// it lies down, or lies again by another waker, or is refused memory for one. It takes one turn of the
+/// executor's two queues where it finds one there or lies with a waker, and else one in each search.
 pub fn a_tick_is_polled_alike()
     ensures { EachAlike TickIsPolledAlike }
 {}
@@ -151,14 +152,17 @@ pub fn a_run_is_made_alike()
 
 /// A poll of a run whose own future gave no output comes, where some future is due, to the poll or the
 /// drop of the one that it takes, where both stand alike: the first of its own queue, or of the
-/// executor's as the turn names them, or of another run's; with what it steals beside. Behind that it
-/// searches again, or calls its own waker where that was the 200th.
+/// executor's as the turn names them, or of another run's; with what it steals beside. It chooses as both
+/// executors do, from the starting word that its hint names; it has counted one more, and a turn was taken
+/// unless it kept that one itself. Behind that it searches again, or calls its own waker where that was the
+/// 200th.
 pub fn a_run_takes_alike()
     ensures { EachAlike RunTakesAlike }
 {}
 
 /// And where nothing is due it is answered, and both stand alike: it lies down, lies again with another
-/// waker, or is refused memory, before or once it lies.
+/// waker, or is refused memory, before or once it lies. It takes one turn of the executor's two queues
+/// where it lies with a waker or is refused at once, and else two; runs have counted as many as before.
 pub fn a_run_lies_alike()
     ensures { EachAlike RunLiesAlike }
 {}

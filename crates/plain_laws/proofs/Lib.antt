@@ -10,3 +10,5 @@ pub mod TakesDue
 pub mod Idle
 pub mod Over
 pub mod Begun
+pub mod Searching
+pub mod Robbing

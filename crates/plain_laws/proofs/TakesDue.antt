@@ -47,7 +47,7 @@ found_due t (e ∷ due) d is = by (t e) (found_due t due d) is
 abbrev Found : List Due → (Due → Bool) → Type 0
 Found due t = is_some (find t due) ≡ true
 
-chosen_found : (r : ℕ) (c : Choice) (due : List Due) → any is_due due ≡ true
+pub chosen_found : (r : ℕ) (c : Choice) (due : List Due) → any is_due due ≡ true
     → is_some (find (chosen (is_kept r ∷ is_common c.first ∷ is_common (other c.first) ∷ is_kept c.robs ∷ is_due ∷ []) due) due) ≡ true
 chosen_found r c due some =
     pick (Found due) (is_kept r) (is_common c.first ∷ is_common (other c.first) ∷ is_kept c.robs ∷ is_due ∷ []) due

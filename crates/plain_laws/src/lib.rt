@@ -3,3 +3,4 @@
 #![tactic(auto)]
 
 pub mod order;
+pub mod searches;

@@ -5,3 +5,4 @@ pub mod Takes
 pub mod Calls
 pub mod Searches
 pub mod Usual
+pub mod Turns

@@ -3,6 +3,7 @@ use Rattle.std.specs.Prelude.{◌≡◌, ℕ, zero, suc, ◌+◌, ◌-◌, ◌/�
 use Rattle.std.specs.Prelude.{List, [], ◌∷◌, ◌++◌, length, find, take, drop, count_by, slice_get, is_some, Option, Some}
 use Rattle.executor_parts.specs.declared.mark.Mark.{Mark}
 use Rattle.executor_parts.specs.declared.mark.Mark.TheVariants.{Plain as PlainMark, Urgent}
+use Rattle.executor_parts.specs.Marks.{turn_after}
 use Rattle.plain_scheduler.specs.State.{ARun, AtOnce, Choice, Code, DropOwn, Due, Lying, Plain, Refusal, Run, Who}
 use Rattle.plain_scheduler.specs.Lists.{any, each, or, without}
 use Rattle.plain_scheduler.specs.Moves.{chosen, is_common, is_kept, lies, looks}
@@ -107,6 +108,11 @@ vain_turns refusal who ls = if lies_uncalled who ls then 1 else searches_by refu
 abbrev pub run_turns : {T A : Type 0} → Refusal → Search T A → ℕ
 run_turns refusal x =
     if any (is_kept x.run) x.at.due then 0 else (if finds x then 1 else vain_turns refusal (ARun x.run) x.at.lying)
+
+-- what the machine's turn is so many later
+abbrev pub turned : ℕ → ℕ → ℕ
+turned zero n = n
+turned (suc k) n = turned k (turn_after n)
 
 -- in which order runs were first polled, of those that haven't gone
 abbrev pub with_run : ℕ → List ℕ → List ℕ

@@ -85,6 +85,7 @@ pub mod Keeping
 pub mod InVain
 pub mod RunResting
 pub mod RunRefusing
+pub mod ListedWithin
 pub mod Listed
 pub mod OwnKept
 pub mod Takings
@@ -97,3 +98,6 @@ pub mod CodesKept
 pub mod Polled
 pub mod RunGoing
 pub mod RunEnding
+pub mod VainTurns
+pub mod TickTurns
+pub mod Ordering

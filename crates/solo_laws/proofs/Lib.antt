@@ -22,11 +22,13 @@ pub mod Giving
 pub mod CellFrames
 pub mod Given
 pub mod Turning
+pub mod CallTurns
 pub mod Looks
 pub mod RoomParts
 pub mod RoomFrames
 pub mod RoomCourses
 pub mod Following
 pub mod Showing
+pub mod Choices
 pub mod Happening
 pub mod Stepping

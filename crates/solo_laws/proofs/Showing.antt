@@ -10,6 +10,8 @@ pub mod StillListed
 pub mod StillHoused
 pub mod StillTallied
 pub mod Courses
+pub mod Counts
+pub mod StillOrdered
 pub mod AllThere
 pub mod AfterClose
 pub mod LastCalls

@@ -42,3 +42,6 @@ pub mod PollsGo
 pub mod EndsGo
 pub mod RunsGo
 pub mod SearchesGo
+pub mod Choosing
+pub mod Counting
+pub mod Ordering

@@ -4,6 +4,8 @@
 #![tactic(auto)]
 
 pub mod answers;
+pub mod choosing;
+pub mod counting;
 pub mod laws;
 pub mod lying;
 pub mod making;

@@ -1,23 +1,26 @@
 -- And so it is with each call, and with lists of them.
 use Rattle.std.proofs.Common.{◌≡◌, ℕ, suc, ◌≤◌, ◌++◌, nat_lt, count_by, cond, filter, Bool, true, false, List, [], ◌∷◌}
 use Rattle.std.proofs.Common.{length, map}
-use Rattle.std.proofs.Common.{Option, None, slice_get, refl, sym, ap, subst, ◌∙◌, arith}
+use Rattle.std.proofs.Common.{Option, Some, None, slice_get, refl, sym, ap, subst, ◌∙◌, arith}
 use Rattle.std.specs.Option.{option_map}
 use Rattle.executor_parts.specs.declared.mark.Mark.{Mark}
 use Rattle.executor_parts.specs.declared.mark.Mark.TheVariants.{Plain as PlainMark, Urgent}
 use Rattle.task_moves.specs.AbstractTask as abstract
 use Rattle.task_moves.specs.AbstractTask.{AbstractTask}
 use Rattle.plain_scheduler.specs.State.{Answer, ARun, ATick, Cancelled, Choice, Close as Closing, Closed, Code, Done, Drop, DropOwn}
-use Rattle.plain_scheduler.specs.State.{Drops}
+use Rattle.plain_scheduler.specs.State.{Drops, Due}
 use Rattle.plain_scheduler.specs.State.{Finished, Full, Future, Gave, Gives, Lose, Made, No, NoMemory, Pending, Plain, Poll, PollOwn}
-use Rattle.plain_scheduler.specs.State.{Ready, Run, Taker, Tick, Try, Yes}
+use Rattle.plain_scheduler.specs.State.{Ready, Taker, Tick, Try, Yes}
 use Rattle.plain_scheduler.specs.Lists.{each, on, or}
+use Rattle.plain_scheduler.specs.Searches.{Search, searches, searches_inside}
+use Rattle.plain_laws.specs.Searches.{looks_first, taking_as}
+use Rattle.plain_laws.proofs.Searching.{not_searching, searching}
 use Rattle.plain_scheduler.specs.Moves.{answers, appended, becomes, called, copied, enters, given_back, is_common, is_kept, leaves}
 use Rattle.plain_scheduler.specs.Moves.{let_go, put, release, runs, see, task, used, wake}
 use Rattle.plain_scheduler.specs.Takes as takes
 use Rattle.plain_scheduler.specs.Calls as calls
 use Rattle.plain_scheduler.specs.Calls.{Call, course, does, is_granted, is_none, living_from}
-use Rattle.two_roads.specs.Renaming.{AreSame, CallsAlike, ChooseAlike, EndsAlike, GoesOnAlike, InnermostAlike}
+use Rattle.two_roads.specs.Renaming.{AreSame, ChooseAlike, SearchesAlike, TakesSo}
 use Rattle.two_roads.specs.Renaming.{answer_as, call_as, code_as, future_as, renamed}
 use Rattle.two_roads.specs.Renaming.{more, none}
 use Rattle.two_roads.proofs.Words.{length_map, map_append}
@@ -28,14 +31,19 @@ use Rattle.two_roads.proofs.Moving.{now, on_alike, put_alike, put_so, release_al
 use Rattle.two_roads.proofs.Moving.{task_alike, tell_alike, used_alike, wake_alike}
 use Rattle.two_roads.proofs.Taking.{Same, stays_same, answers_same, dropped_same, dropping_alike, ended_same}
 use Rattle.two_roads.proofs.Taking.{if_same, into, left, lost_same, next_same}
-use Rattle.two_roads.proofs.Taking.{take_same, taker, tells, tells_as}
+use Rattle.two_roads.proofs.Taking.{RunsAlike, take_first, take_run, taker, tells, tells_as}
+use Rattle.two_roads.proofs.Sought.{Sought, both_search, none_searches, search_as, sought_alike}
 
-module _ {T U A B : Type 0} (k : Setting T U A B) where
+module _ {T U A B : Type 0} (k : Setting T U A B) (alike : RunsAlike k.choice k.other) where
   abbrev c : Choice
   c = k.choice
 
   abbrev d : Choice
   d = k.other
+
+  takes_so : (r : ℕ) (due : List Due) → TakesSo c d r due
+  takes_so r due =
+      record { keeps = alike.keeps; first = λ mine both. alike.first; robs = λ mine none. alike.robs; moves = λ mine none. alike.moves }
 
   abbrev future : Future T A → Future U B
   future x = future_as k.output k.waker x
@@ -197,8 +205,8 @@ module _ {T U A B : Type 0} (k : Setting T U A B) where
           into k (ends l) (ends_as (left k l))
           (becomes_alike k (tells k) (tells_as k) (tell_alike k) f l.task (its_task k l.task) refl p few)
           (λ q few.
-          ended_same k f (record l { task = task f q }) (record (left k l) { task = task f (now k q) })
-          (ap (λ (t : AbstractTask U B). record (left k l) { task = t }) (task_alike k f q)) None tt q few)
+          ended_same k alike f (record l { task = task f q }) (record (left k l) { task = task f (now k q) })
+          (ap (λ (t : AbstractTask U B). record (left k l) { task = t }) (task_alike k f q)) None q few)
 
   -- a run that goes
   gone_alike : (r : ℕ) → Goes k (calls.gone k.wakes c r) (calls.gone k.wakes_as d r)
@@ -263,42 +271,42 @@ module _ {T U A B : Type 0} (k : Setting T U A B) where
       (enters_alike k (Closing fs all))).same
 
   -- the ends of users' code
-  goes_on_same : (f : ℕ) (by : Taker A) → GoesOnAlike c d by → (p : Plain T A) → Few k p
+  goes_on_same : (f : ℕ) (by : Taker A) (p : Plain T A) → Few k p
       → Same k (takes.next k.wakes c by (becomes k.wakes (tells k) f (abstract.end_pending (task f p)).task p))
       (takes.next k.wakes_as d (taker k by) (becomes k.wakes_as (tells_as k) f (abstract.end_pending (task f (now k p))).task (now k p)))
-  goes_on_same f by on_so p few =
+  goes_on_same f by p few =
       into k (takes.next k.wakes c by) (takes.next k.wakes_as d (taker k by))
       (becomes_alike k (tells k) (tells_as k) (tell_alike k) f (abstract.end_pending (task f p)).task
       (abstract.end_pending (task f (now k p))).task
       (ap (λ (l : abstract.Left U B). l.task)
       (pends_so k.output k.waker (task f p) ∙ ap (λ (t : AbstractTask U B). abstract.end_pending t) (task_alike k f p)))
       p few)
-      (next_same k by on_so)
+      (next_same k alike by)
 
-  pending_same : (e : abstract.PendingEnd) (f : ℕ) (by : Taker A) → GoesOnAlike c d by → (p : Plain T A) → Few k p
+  pending_same : (e : abstract.PendingEnd) (f : ℕ) (by : Taker A) (p : Plain T A) → Few k p
       → Same k (calls.pending_by k.wakes c e f by p) (calls.pending_by k.wakes_as d e f (taker k by) (now k p))
-  pending_same abstract.PendingEnd.Drops f by on_so p few = (dropping_alike k f Closed by p few).same
-  pending_same abstract.PendingEnd.Forgets f by on_so p few =
+  pending_same abstract.PendingEnd.Drops f by p few = (dropping_alike k f Closed by p few).same
+  pending_same abstract.PendingEnd.Forgets f by p few =
       into k (takes.dropping k.wakes c f Closed by) (takes.dropping k.wakes_as d f Closed (taker k by))
       (put_so k f (record (task f p) { phase = abstract.Phase.Finished; closed = true })
       (record (task f (now k p)) { phase = abstract.Phase.Finished; closed = true })
       (ap (λ (t : AbstractTask U B). record t { phase = abstract.Phase.Finished; closed = true }) (task_alike k f p)) p few)
       (λ q few. (dropping_alike k f Closed by q few).same)
-  pending_same abstract.PendingEnd.Queues f by on_so p few = goes_on_same f by on_so p few
-  pending_same abstract.PendingEnd.Rests f by on_so p few = goes_on_same f by on_so p few
+  pending_same abstract.PendingEnd.Queues f by p few = goes_on_same f by p few
+  pending_same abstract.PendingEnd.Rests f by p few = goes_on_same f by p few
 
-  pends_same : (code : Code T A) (p : Plain T A) → EndsAlike c d p.due code → Few k p
+  pends_same : (code : Code T A) (p : Plain T A) → Few k p
       → Same k (calls.pends k.wakes c code p) (calls.pends k.wakes_as d (code_so code) (now k p))
-  pends_same (Poll f by) p alike few =
+  pends_same (Poll f by) p few =
       subst
       (λ (t : AbstractTask U B). Same k (calls.pends k.wakes c (Poll f by) p)
       (calls.pending_by k.wakes_as d (abstract.pending_end t) f (taker k by) (now k p)))
-      (task_alike k f p) (pending_same (abstract.pending_end (task f p)) f by alike p few)
-  pends_same (PollOwn r w) p alike few = take_same k (Run r w) p alike few
-  pends_same (Drop f end by) p alike few = stays_same k p
-  pends_same (Lose awaiter by) p alike few = stays_same k p
-  pends_same (DropOwn r answer) p alike few = stays_same k p
-  pends_same (Closing fs all) p alike few = stays_same k p
+      (task_alike k f p) (pending_same (abstract.pending_end (task f p)) f by p few)
+  pends_same (PollOwn r w) p few = take_run k r w p (λ some. takes_so r p.due) few
+  pends_same (Drop f end by) p few = stays_same k p
+  pends_same (Lose awaiter by) p few = stays_same k p
+  pends_same (DropOwn r answer) p few = stays_same k p
+  pends_same (Closing fs all) p few = stays_same k p
 
   gives_same : (v : T) (code : Code T A) (p : Plain T A) → Few k p
       → Same k (calls.gives k.wakes c v code p) (calls.gives k.wakes_as d (k.output v) (code_so code) (now k p))
@@ -309,22 +317,22 @@ module _ {T U A B : Type 0} (k : Setting T U A B) where
   gives_same v (DropOwn r answer) p few = stays_same k p
   gives_same v (Closing fs all) p few = stays_same k p
 
-  ends_same : (code : Code T A) (p : Plain T A) → EndsAlike c d p.due code → Few k p
+  ends_same : (code : Code T A) (p : Plain T A) → Few k p
       → Same k (calls.ends k.wakes c code p) (calls.ends k.wakes_as d (code_so code) (now k p))
-  ends_same (Drop f end by) p alike few = dropped_same k f end by alike p few
-  ends_same (Lose awaiter by) p alike few = lost_same k awaiter by alike p few
-  ends_same (DropOwn r answer) p alike few =
+  ends_same (Drop f end by) p few = dropped_same k alike f end by p few
+  ends_same (Lose awaiter by) p few = lost_same k alike awaiter by p few
+  ends_same (DropOwn r answer) p few =
       says answer (calls.gone k.wakes c r p) (calls.gone k.wakes_as d r (now k p)) (gone_alike r p few)
-  ends_same (Closing fs all) p alike few = close_same fs all p few
-  ends_same (Poll f by) p alike few = stays_same k p
-  ends_same (PollOwn r w) p alike few = stays_same k p
+  ends_same (Closing fs all) p few = close_same fs all p few
+  ends_same (Poll f by) p few = stays_same k p
+  ends_same (PollOwn r w) p few = stays_same k p
 
   innermost_same : (end : Code T A → Plain T A → Plain T A) (end_as : Code U B → Plain U B → Plain U B)
-      → ((code : Code T A) (p : Plain T A) → EndsAlike c d p.due code → Few k p → Same k (end code p) (end_as (code_so code) (now k p)))
-      → (codes : List (Code T A)) (p : Plain T A) → InnermostAlike c d p.due codes → Few k p
+      → ((code : Code T A) (p : Plain T A) → Few k p → Same k (end code p) (end_as (code_so code) (now k p)))
+      → (codes : List (Code T A)) (p : Plain T A) → Few k p
       → Same k (calls.innermost k.wakes c codes end p) (calls.innermost k.wakes_as d (map code_so codes) end_as (now k p))
-  innermost_same end end_as both [] p alike few = stays_same k p
-  innermost_same end end_as both (code ∷ rest) p alike few = both code (record p { inside = rest }) alike few
+  innermost_same end end_as both [] p few = stays_same k p
+  innermost_same end end_as both (code ∷ rest) p few = both code (record p { inside = rest }) few
 
   gives_innermost : (v : T) (codes : List (Code T A)) (p : Plain T A) → Few k p
       → Same k (calls.innermost k.wakes c codes (calls.gives k.wakes c v) p)
@@ -342,11 +350,11 @@ module _ {T U A B : Type 0} (k : Setting T U A B) where
       refl
 
   -- each call
-  call_same : (call : Call T A) (p : Plain T A) → CallsAlike c d p call → Few k p
+  call_same : (call : Call T A) (p : Plain T A) → Few k p
       → Same k (does k.wakes c call p) (does k.wakes_as d (call_as k.output k.waker call) (now k p))
-  call_same (calls.Spawn mark) p alike few = spawn_same mark p few
-  call_same calls.TryTick p alike few = take_same k Try p alike few
-  call_same calls.IsEmpty p alike few =
+  call_same (calls.Spawn mark) p few = spawn_same mark p few
+  call_same calls.TryTick p few = take_first k Try refl p (λ both. alike.first) few
+  call_same calls.IsEmpty p few =
       subst (λ a. Same k (answers (cond (is_none (living_from 0 p.futures)) Yes No) p) (answers a (now k p)))
       (by (is_none (living_from 0 p.futures)) ∙ ap (λ ns. cond (is_none ns) Yes No) (sym (living_so 0 p.futures)))
       (answers_same k (cond (is_none (living_from 0 p.futures)) Yes No) p (now k p) (stays_same k p))
@@ -354,45 +362,45 @@ module _ {T U A B : Type 0} (k : Setting T U A B) where
       by : (b : Bool) → answer_as k.output (cond b Yes No) ≡ cond b Yes No
       by true = refl
       by false = refl
-  call_same (calls.Wake f) p alike few =
+  call_same (calls.Wake f) p few =
       says Done (wake k.wakes (tells k) f p) (wake k.wakes_as (tells_as k) f (now k p))
       (wake_alike k (tells k) (tells_as k) (tell_alike k) f p few)
-  call_same (calls.Use f) p alike few =
+  call_same (calls.Use f) p few =
       says Done (used k.wakes (tells k) f p) (used k.wakes_as (tells_as k) f (now k p))
       (used_alike k (tells k) (tells_as k) (tell_alike k) f p few)
-  call_same (calls.Copy f) p alike few =
+  call_same (calls.Copy f) p few =
       granted_same (answers Made (put f (abstract.copy (task f p)) p)) (answers Made (put f (abstract.copy (task f (now k p))) (now k p))) p
       (says Made (put f (abstract.copy (task f p)) p) (put f (abstract.copy (task f (now k p))) (now k p))
       (put_so k f (abstract.copy (task f p)) (abstract.copy (task f (now k p)))
       (ap (λ (t : AbstractTask U B). abstract.copy t) (task_alike k f p)) p few))
-  call_same (calls.Release f) p alike few =
+  call_same (calls.Release f) p few =
       says Done (release k.wakes (tells k) f p) (release k.wakes_as (tells_as k) f (now k p))
       (release_alike k (tells k) (tells_as k) (tell_alike k) f p few)
-  call_same (calls.PollHandle f w) p alike few = handle_same f w p few
-  call_same (calls.Cancel f) p alike few =
+  call_same (calls.PollHandle f w) p few = handle_same f w p few
+  call_same (calls.Cancel f) p few =
       says Done (calls.cancel k.wakes c f p) (calls.cancel k.wakes_as d f (now k p)) (cancel_alike f p few)
-  call_same (calls.Detach f) p alike few = detach_same f p few
-  call_same (calls.DropHandle f) p alike few =
+  call_same (calls.Detach f) p few = detach_same f p few
+  call_same (calls.DropHandle f) p few =
       into k (calls.detach k.wakes c f) (calls.detach k.wakes_as d f) (cancel_alike f p few) (detach_same f)
-  call_same calls.NewTick p alike few =
+  call_same calls.NewTick p few =
       granted_same (answers Made p) (answers Made (now k p)) p (answers_same k Made p (now k p) (stays_same k p))
-  call_same (calls.PollTick t w) p alike few = take_same k (Tick t w) p alike few
-  call_same (calls.DropTick t) p alike few =
+  call_same (calls.PollTick t w) p few = take_first k (Tick t w) refl p (λ both. alike.first) few
+  call_same (calls.DropTick t) p few =
       says Done (leaves k.wakes c (ATick t) p) (leaves k.wakes_as d (ATick t) (now k p)) (leaves_alike k (ATick t) p few)
-  call_same calls.NewRun p alike few =
+  call_same calls.NewRun p few =
       let more : Plain T A = record p { runs = p.runs ++ record { taken = 0; is_over = false } ∷ [] } in
       granted_same (answers Made more) (answers Made (now k more)) p (answers_same k Made more (now k more) (stays_same k more))
-  call_same (calls.PollRun r w) p alike few = over_same r Finished (PollOwn r w) p few
-  call_same (calls.DropRun r) p alike few = over_same r Done (DropOwn r Done) p few
-  call_same calls.Leak p alike few = says Done (calls.leak k.wakes c p) (calls.leak k.wakes_as d (now k p)) (leak_alike p few)
-  call_same calls.DropExecutor p alike few =
+  call_same (calls.PollRun r w) p few = over_same r Finished (PollOwn r w) p few
+  call_same (calls.DropRun r) p few = over_same r Done (DropOwn r Done) p few
+  call_same calls.Leak p few = says Done (calls.leak k.wakes c p) (calls.leak k.wakes_as d (now k p)) (leak_alike p few)
+  call_same calls.DropExecutor p few =
       subst (λ ns. Same k (does k.wakes c calls.DropExecutor p) (calls.close k.wakes_as d ns ns (now k p)))
       (sym (living_so 0 p.futures)) (close_same (living_from 0 p.futures) (living_from 0 p.futures) p few)
-  call_same calls.Pends p alike few =
-      innermost_same (calls.pends k.wakes c) (calls.pends k.wakes_as d) pends_same p.inside p alike few
-  call_same (calls.EndsWith v) p alike few = gives_innermost v p.inside p few
-  call_same calls.Ends p alike few =
-      innermost_same (calls.ends k.wakes c) (calls.ends k.wakes_as d) ends_same p.inside p alike few
+  call_same calls.Pends p few =
+      innermost_same (calls.pends k.wakes c) (calls.pends k.wakes_as d) pends_same p.inside p few
+  call_same (calls.EndsWith v) p few = gives_innermost v p.inside p few
+  call_same calls.Ends p few =
+      innermost_same (calls.ends k.wakes c) (calls.ends k.wakes_as d) ends_same p.inside p few
 
 module _ {T U A B : Type 0} (output : T → U) (waker : A → B) (wakes : A → Option ℕ) (wakes_as : B → Option ℕ)
     (same : (a : A) → wakes_as (waker a) ≡ wakes a) where
@@ -415,10 +423,50 @@ module _ {T U A B : Type 0} (output : T → U) (waker : A → B) (wakes : A → 
   least : (n : ℕ) → n ≤ n
   least n = omega arith
 
-  pub calls_same : (c d : Choice) (call : Call T A) (p : Plain T A) → ChooseAlike c d p call
+  -- a call that looks for a future at once, or in which a run searches; and any other
+  at_once : (call : Call T A) → looks_first call ≡ true → (c d : Choice) (p : Plain T A) → ChooseAlike wakes c d p call
       → renamed output waker (does wakes c call p) ≡ does wakes_as d (call_as output waker call) (renamed output waker p)
-  calls_same c d call p alike =
-      call_same (setting c d p alike.tells alike.tells_so alike.refusal) call p alike.takes (least (length p.lying))
+  at_once calls.TryTick is c d p alike =
+      take_first (setting c d p alike.tells alike.tells_so alike.refusal) Try refl p alike.takes (least (length p.lying))
+  at_once (calls.PollTick t w) is c d p alike =
+      take_first (setting c d p alike.tells alike.tells_so alike.refusal) (Tick t w) refl p alike.takes (least (length p.lying))
+  at_once call is c d p alike = absurd cc
+
+  searches_so : (call : Call T A) (c d : Choice) (p : Plain T A) → ChooseAlike wakes c d p call → looks_first call ≡ false
+      → SearchesAlike c d wakes p call
+  searches_so calls.Pends c d p alike is = alike.takes
+  searches_so calls.Ends c d p alike is = alike.takes
+  searches_so call c d p alike is = λ x found. absurd (in_no_other p.inside x found)
+    where
+      in_no_other : (codes : List (Code T A)) (x : Search T A) → searches_inside wakes c call codes p ≡ Some x → ⊥
+      in_no_other [] x found = cc
+      in_no_other (code ∷ rest) x found = cc
+
+  pub calls_same : (c d : Choice) (call : Call T A) (p : Plain T A) → ChooseAlike wakes c d p call
+      → renamed output waker (does wakes c call p) ≡ does wakes_as d (call_as output waker call) (renamed output waker p)
+  calls_same c d call p alike = whether (looks_first call) refl
+    where
+      k : Setting T U A B
+      k = setting c d p alike.tells alike.tells_so alike.refusal
+
+      whether : (b : Bool) → looks_first call ≡ b
+          → renamed output waker (does wakes c call p) ≡ does wakes_as d (call_as output waker call) (renamed output waker p)
+      whether true looks = at_once call looks c d p alike
+      whether false looks =
+          by (searches wakes c call p) refl (searches wakes_as d (call_as output waker call) (renamed output waker p)) refl
+          (sought_alike k call p (least (length p.lying)))
+        where
+          by : (o : Option (Search T A)) → searches wakes c call p ≡ o → (o_as : Option (Search U B))
+              → searches wakes_as d (call_as output waker call) (renamed output waker p) ≡ o_as → Sought k o o_as
+              → renamed output waker (does wakes c call p) ≡ does wakes_as d (call_as output waker call) (renamed output waker p)
+          by o is o_as is_as none_searches =
+              ap (λ (z : Plain T A). renamed output waker z) (sym (not_searching wakes c d call p is looks))
+              ∙ call_same (setting (taking_as d c) d p alike.tells alike.tells_so alike.refusal)
+              (record { first = refl; keeps = refl; robs = refl; moves = refl }) call p (least (length p.lying))
+          by o is o_as is_as (both_search x few) =
+              ap (λ (z : Plain T A). renamed output waker z) (searching wakes c call p x is)
+              ∙ (take_run k x.run x.waker x.at (searches_so call c d p alike looks x is) few
+              ∙ sym (searching wakes_as d (call_as output waker call) (renamed output waker p) (search_as k x) is_as))
 
   pub courses_same : (cs : List (Choice × Call T A)) (p : Plain T A) (ds : List (Choice × Call U B)) → AreSame output waker wakes cs p ds
       → renamed output waker (course wakes cs p) ≡ course wakes_as ds (renamed output waker p)

@@ -8,7 +8,14 @@ pub mod Tasks
 pub mod Moving
 pub mod Looking
 pub mod Taking
+pub mod Sought
+pub mod AsUsual
 pub mod Calling
+pub mod InTurn
+pub mod Says
+pub mod ActSays
+pub mod CallSays
+pub mod StepAlike
 pub mod Plainly
 pub mod PlainCalls
 pub mod Both
@@ -18,10 +25,6 @@ pub mod Refusing
 pub mod Meant
 pub mod Acted
 pub mod ActedToEnd
-pub mod Seeking
-pub mod ActTurns
-pub mod SoloTurns
 pub mod InStep
 pub mod InStepToEnd
-pub mod TickTurns
-pub mod SoloTicks
+pub mod Wished

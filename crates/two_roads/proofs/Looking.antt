@@ -1,11 +1,13 @@
 -- At which due future is looked, by tests one after the other.
-use Rattle.std.proofs.Common.{◌≡◌, cond, Bool, true, false, List, [], ◌∷◌, find, Some, refl, sym, ap, ◌∙◌}
+use Rattle.std.proofs.Common.{◌≡◌, ℕ, ◌==◌, ◌&&◌, not, is_some, cond, Bool, true, false, List, [], ◌∷◌, find, Option, Some, refl, sym, ap}
+use Rattle.std.proofs.Common.{◌∙◌}
 use Rattle.executor_parts.specs.declared.mark.Mark.{Mark}
 use Rattle.executor_parts.specs.declared.mark.Mark.TheVariants.{Plain as PlainMark, Urgent}
-use Rattle.executor_parts.specs.Marks.{other}
-use Rattle.plain_scheduler.specs.State.{Due}
+use Rattle.executor_parts.specs.Marks.{other, same_mark}
+use Rattle.plain_scheduler.specs.State.{Choice, Due}
 use Rattle.plain_scheduler.specs.Lists.{any, or}
-use Rattle.plain_scheduler.specs.Moves.{chosen, is_common}
+use Rattle.plain_scheduler.specs.Moves.{chosen, is_common, is_due, is_kept, is_run}
+use Rattle.machine_roads.proofs.Lists.{clash}
 use Rattle.two_roads.specs.Renaming.{AreBothDue, IsNoneCommon}
 
 -- at which mark is looked first is nothing where futures of one alone are due
@@ -80,3 +82,72 @@ found_passes test (d ∷ ds) one is = by (test d) refl is (λ rest. found_passes
     by : (b : Bool) → test d ≡ b → cond b (Some d) (find test ds) ≡ Some one → (find test ds ≡ Some one → test one ≡ true) → test one ≡ true
     by true passes same rest = ap test (sym (its d one same)) ∙ passes
     by false passes same rest = rest same
+
+-- what run r looks at, by one choice and by another
+module _ (c d : Choice) (r : ℕ) (due : List Due) (first : any (is_kept r) due ≡ false → AreBothDue due → c.first ≡ d.first)
+    (robs : any (is_kept r) due ≡ false → IsNoneCommon due → c.robs ≡ d.robs) where
+  abbrev tail : Choice → List (Due → Bool)
+  tail e = is_kept e.robs ∷ is_due ∷ []
+
+  abbrev commons_of : Choice → List (Due → Bool)
+  commons_of e = is_common e.first ∷ is_common (other e.first) ∷ tail e
+
+  abbrev test : Due → Bool
+  test = chosen (is_kept r ∷ commons_of c) due
+
+  abbrev LooksAlike : Type 0
+  LooksAlike = test ≡ chosen (is_kept r ∷ commons_of d) due
+
+  -- what another keeps is found only where it keeps none itself, and nothing without a keeper is due
+  abbrev pub RobsLast : Type 0
+  RobsLast =
+      (one : Due) → find test due ≡ Some one → (k : ℕ) → one.keeper ≡ Some k → (r == k) ≡ false
+      → (any (is_kept r) due ≡ false) × IsNoneCommon due
+
+  its_own : test ≡ is_kept r → RobsLast
+  its_own is one found k keeper apart =
+      absurd (clash apart (ap (λ o. is_run r o) (sym keeper) ∙ (ap (λ (f : Due → Bool). f one) (sym is) ∙ found_passes test due one found)))
+
+  of_none : (m : Mark) → test ≡ chosen (is_common m ∷ is_common (other m) ∷ []) due → RobsLast
+  of_none m is one found k keeper apart =
+      absurd (by (any (is_common m) due) (any (is_common (other m)) due)
+      (ap (λ (f : Due → Bool). f one) (sym is) ∙ found_passes test due one found))
+    where
+      common : (m : Mark) → is_common m one ≡ true → ⊥
+      common m passes = clash (ap (λ (o : Option ℕ). not (is_some o) && same_mark m one.mark) keeper) passes
+
+      by : (a b : Bool) → cond a (is_common m one) (cond b (is_common (other m) one) false) ≡ true → ⊥
+      by true b passes = common m passes
+      by false true passes = common (other m) passes
+      by false false passes = cc
+
+  some_common : any (is_kept r) due ≡ false → ¬ IsNoneCommon due → LooksAlike × RobsLast
+  some_common mine some =
+      let is = passed_later (is_kept r) (commons_of c) due mine ∙ common_alone c.first (tail c) due some in (
+        is
+            ∙ (looks_alike c.first d.first due (first mine)
+            ∙ sym (passed_later (is_kept r) (commons_of d) due mine ∙ common_alone d.first (tail d) due some)),
+        of_none c.first is,
+      )
+
+  none_kept : any (is_kept r) due ≡ false → (a : Bool) → any (is_common PlainMark) due ≡ a → (b : Bool) → any (is_common Urgent) due ≡ b
+      → LooksAlike × RobsLast
+  none_kept mine false plain false urgent =
+      let none : IsNoneCommon due = record { plain = plain; urgent = urgent } in (
+        passed_later (is_kept r) (commons_of c) due mine
+            ∙ (common_none c.first (tail c) due none
+            ∙ (ap (λ n. chosen (is_kept n ∷ is_due ∷ []) due) (robs mine none)
+            ∙ sym (passed_later (is_kept r) (commons_of d) due mine ∙ common_none d.first (tail d) due none))),
+        λ one found k keeper apart. (mine, none),
+      )
+  none_kept mine true plain b urgent = some_common mine (λ none. clash none.plain plain)
+  none_kept mine false plain true urgent = some_common mine (λ none. clash none.urgent urgent)
+
+  pub looked : LooksAlike × RobsLast
+  looked = own (any (is_kept r) due) refl
+    where
+      own : (b : Bool) → any (is_kept r) due ≡ b → LooksAlike × RobsLast
+      own true mine =
+          let is = passed_first (is_kept r) (commons_of c) due mine in
+          (is ∙ sym (passed_first (is_kept r) (commons_of d) due mine), its_own is)
+      own false mine = none_kept mine (any (is_common PlainMark) due) refl (any (is_common Urgent) due) refl

@@ -11,6 +11,7 @@ use Rattle.executor_model.specs.Steps.{Machine, future_of, kept, mine, stack, to
 use Rattle.executor_model.specs.World.{World}
 use Rattle.plain_scheduler.specs.Lists.{or}
 use Rattle.plain_scheduler.specs.Calls as plain
+use Rattle.plain_laws.specs.Searches.{looks_first}
 use Rattle.machine_roads.specs.View.{Output}
 use Rattle.machine_roads.specs.Within as within
 use Rattle.machine_roads.specs.Within.{IsCallIn, IsMade}
@@ -80,16 +81,11 @@ pub one_made : (s : Machine) (p : ℕ) (t : Step) (x y : plain.Call Output Waker
 one_made s p t x y one two = ap (λ o. or o (λ z. z) x) (sym (is_meant_by s p t x one) ∙ is_meant_by s p t y two)
 
 -- a try and a poll of a tick begin
-abbrev pub is_take : plain.Call Output Waker → Bool
-is_take plain.TryTick = true
-is_take (plain.PollTick t w) = true
-is_take _ = false
-
 abbrev pub is_begin : Step → Bool
 is_begin (Begin p c) = true
 is_begin _ = false
 
-pub takes_begin : (s : Machine) (p : ℕ) (t : Step) (x : plain.Call Output Waker) → IsMade s p t x → is_take x ≡ true → is_begin t ≡ true
+pub takes_begin : (s : Machine) (p : ℕ) (t : Step) (x : plain.Call Output Waker) → IsMade s p t x → looks_first x ≡ true → is_begin t ≡ true
 takes_begin s p t x (within.begins c y is) take = refl
 takes_begin s p t x within.pends take = absurd cc
 takes_begin s p t x within.gives take = absurd cc

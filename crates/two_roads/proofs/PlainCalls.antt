@@ -3,7 +3,7 @@ use Rattle.std.proofs.Common.{◌≡◌, ℕ, nat_lt, count_by, cond, true, fals
 use Rattle.std.proofs.Common.{List, [], ◌∷◌, ◌++◌, length, filter, Option, None, slice_get, refl, sym, ◌∙◌}
 use Rattle.executor_parts.specs.declared.mark.Mark.TheVariants.{Plain as PlainMark, Urgent}
 use Rattle.task_moves.specs.AbstractTask as abstract
-use Rattle.task_moves.specs.AbstractTask.{AbstractTask, Left}
+use Rattle.task_moves.specs.AbstractTask.{AbstractTask}
 use Rattle.plain_scheduler.specs.State.{Answer, ARun, ATick, Cancelled, Choice, Close as Closing, Closed, Code, Done, Drop}
 use Rattle.plain_scheduler.specs.State.{DropOwn, Drops, End, Finished, Full, Future, Gave, Gives, Lose}
 use Rattle.plain_scheduler.specs.State.{Made, No, NoMemory, Pending, Plain, Poll, PollOwn, Ready, Run, Taker, Tick}

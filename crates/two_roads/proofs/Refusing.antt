@@ -1,39 +1,48 @@
 -- What memory refuses in a call is seen in what the call answers and in who lies behind it.
-use Rattle.std.proofs.Common.{◌≡◌, ℕ, ◌<◌, ◌&&◌, nat_lt, cond, not, Bool, true, false, List, [], ◌∷◌, ◌++◌, length, map, Option, Some, None}
-use Rattle.std.proofs.Common.{find, slice_get, slice_set, refl, sym, ap, subst, ◌∙◌, arith}
+use Rattle.std.proofs.Common.{◌≡◌, ℕ, ◌<◌, nat_lt, cond, not, Bool, true, false, List, [], ◌∷◌, ◌++◌, length, map, Option, Some, None}
+use Rattle.std.proofs.Common.{find, is_some, slice_get, slice_set, refl, sym, ap, subst, ◌∙◌, arith}
 use Rattle.std.proofs.lemmas.Bool.Decides.{nat_tests}
 use Rattle.executor_parts.specs.declared.mark.Mark.{Mark}
+use Rattle.executor_parts.specs.declared.mark.Mark.TheVariants.{Plain as PlainMark, Urgent}
 use Rattle.executor_model.specs.declared.op.Waker.{Waker}
 use Rattle.executor_model.specs.World.{Done, World}
 use Rattle.task_moves.specs.AbstractTask as abstract
 use Rattle.task_moves.specs.AbstractTask.{AbstractTask}
-use Rattle.plain_scheduler.specs.State.{Answers, ARun, ATick, AtOnce, Choice, Close, Closed, Code, Drop, DropOwn, Due, Event, Full, Gave}
-use Rattle.plain_scheduler.specs.State.{Later, Lose, Made, NoMemory, Pending, Plain, Poll, PollOwn, Refusal, Run, Running, Taker, Tick, Try}
+use Rattle.plain_scheduler.specs.State.{Answers, ARun, ATick, AtOnce, Choice, Code, Due, Event, Full}
+use Rattle.plain_scheduler.specs.State.{Later, Lying, Made, NoMemory, Pending, Plain, Refusal, Run, Running}
+use Rattle.plain_scheduler.specs.State.{Tick}
 use Rattle.plain_scheduler.specs.State.{Granted, Who}
 use Rattle.plain_scheduler.specs.Lists.{any, on, or, without}
-use Rattle.plain_scheduler.specs.Moves.{answers, appended, chosen, copied, is_due, looks, put, runs, task, tell}
+use Rattle.plain_scheduler.specs.Moves.{answers, appended, chosen, copied, is_common, looks, put, runs, task, tell}
 use Rattle.plain_scheduler.specs.Moves as moves
 use Rattle.plain_scheduler.specs.Takes as takes
 use Rattle.plain_scheduler.specs.Calls as calls
 use Rattle.plain_scheduler.specs.Calls.{Call, does, is_granted, living_from}
+use Rattle.plain_scheduler.specs.Searches.{Search, finds, searches}
+use Rattle.plain_scheduler.specs.Searches.{searches_inside}
+use Rattle.plain_scheduler.specs.Turns.{turns_of}
+use Rattle.plain_scheduler.specs.Usual.{run_turns, vain_turns}
 use Rattle.executor_parts.specs.Sleepers.{Sleepers}
 use Rattle.executor_model.specs.declared.op.Sleeping.{Sleeping}
 use Rattle.machine_roads.specs.Dropped.{answered, loses, without_run}
 use Rattle.machine_roads.specs.DropActs.{StandsDropping, behind, drops}
 use Rattle.machine_roads.specs.Forgotten.{unawaited, without_awaiter}
 use Rattle.machine_roads.specs.InLoss.{without_handles}
-use Rattle.machine_roads.specs.Refused.{IsLaterAnew, OneMoreLies, is_in_own, is_in_vain}
+use Rattle.machine_roads.specs.Refused.{IsLaterAnew, OneMoreLies, in_vain}
 use Rattle.machine_roads.specs.Road.{Follows, sleeper, uncalled}
 use Rattle.machine_roads.specs.View.{Output, wakes as wakes_in}
 use Rattle.machine_roads.specs.Within.{StandsAlike, alike, dropping, forgetting, forgotten, going, losing, untaken}
 use Rattle.machine_roads.proofs.InLoss.{sleepers_through}
-use Rattle.machine_roads.proofs.Lists.{clash}
 use Rattle.machine_roads.proofs.Puts.{put_by}
 use Rattle.machine_roads.proofs.RunLies.{none_due}
-use Rattle.two_roads.specs.Acting.{is_runs, takes_for_run, takes_in}
+use Rattle.machine_roads.proofs.Silent.{none_told, vain_at}
+use Rattle.machine_roads.proofs.TickPolls.{nothing_is}
+use Rattle.plain_laws.proofs.Searching.{closes_none, ends_none, gives_none, pends_none, searching}
+use Rattle.plain_laws.proofs.TakesDue.{chosen_found}
 use Rattle.two_roads.specs.Refusing.{asks_memory, ends_refused, has_to_wait, refused_so}
-use Rattle.two_roads.specs.Renaming.{call_as, code_as, is_refusal}
-use Rattle.two_roads.proofs.Moving.{Setting, now, task_alike}
+use Rattle.two_roads.specs.Renaming.{call_as, is_refusal}
+use Rattle.two_roads.proofs.Moving.{Few, Setting, now, task_alike}
+use Rattle.two_roads.proofs.Sought.{Sought, both_search, none_searches, sought_alike}
 use Rattle.two_roads.proofs.Tasks.{polled_as, asks_so as polled_so}
 use Rattle.two_roads.proofs.Words.{length_map}
 
@@ -62,8 +71,20 @@ same_test n = grind (arith, nat_tests)
 
 -- the same but for the names of outputs and wakers
 module _ {T U A B : Type 0} (k : Setting T U A B) where
-  pub asks_so : (call : Call T A) (p : Plain T A) → asks_memory (now k p) (call_as k.output k.waker call) ≡ asks_memory p call
-  asks_so (calls.PollHandle f w) p =
+  found_as : (o : Option (Search T A)) (o_as : Option (Search U B)) → Sought k o o_as
+      → or o_as (λ x. not (finds x)) false ≡ or o (λ x. not (finds x)) false
+  found_as o o_as none_searches = refl
+  found_as o o_as (both_search x few) = refl
+
+  vain_as : (call : Call T A) (p : Plain T A) → Few k p
+      → in_vain k.wakes_as k.other (call_as k.output k.waker call) (now k p) ≡ in_vain k.wakes k.choice call p
+  vain_as call p few =
+      found_as (searches k.wakes k.choice call p) (searches k.wakes_as k.other (call_as k.output k.waker call) (now k p))
+      (sought_alike k call p few)
+
+  pub asks_so : (call : Call T A) (p : Plain T A) → Few k p
+      → asks_memory k.wakes_as k.other (now k p) (call_as k.output k.waker call) ≡ asks_memory k.wakes k.choice p call
+  asks_so (calls.PollHandle f w) p few =
       ap has_to_wait
       (sym (polled_so k.output k.waker (task f p) ∙ ap (λ (t : AbstractTask U B). abstract.polled t) (task_alike k f p)))
       ∙ by (abstract.polled (task f p))
@@ -72,36 +93,9 @@ module _ {T U A B : Type 0} (k : Setting T U A B) where
       by (abstract.Polled.Output v) = refl
       by abstract.Polled.Cancelled = refl
       by abstract.Polled.Waits = refl
-  asks_so (calls.Spawn m) p = refl
-  asks_so calls.TryTick p = refl
-  asks_so calls.IsEmpty p = refl
-  asks_so (calls.Wake f) p = refl
-  asks_so (calls.Use f) p = refl
-  asks_so (calls.Copy f) p = refl
-  asks_so (calls.Release f) p = refl
-  asks_so (calls.Cancel f) p = refl
-  asks_so (calls.Detach f) p = refl
-  asks_so (calls.DropHandle f) p = refl
-  asks_so calls.NewTick p = refl
-  asks_so (calls.PollTick t w) p = refl
-  asks_so (calls.DropTick t) p = refl
-  asks_so calls.NewRun p = refl
-  asks_so (calls.PollRun r w) p = refl
-  asks_so (calls.DropRun r) p = refl
-  asks_so calls.Leak p = refl
-  asks_so calls.DropExecutor p = refl
-  asks_so calls.Pends p = ap (λ b. b && not (any is_due p.due)) (own p.inside)
-    where
-      own : (codes : List (Code T A)) → is_in_own (map (code_as k.output k.waker) codes) ≡ is_in_own codes
-      own [] = refl
-      own (Poll f by ∷ codes) = refl
-      own (Drop f end by ∷ codes) = refl
-      own (Lose awaiter by ∷ codes) = refl
-      own (PollOwn r w ∷ codes) = refl
-      own (DropOwn r answer ∷ codes) = refl
-      own (Close fs all ∷ codes) = refl
-  asks_so (calls.EndsWith v) p = refl
-  asks_so calls.Ends p = refl
+  asks_so calls.Pends p few = vain_as calls.Pends p few
+  asks_so calls.Ends p few = vain_as calls.Ends p few
+  asks_so call p few = refl
 
 -- a call that asks for memory
 module _ (d : Choice) (x : Refusal) where
@@ -155,9 +149,10 @@ module _ (d : Choice) (x : Refusal) where
       (Answers Pending))
       (last_is q.events (Answers NoMemory)) (is_granted d.refusal) is
 
-  rested : (who : Who) (w : Waker) (q : Plain Output Waker) (r : Refusal) → (r ≡ Later → OneMoreLies q (takes.rests wakes_in d r who w q))
-      → IsSeen q (takes.rests wakes_in d r who w q) → takes.rests wakes_in e x who w q ≡ takes.rests wakes_in d r who w q
-  rested who w q r anew is = ap (λ r. takes.rests wakes_in d r who w q) (is ∙ seen r anew)
+  -- who finds nothing
+  seen_at : (who : Who) (w : Waker) (q : Plain Output Waker) (r : Refusal) → (r ≡ Later → OneMoreLies q (takes.rests wakes_in d r who w q))
+      → IsSeen q (takes.rests wakes_in d r who w q) → x ≡ r
+  seen_at who w q r anew is = is ∙ seen r anew
     where
       lain : Plain Output Waker
       lain = takes.lies_down wakes_in d who w q
@@ -174,13 +169,17 @@ module _ (d : Choice) (x : Refusal) where
           ap (λ b. refused_so b (nat_lt (lie q) (lie lain))) (last_is lain.events (Answers NoMemory))
           ∙ ap (λ b. refused_so true b) (more_test (lie q) (lie lain) (anew refl))
 
+  rested : (who : Who) (w : Waker) (q : Plain Output Waker) (r : Refusal) → (r ≡ Later → OneMoreLies q (takes.rests wakes_in d r who w q))
+      → IsSeen q (takes.rests wakes_in d r who w q) → takes.rests wakes_in e x who w q ≡ takes.rests wakes_in d r who w q
+  rested who w q r anew is = ap (λ r. takes.rests wakes_in d r who w q) (seen_at who w q r anew is)
+
   abbrev took : ℕ → Waker → Plain Output Waker → Refusal → Option Due → Plain Output Waker
   took t w q r o =
       or o
       (λ due. takes.takes wakes_in d (Tick t w) due (record q { due = without (chosen (looks d (Tick t w)) q.due) q.due }))
       (takes.rests wakes_in d r (ATick t) w q)
 
-  ticked : (t : ℕ) (w : Waker) (q : Plain Output Waker) → IsLaterAnew d.refusal (calls.PollTick t w) q
+  ticked : (t : ℕ) (w : Waker) (q : Plain Output Waker) → IsLaterAnew d (calls.PollTick t w) q
       (does wakes_in d (calls.PollTick t w) q)
       → IsSeen q (does wakes_in d (calls.PollTick t w) q)
       → does wakes_in e (calls.PollTick t w) q ≡ does wakes_in d (calls.PollTick t w) q
@@ -191,7 +190,7 @@ module _ (d : Choice) (x : Refusal) where
       by None anew is = rested (ATick t) w q d.refusal anew is
       by (Some due) anew is = refl
 
-  -- a run that searches in vain
+  -- a run that searches in vain rests, and those lie there that lay before the call
   none_taken : (c : Choice) (r : ℕ) (w : Waker) (q : Plain Output Waker) → q.due ≡ []
       → takes.take wakes_in c (Run r w) q ≡ takes.rests wakes_in c c.refusal (ARun r) w q
   none_taken c r w q none =
@@ -200,31 +199,51 @@ module _ (d : Choice) (x : Refusal) where
       (λ due. takes.takes wakes_in c (Run r w) due (record q { due = without (chosen (looks c (Run r w)) q.due) q.due }))
       (takes.rests wakes_in c c.refusal (ARun r) w q)) none
 
-  looked : (q : Plain Output Waker) → is_in_vain q ≡ true → (d.refusal ≡ Later → OneMoreLies q (does wakes_in d calls.Pends q))
-      → IsSeen q (does wakes_in d calls.Pends q) → does wakes_in e calls.Pends q ≡ does wakes_in d calls.Pends q
-  looked q vain anew is = by q.inside vain anew is
-    where
-      ended : Choice → List (Code Output Waker) → Plain Output Waker
-      ended c codes = calls.innermost wakes_in c codes (calls.pends wakes_in c) q
+  module _ (call : Call Output Waker) (q : Plain Output Waker) (y : Search Output Waker) (at : searches wakes_in d call q ≡ Some y)
+      (none : finds y ≡ false) (anew : d.refusal ≡ Later → OneMoreLies q (does wakes_in d call q))
+      (is : IsSeen q (does wakes_in d call q)) where
+    rests_as : (c : Choice) → searches wakes_in c call q ≡ Some y
+        → does wakes_in c call q ≡ takes.rests wakes_in c c.refusal (ARun y.run) y.waker y.at
+    rests_as c at =
+        searching wakes_in c call q y at ∙ none_taken c y.run y.waker y.at (none_due y.at.due none)
 
-      nothing_due : (b : Bool) → any is_due q.due ≡ b → not b ≡ true → q.due ≡ []
-      nothing_due true is so = absurd cc
-      nothing_due false is so = none_due q.due is
+    same_lie : lie q ≡ lie y.at
+    same_lie = ap (λ (ls : List (Lying Waker)). length (uncalled ls)) (sym (none_told wakes_in d call q y at none))
 
-      by : (codes : List (Code Output Waker)) → (is_in_own codes && not (any is_due q.due)) ≡ true
-          → (d.refusal ≡ Later → OneMoreLies q (ended d codes)) → IsSeen q (ended d codes) → ended e codes ≡ ended d codes
-      by (PollOwn r w ∷ rest) vain anew is =
-          let q0 : Plain Output Waker = record q { inside = rest } in
-          let none = nothing_due (any is_due q.due) refl vain in
-          let rests = none_taken d r w q0 none in
-          none_taken e r w q0 none
-          ∙ (rested (ARun r) w q0 d.refusal (subst (λ z. d.refusal ≡ Later → OneMoreLies q z) rests anew)
-          (subst (λ z. IsSeen q z) rests is)
-          ∙ sym rests)
-      by codes vain anew is = absurd cc
+    anew_there : d.refusal ≡ Later → OneMoreLies y.at (takes.rests wakes_in d d.refusal (ARun y.run) y.waker y.at)
+    anew_there later =
+        subst (λ n. n < lie (takes.rests wakes_in d d.refusal (ARun y.run) y.waker y.at)) same_lie
+        (subst (λ z. OneMoreLies q z) (rests_as d at) (anew later))
 
-  pub seen_refused : (call : Call Output Waker) (q : Plain Output Waker) → asks_memory q call ≡ true
-      → IsLaterAnew d.refusal call q (does wakes_in d call q) → IsSeen q (does wakes_in d call q)
+    seen_there : IsSeen y.at (takes.rests wakes_in d d.refusal (ARun y.run) y.waker y.at)
+    seen_there =
+        let z = takes.rests wakes_in d d.refusal (ARun y.run) y.waker y.at in
+        subst (λ n. x ≡ refused_so (ends_refused z.events) (nat_lt n (lie z))) same_lie
+        (subst (λ z. IsSeen q z) (rests_as d at) is)
+
+    vain_seen : x ≡ d.refusal
+    vain_seen = seen_at (ARun y.run) y.waker y.at d.refusal anew_there seen_there
+
+    vain_same : does wakes_in e call q ≡ does wakes_in d call q
+    vain_same =
+        rests_as e at
+        ∙ (rested (ARun y.run) y.waker y.at d.refusal anew_there seen_there ∙ sym (rests_as d at))
+
+  looked : (call : Call Output Waker) (q : Plain Output Waker) → in_vain wakes_in d call q ≡ true
+      → (d.refusal ≡ Later → OneMoreLies q (does wakes_in d call q)) → IsSeen q (does wakes_in d call q)
+      → does wakes_in e call q ≡ does wakes_in d call q
+  looked call q vain anew is =
+      let y = vain_at (searches wakes_in d call q) vain in vain_same call q y.at y.is y.none anew is
+
+  searched : (call : Call Output Waker) (q : Plain Output Waker) → in_vain wakes_in d call q ≡ true
+      → (d.refusal ≡ Later → OneMoreLies q (does wakes_in d call q)) → IsSeen q (does wakes_in d call q)
+      → or (searches wakes_in e call q) (run_turns x) 0 ≡ or (searches wakes_in d call q) (run_turns d.refusal) 0
+  searched call q vain anew is =
+      let y = vain_at (searches wakes_in d call q) vain in
+      ap (λ r. or (searches wakes_in d call q) (run_turns r) 0) (vain_seen call q y.at y.is y.none anew is)
+
+  pub seen_refused : (call : Call Output Waker) (q : Plain Output Waker) → asks_memory wakes_in d q call ≡ true
+      → IsLaterAnew d call q (does wakes_in d call q) → IsSeen q (does wakes_in d call q)
       → does wakes_in e call q ≡ does wakes_in d call q
   seen_refused (calls.Spawn m) q asks anew is = spawned m q is
   seen_refused (calls.Copy f) q asks anew is = grants q (put f (abstract.copy (task f q)) q) (is_granted d.refusal) is
@@ -233,100 +252,113 @@ module _ (d : Choice) (x : Refusal) where
   seen_refused (calls.PollTick t w) q asks anew is = ticked t w q anew is
   seen_refused calls.NewRun q asks anew is =
       grants q (record q { runs = q.runs ++ record { taken = 0; is_over = false } ∷ [] }) (is_granted d.refusal) is
-  seen_refused calls.Pends q asks anew is = looked q asks (anew asks) is
+  seen_refused calls.Pends q asks anew is = looked calls.Pends q asks (anew asks) is
+  seen_refused calls.Ends q asks anew is = looked calls.Ends q asks (anew asks) is
   seen_refused call q asks anew is = absurd cc
+
+  -- so many turns are then taken by what is seen as by what was refused
+  pub turns_seen : (call : Call Output Waker) (q : Plain Output Waker) → asks_memory wakes_in d q call ≡ true
+      → IsLaterAnew d call q (does wakes_in d call q) → IsSeen q (does wakes_in d call q)
+      → turns_of wakes_in e call q ≡ turns_of wakes_in d call q
+  turns_seen (calls.PollTick t w) q asks anew is = by (any (is_common PlainMark) q.due) refl (any (is_common Urgent) q.due) refl
+    where
+      of : Bool → Bool → Refusal → ℕ
+      of a b r = cond a 1 (cond b 1 (vain_turns r (ATick t) q.lying))
+
+      by : (a : Bool) → any (is_common PlainMark) q.due ≡ a → (b : Bool) → any (is_common Urgent) q.due ≡ b
+          → of (any (is_common PlainMark) q.due) (any (is_common Urgent) q.due) x
+          ≡ of (any (is_common PlainMark) q.due) (any (is_common Urgent) q.due) d.refusal
+      by true one b two = ap (λ a. of a (any (is_common Urgent) q.due) x) one ∙ sym
+          (ap (λ a. of a (any (is_common Urgent) q.due) d.refusal) one)
+      by false one true two = ap (λ a. of a (any (is_common Urgent) q.due) x) one ∙ (ap (λ b. of false b x) two
+          ∙ sym (ap (λ a. of a (any (is_common Urgent) q.due) d.refusal) one ∙ ap (λ b. of false b d.refusal) two))
+      by false one false two =
+          let none : (m : Mark) → any (is_common m) q.due ≡ false = neither one two in
+          let rests = nothing_is d t w d.refusal q none in
+          ap (λ r. of (any (is_common PlainMark) q.due) (any (is_common Urgent) q.due) r)
+          (seen_at (ATick t) w q d.refusal (subst (λ z. d.refusal ≡ Later → OneMoreLies q z) rests anew)
+          (subst (λ z. IsSeen q z) rests is))
+        where
+          neither : any (is_common PlainMark) q.due ≡ false → any (is_common Urgent) q.due ≡ false → (m : Mark)
+              → any (is_common m) q.due ≡ false
+          neither one two PlainMark = one
+          neither one two Urgent = two
+  turns_seen calls.Pends q asks anew is = searched calls.Pends q asks (anew asks) is
+  turns_seen calls.Ends q asks anew is = searched calls.Ends q asks (anew asks) is
+  turns_seen calls.TryTick q asks anew is = refl
+  turns_seen call q asks anew is = by q.inside
+    where
+      by : (codes : List (Code Output Waker))
+          → or (searches_inside wakes_in e call codes q) (run_turns x) 0 ≡ or (searches_inside wakes_in d call codes q)
+          (run_turns d.refusal) 0
+      by [] = refl
+      by (code ∷ codes) = refl
 
 -- to one that asks for none it is nothing
 abbrev otherwise : Choice → Refusal → Choice
 otherwise c x = record c { refusal = x }
 
 module _ {T A : Type 0} (wakes : A → Option ℕ) (c : Choice) (x : Refusal) where
-  nexts : (by : Taker A) (p : Plain T A) → is_runs by ≡ false → takes.next wakes (otherwise c x) by p ≡ takes.next wakes c by p
-  nexts Try p off = refl
-  nexts (Tick t w) p off = refl
-  nexts (Run r w) p off = absurd cc
-
-  pending : (o : abstract.PendingEnd) (f : ℕ) (by : Taker A) (p : Plain T A) → is_runs by ≡ false
-      → calls.pending_by wakes (otherwise c x) o f by p ≡ calls.pending_by wakes c o f by p
-  pending abstract.PendingEnd.Drops f by p off = refl
-  pending abstract.PendingEnd.Forgets f by p off = refl
-  pending abstract.PendingEnd.Queues f by p off =
-      nexts by (moves.becomes wakes (tell wakes c) f (abstract.end_pending (task f p)).task p) off
-  pending abstract.PendingEnd.Rests f by p off =
-      nexts by (moves.becomes wakes (tell wakes c) f (abstract.end_pending (task f p)).task p) off
-
-  pends_on : (codes : List (Code T A)) (p : Plain T A) → (is_in_own codes && not (any is_due p.due)) ≡ false → takes_in p.due codes ≡ false
-      → calls.innermost wakes (otherwise c x) codes (calls.pends wakes (otherwise c x)) p ≡ calls.innermost wakes c codes
-      (calls.pends wakes c) p
-  pends_on [] p asks off = refl
-  pends_on (Poll f by ∷ rest) p asks off = pending (abstract.pending_end (task f (record p { inside = rest }))) f by
-      (record p { inside = rest }) off
-  pends_on (PollOwn r w ∷ rest) p asks off = absurd (clash asks (ap (λ b. not b) off))
-  pends_on (Drop f end by ∷ rest) p asks off = refl
-  pends_on (Lose awaiter by ∷ rest) p asks off = refl
-  pends_on (DropOwn r answer ∷ rest) p asks off = refl
-  pends_on (Close fs all ∷ rest) p asks off = refl
-
-  gives_on : (v : T) (codes : List (Code T A)) (p : Plain T A)
-      → calls.innermost wakes (otherwise c x) codes (calls.gives wakes (otherwise c x) v) p ≡ calls.innermost wakes c codes
-      (calls.gives wakes c v) p
-  gives_on v [] p = refl
-  gives_on v (Poll f by ∷ rest) p = refl
-  gives_on v (PollOwn r w ∷ rest) p = refl
-  gives_on v (Drop f end by ∷ rest) p = refl
-  gives_on v (Lose awaiter by ∷ rest) p = refl
-  gives_on v (DropOwn r answer ∷ rest) p = refl
-  gives_on v (Close fs all ∷ rest) p = refl
-
-  ends_on : (codes : List (Code T A)) (p : Plain T A) → takes_in p.due codes ≡ false
-      → calls.innermost wakes (otherwise c x) codes (calls.ends wakes (otherwise c x)) p ≡ calls.innermost wakes c codes
-      (calls.ends wakes c) p
-  ends_on [] p off = refl
-  ends_on (Poll f by ∷ rest) p off = refl
-  ends_on (PollOwn r w ∷ rest) p off = refl
-  ends_on (Drop f Closed Try ∷ rest) p off = refl
-  ends_on (Drop f Closed (Tick t w) ∷ rest) p off = refl
-  ends_on (Drop f Closed (Run r w) ∷ rest) p off = absurd cc
-  ends_on (Drop f (Gave v) Try ∷ rest) p off = refl
-  ends_on (Drop f (Gave v) (Tick t w) ∷ rest) p off = refl
-  ends_on (Drop f (Gave v) (Run r w) ∷ rest) p off = absurd cc
-  ends_on (Lose awaiter None ∷ rest) p off = refl
-  ends_on (Lose awaiter (Some Try) ∷ rest) p off = refl
-  ends_on (Lose awaiter (Some (Tick t w)) ∷ rest) p off = refl
-  ends_on (Lose awaiter (Some (Run r w)) ∷ rest) p off = absurd cc
-  ends_on (DropOwn r answer ∷ rest) p off = refl
-  ends_on (Close [] all ∷ rest) p off = refl
-  ends_on (Close (f ∷ fs) all ∷ rest) p off = refl
-
-  closes_on : (fs all : List ℕ) (p : Plain T A) → calls.close wakes (otherwise c x) fs all p ≡ calls.close wakes c fs all p
-  closes_on [] all p = refl
-  closes_on (f ∷ fs) all p = refl
-
-  pub unasked : (call : Call T A) (p : Plain T A) → asks_memory p call ≡ false → takes_for_run p call ≡ false
+  -- a run that finds one
+  found_same : (call : Call T A) (p : Plain T A) (y : Search T A) → searches wakes c call p ≡ Some y → finds y ≡ true
       → does wakes (otherwise c x) call p ≡ does wakes c call p
-  unasked calls.TryTick p asks off = refl
-  unasked calls.IsEmpty p asks off = refl
-  unasked (calls.Wake f) p asks off = refl
-  unasked (calls.Use f) p asks off = refl
-  unasked (calls.Release f) p asks off = refl
-  unasked (calls.PollHandle f w) p asks off = by (abstract.polled (task f p)) asks
+  found_same call p y is found =
+      searching wakes (otherwise c x) call p y is
+      ∙ (by (find test y.at.due) (chosen_found y.run c y.at.due found) ∙ sym (searching wakes c call p y is))
+    where
+      test : Due → Bool
+      test = chosen (looks c (Run y.run y.waker)) y.at.due
+
+      taken : Choice → Option Due → Plain T A
+      taken d o =
+          or o (λ due. takes.takes wakes d (Run y.run y.waker) due (record y.at { due = without test y.at.due }))
+          (takes.nothing wakes d (Run y.run y.waker) y.at)
+
+      by : (o : Option Due) → is_some o ≡ true → taken (otherwise c x) o ≡ taken c o
+      by None is = absurd cc
+      by (Some due) is = refl
+
+  -- code that ends
+  ended : (call : Call T A) (p : Plain T A) → in_vain wakes c call p ≡ false
+      → (searches wakes c call p ≡ None → does wakes (otherwise c x) call p ≡ does wakes c call p)
+      → does wakes (otherwise c x) call p ≡ does wakes c call p
+  ended call p asks none = by (searches wakes c call p) refl asks
+    where
+      some : (y : Search T A) → searches wakes c call p ≡ Some y → (b : Bool) → finds y ≡ b → not b ≡ false
+          → does wakes (otherwise c x) call p ≡ does wakes c call p
+      some y is true found asks = found_same call p y is found
+      some y is false found asks = absurd cc
+
+      by : (o : Option (Search T A)) → searches wakes c call p ≡ o → or o (λ x. not (finds x)) false ≡ false
+          → does wakes (otherwise c x) call p ≡ does wakes c call p
+      by None is asks = none is
+      by (Some y) is asks = some y is (finds y) refl asks
+
+  pub unasked : (call : Call T A) (p : Plain T A) → asks_memory wakes c p call ≡ false
+      → does wakes (otherwise c x) call p ≡ does wakes c call p
+  unasked calls.TryTick p asks = refl
+  unasked calls.IsEmpty p asks = refl
+  unasked (calls.Wake f) p asks = refl
+  unasked (calls.Use f) p asks = refl
+  unasked (calls.Release f) p asks = refl
+  unasked (calls.PollHandle f w) p asks = by (abstract.polled (task f p)) asks
     where
       by : (o : abstract.Polled T) → has_to_wait o ≡ false → calls.handle_by wakes (otherwise c x) f w o p ≡ calls.handle_by wakes c f w o p
       by (abstract.Polled.Output v) asks = refl
       by abstract.Polled.Cancelled asks = refl
       by abstract.Polled.Waits asks = absurd cc
-  unasked (calls.Cancel f) p asks off = refl
-  unasked (calls.Detach f) p asks off = refl
-  unasked (calls.DropHandle f) p asks off = refl
-  unasked (calls.DropTick t) p asks off = refl
-  unasked (calls.PollRun r w) p asks off = refl
-  unasked (calls.DropRun r) p asks off = refl
-  unasked calls.Leak p asks off = refl
-  unasked calls.DropExecutor p asks off = closes_on (living_from 0 p.futures) (living_from 0 p.futures) p
-  unasked calls.Pends p asks off = pends_on p.inside p asks off
-  unasked (calls.EndsWith v) p asks off = gives_on v p.inside p
-  unasked calls.Ends p asks off = ends_on p.inside p off
-  unasked call p asks off = absurd cc
+  unasked (calls.Cancel f) p asks = refl
+  unasked (calls.Detach f) p asks = refl
+  unasked (calls.DropHandle f) p asks = refl
+  unasked (calls.DropTick t) p asks = refl
+  unasked (calls.PollRun r w) p asks = refl
+  unasked (calls.DropRun r) p asks = refl
+  unasked calls.Leak p asks = refl
+  unasked calls.DropExecutor p asks = closes_none wakes c (otherwise c x) (living_from 0 p.futures) (living_from 0 p.futures) p
+  unasked calls.Pends p asks = ended calls.Pends p asks (λ none. pends_none wakes c (otherwise c x) p.inside p none)
+  unasked (calls.EndsWith v) p asks = gives_none wakes c (otherwise c x) v p.inside p
+  unasked calls.Ends p asks = ended calls.Ends p asks (λ none. ends_none wakes c (otherwise c x) p.inside p none)
+  unasked call p asks = absurd cc
 
 -- wherever a party rests, the wakers of those that sleep are those of who lies and wasn't called
 abbrev pub Lie : World → Plain Output Waker → Type 0

@@ -1,11 +1,8 @@
 -- And so it is with a future that is taken, with what becomes of it, and with what then goes on.
-use Rattle.std.proofs.Common.{◌≡◌, ℕ, suc, ◌+◌, ◌==◌, ◌≤◌, ◌&&◌, not, is_some, nat_lt, cond, Bool, true, false, List, [], ◌∷◌, ◌++◌, length}
+use Rattle.std.proofs.Common.{◌≡◌, ℕ, suc, ◌+◌, ◌==◌, ◌≤◌, nat_lt, cond, Bool, true, false, List, [], ◌∷◌, ◌++◌, length}
 use Rattle.std.proofs.Common.{map, find}
 use Rattle.std.proofs.Common.{Option, Some, None, slice_get, refl, sym, ap, subst, ◌∙◌}
 use Rattle.std.specs.Option.{option_map}
-use Rattle.executor_parts.specs.declared.mark.Mark.{Mark}
-use Rattle.executor_parts.specs.declared.mark.Mark.TheVariants.{Plain as PlainMark, Urgent}
-use Rattle.executor_parts.specs.Marks.{other, same_mark}
 use Rattle.task_moves.specs.AbstractTask as abstract
 use Rattle.task_moves.specs.AbstractTask.{AbstractTask, Left}
 use Rattle.plain_scheduler.specs.State.{Answer, Answers, ARun, ATick, AtOnce, Calls, Choice, Closed, Done, Drop, Drops, Due, End, Event}
@@ -14,15 +11,14 @@ use Rattle.plain_scheduler.specs.State.{Granted, Later, Lose, Loses, Lying, No, 
 use Rattle.plain_scheduler.specs.State.{Run}
 use Rattle.plain_scheduler.specs.State.{Taker, Tick, Try, Who, Yes}
 use Rattle.plain_scheduler.specs.Lists.{any, each, on, or, repeat, without}
-use Rattle.plain_scheduler.specs.Moves.{answers, called, chosen, copied, enters, is_common, is_due, is_kept, is_run, keeps, let_go, lies}
+use Rattle.plain_scheduler.specs.Moves.{answers, called, chosen, copied, enters, is_common, is_due, is_kept, keeps, let_go, lies}
 use Rattle.plain_scheduler.specs.Moves.{looks, put}
 use Rattle.plain_scheduler.specs.Moves.{runs, see, task, tell, up, wake}
 use Rattle.plain_scheduler.specs.Takes as takes
-use Rattle.machine_roads.proofs.Lists.{clash}
 use Rattle.machine_roads.proofs.RunLies.{none_due}
-use Rattle.two_roads.specs.Renaming.{GoesOnAlike, GoesOnIf, IsNoneCommon, RunsAlike, TakesAlike, TakesSo}
+use Rattle.two_roads.specs.Renaming.{FirstAlike, TakesSo}
 use Rattle.two_roads.specs.Renaming.{answer_as, end_as, event_as, lying_as, taker_as}
-use Rattle.two_roads.proofs.Looking.{common_alone, common_none, found_passes, looks_alike, passed_first, passed_later}
+use Rattle.two_roads.proofs.Looking.{looked, looks_alike}
 use Rattle.two_roads.proofs.Words.{find_map, map_append, without_map}
 use Rattle.two_roads.proofs.Tasks.{begins_so, finishes_so, left_as, ready_so}
 use Rattle.two_roads.proofs.Moving.{Alike, Few, Goes, Setting, andthen, called_alike, changed_alike, copied_alike, each_alike}
@@ -30,6 +26,17 @@ use Rattle.two_roads.proofs.Moving.{enters_alike}
 use Rattle.two_roads.proofs.Moving.{goes_alike, if_alike, its_task, keeps_alike, now, on_alike, put_alike, put_so}
 use Rattle.two_roads.proofs.Moving.{release_alike, repeat_alike, runs_alike, see_alike, stays, task_alike, tell_alike, up_alike}
 use Rattle.two_roads.proofs.Moving.{wake_alike}
+
+abbrev pub is_try_or_tick : {A : Type 0} → Taker A → Bool
+is_try_or_tick (Run r w) = false
+is_try_or_tick by = true
+
+-- of a run both choose the same, in each call
+pub record RunsAlike (c d : Choice) : Type 0 where
+  pub first : c.first ≡ d.first
+  pub keeps : c.keeps ≡ d.keeps
+  pub robs : c.robs ≡ d.robs
+  pub moves : c.moves ≡ d.moves
 
 module _ {T U A B : Type 0} (k : Setting T U A B) where
   abbrev c : Choice
@@ -96,10 +103,10 @@ module _ {T U A B : Type 0} (k : Setting T U A B) where
       (enters_alike k (Poll f by))))
 
   -- so many more it moves only where it robs another
-  abbrev MovesAlike : ℕ → Option ℕ → Type 0
+  abbrev pub MovesAlike : ℕ → Option ℕ → Type 0
   MovesAlike r keeper = (one : ℕ) → keeper ≡ Some one → (r == one) ≡ false → c.moves ≡ d.moves
 
-  robbed_alike : (r : ℕ) (keeper : Option ℕ) → MovesAlike r keeper
+  pub robbed_alike : (r : ℕ) (keeper : Option ℕ) → MovesAlike r keeper
       → Goes k (takes.robbed k.wakes c r keeper) (takes.robbed k.wakes_as d r keeper)
   robbed_alike r None run p few = stays k p few
   robbed_alike r (Some one) run p few = by (r == one) refl
@@ -276,78 +283,21 @@ module _ {T U A B : Type 0} (k : Setting T U A B) where
 
   run_taken : (r : ℕ) (w : A) (p : Plain T A) → TakesSo c d r p.due → Few k p
       → Same (takes.take k.wakes c (Run r w) p) (takes.take k.wakes_as d (Run r (k.waker w)) (now k p))
-  run_taken r w p so few = own (any (is_kept r) p.due) refl
-    where
-      goal : Type 0
-      goal = Same (takes.take k.wakes c (Run r w) p) (takes.take k.wakes_as d (Run r (k.waker w)) (now k p))
+  run_taken r w p so few =
+      let both = looked c d r p.due so.first so.robs in
+      take_so (Run r w) p both.0
+      (λ due found. (so.keeps, λ one keeper apart. let last = both.1 due found one keeper apart in so.moves last.0 last.1)) few
 
-      tail : Choice → List (Due → Bool)
-      tail e = is_kept e.robs ∷ is_due ∷ []
-
-      commons : Choice → List (Due → Bool)
-      commons e = is_common e.first ∷ is_common (other e.first) ∷ tail e
-
-      test : Due → Bool
-      test = chosen (looks c (Run r w)) p.due
-
-      its_own : test ≡ is_kept r → (due : Due) → find test p.due ≡ Some due → KeepsAlike (Run r w) due
-      its_own is due found = (
-        so.keeps,
-        λ one keeper apart. absurd (clash apart
-            (ap (λ o. is_run r o) (sym keeper) ∙ (ap (λ (f : Due → Bool). f due) (sym is) ∙ found_passes test p.due due found))),
-      )
-
-      of_none : (first : Mark) → test ≡ chosen (is_common first ∷ is_common (other first) ∷ []) p.due → (due : Due)
-          → find test p.due ≡ Some due → KeepsAlike (Run r w) due
-      of_none first is due found = (
-        so.keeps,
-        λ one keeper apart. absurd
-            (by (any (is_common first) p.due) (any (is_common (other first)) p.due) one keeper
-            (ap (λ (f : Due → Bool). f due) (sym is) ∙ found_passes test p.due due found)),
-      )
-        where
-          common : (m : Mark) (one : ℕ) → due.keeper ≡ Some one → is_common m due ≡ true → ⊥
-          common m one keeper passes = clash (ap (λ (o : Option ℕ). not (is_some o) && same_mark m due.mark) keeper) passes
-
-          by : (a b : Bool) (one : ℕ) → due.keeper ≡ Some one
-              → cond a (is_common first due) (cond b (is_common (other first) due) false) ≡ true → ⊥
-          by true b one keeper passes = common first one keeper passes
-          by false true one keeper passes = common (other first) one keeper passes
-          by false false one keeper passes = cc
-
-      some_common : any (is_kept r) p.due ≡ false → ¬ IsNoneCommon p.due → goal
-      some_common mine some =
-          let is = passed_later (is_kept r) (commons c) p.due mine ∙ common_alone c.first (tail c) p.due some in
-          take_so (Run r w) p
-          (is
-          ∙ (looks_alike c.first d.first p.due (so.first mine)
-          ∙ sym (passed_later (is_kept r) (commons d) p.due mine ∙ common_alone d.first (tail d) p.due some)))
-          (of_none c.first is) few
-
-      none_kept : any (is_kept r) p.due ≡ false → (a : Bool) → any (is_common PlainMark) p.due ≡ a → (b : Bool)
-          → any (is_common Urgent) p.due ≡ b → goal
-      none_kept mine false plain false urgent =
-          let none : IsNoneCommon p.due = record { plain = plain; urgent = urgent } in
-          take_so (Run r w) p
-          (passed_later (is_kept r) (commons c) p.due mine
-          ∙ (common_none c.first (tail c) p.due none
-          ∙ (ap (λ n. chosen (is_kept n ∷ is_due ∷ []) p.due) (so.robs mine none)
-          ∙ sym (passed_later (is_kept r) (commons d) p.due mine ∙ common_none d.first (tail d) p.due none))))
-          (λ due found. (so.keeps, λ one keeper apart. so.moves mine none)) few
-      none_kept mine true plain b urgent = some_common mine (λ none. clash none.plain plain)
-      none_kept mine false plain true urgent = some_common mine (λ none. clash none.urgent urgent)
-
-      own : (b : Bool) → any (is_kept r) p.due ≡ b → goal
-      own true mine =
-          let is = passed_first (is_kept r) (commons c) p.due mine in
-          take_so (Run r w) p (is ∙ sym (passed_first (is_kept r) (commons d) p.due mine)) (its_own is) few
-      own false mine = none_kept mine (any (is_common PlainMark) p.due) refl (any (is_common Urgent) p.due) refl
-
-  pub take_same : (by : Taker A) (p : Plain T A) → TakesAlike c d by p.due → Few k p
+  pub take_first : (by : Taker A) → is_try_or_tick by ≡ true → (p : Plain T A) → FirstAlike c d p.due → Few k p
       → Same (takes.take k.wakes c by p) (takes.take k.wakes_as d (taker by) (now k p))
-  take_same Try p alike few = take_so Try p (looks_alike c.first d.first p.due alike) (λ due found. tt) few
-  take_same (Tick t w) p alike few = take_so (Tick t w) p (looks_alike c.first d.first p.due alike) (λ due found. tt) few
-  take_same (Run r w) p alike few = by (any is_due p.due) refl
+  take_first Try is p alike few = take_so Try p (looks_alike c.first d.first p.due alike) (λ due found. tt) few
+  take_first (Tick t w) is p alike few = take_so (Tick t w) p (looks_alike c.first d.first p.due alike) (λ due found. tt) few
+  take_first (Run r w) is p alike few = absurd cc
+
+  -- a run, where any is due
+  pub take_run : (r : ℕ) (w : A) (p : Plain T A) → (any is_due p.due ≡ true → TakesSo c d r p.due) → Few k p
+      → Same (takes.take k.wakes c (Run r w) p) (takes.take k.wakes_as d (Run r (k.waker w)) (now k p))
+  take_run r w p alike few = by (any is_due p.due) refl
     where
       by : (b : Bool) → any is_due p.due ≡ b
           → Same (takes.take k.wakes c (Run r w) p) (takes.take k.wakes_as d (Run r (k.waker w)) (now k p))
@@ -383,26 +333,26 @@ module _ {T U A B : Type 0} (k : Setting T U A B) where
       by p few None = (see_alike k (Calls w) p few).same
       by p few (Some f) = (wake_alike k tells tells_as (tell_alike k) f p few).same
 
-  pub next_same : (by : Taker A) → GoesOnAlike c d by → (p : Plain T A) → Few k p
+  pub next_same : RunsAlike c d → (by : Taker A) (p : Plain T A) → Few k p
       → Same (takes.next k.wakes c by p) (takes.next k.wakes_as d (taker by) (now k p))
-  next_same Try on p few = answers_same Yes p (now k p) (stays_same p)
-  next_same (Tick t w) on p few = answers_same Ready p (now k p) (stays_same p)
-  next_same (Run r w) on p few =
+  next_same on Try p few = answers_same Yes p (now k p) (stays_same p)
+  next_same on (Tick t w) p few = answers_same Ready p (now k p) (stays_same p)
+  next_same on (Run r w) p few =
       if_same (nat_lt (or (slice_get p.runs r) (λ run. run.taken) 0) 200) (takes.take k.wakes c (Run r w) p)
       (takes.gives_way k.wakes c r w p) (takes.take k.wakes_as d (Run r (k.waker w)) (now k p))
-      (takes.gives_way k.wakes_as d r (k.waker w) (now k p)) (take_same (Run r w) p (λ some. on_so on) few) (gives_way_same r w p few)
+      (takes.gives_way k.wakes_as d r (k.waker w) (now k p)) (take_run r w p (λ some. so) few) (gives_way_same r w p few)
     where
-      on_so : RunsAlike c d → TakesSo c d r p.due
-      on_so on = record { keeps = on.keeps; first = λ mine both. on.first; robs = λ mine none. on.robs; moves = λ mine none. on.moves }
+      so : TakesSo c d r p.due
+      so = record { keeps = on.keeps; first = λ mine both. on.first; robs = λ mine none. on.robs; moves = λ mine none. on.moves }
 
-  pub lost_same : (awaiter : Option A) (by : Option (Taker A)) → GoesOnIf c d by → (p : Plain T A) → Few k p
+  pub lost_same : RunsAlike c d → (awaiter : Option A) (by : Option (Taker A)) (p : Plain T A) → Few k p
       → Same (takes.lost k.wakes c awaiter by p)
       (takes.lost k.wakes_as d (option_map k.waker awaiter) (option_map (taker_as k.waker) by) (now k p))
-  lost_same awaiter by on_so p few =
+  lost_same alike awaiter by p few =
       into (goes_on by) (goes_as (option_map (taker_as k.waker) by))
       (on_alike k k.waker awaiter (option_map k.waker awaiter) refl (called k.wakes tells) (called k.wakes_as tells_as) p few
       (λ w. called_alike k tells tells_as (tell_alike k) w p few))
-      (next_if by on_so)
+      (next_if by)
     where
       goes_on : Option (Taker A) → Plain T A → Plain T A
       goes_on by q = or by (λ taker. takes.next k.wakes c taker q) (answers Done q)
@@ -410,18 +360,18 @@ module _ {T U A B : Type 0} (k : Setting T U A B) where
       goes_as : Option (Taker B) → Plain U B → Plain U B
       goes_as by q = or by (λ taker. takes.next k.wakes_as d taker q) (answers Done q)
 
-      next_if : (by : Option (Taker A)) → GoesOnIf c d by → (p : Plain T A) → Few k p
+      next_if : (by : Option (Taker A)) (p : Plain T A) → Few k p
           → Same (goes_on by p) (goes_as (option_map (taker_as k.waker) by) (now k p))
-      next_if None on_so p few = answers_same Done p (now k p) (stays_same p)
-      next_if (Some by) on_so p few = next_same by on_so p few
+      next_if None p few = answers_same Done p (now k p) (stays_same p)
+      next_if (Some by) p few = next_same alike by p few
 
   -- what goes out of a task
   abbrev pub left : Left T A → Left U B
   left l = left_as k.output k.waker l
 
-  out_same : (l : Left T A) (by : Option (Taker A)) → GoesOnIf c d by → (p : Plain T A) → Few k p
+  out_same : RunsAlike c d → (l : Left T A) (by : Option (Taker A)) (p : Plain T A) → Few k p
       → Same (takes.out k.wakes c l by p) (takes.out k.wakes_as d (left l) (option_map (taker_as k.waker) by) (now k p))
-  out_same l by on_so p few = dropped l.dropped
+  out_same alike l by p few = dropped l.dropped
     where
       goes : Option A → Plain T A → Plain T A
       goes o p = on o (let_go k.wakes tells) p
@@ -440,34 +390,34 @@ module _ {T U A B : Type 0} (k : Setting T U A B) where
           (takes.lost k.wakes_as d (option_map k.waker l.called) (option_map (taker_as k.waker) by))
           (on_alike k k.waker l.let_go (option_map k.waker l.let_go) refl (let_go k.wakes tells) (let_go k.wakes_as tells_as) p few
           (λ w. goes_alike k w p few))
-          (lost_same l.called by on_so)
+          (lost_same alike l.called by)
       dropped (Some v) =
           (andthen k (enters (Lose l.called by)) (enters (Lose (option_map k.waker l.called) (option_map (taker_as k.waker) by)))
           (see_alike k (Loses v) p few) (enters_alike k (Lose l.called by))).same
 
-  pub ended_same : (f : ℕ) (l : Left T A) (l_as : Left U B) → left l ≡ l_as → (by : Option (Taker A)) → GoesOnIf c d by
-      → (p : Plain T A) → Few k p
+  pub ended_same : RunsAlike c d → (f : ℕ) (l : Left T A) (l_as : Left U B) → left l ≡ l_as → (by : Option (Taker A)) (p : Plain T A)
+      → Few k p
       → Same (takes.ended k.wakes c f l by p) (takes.ended k.wakes_as d f l_as (option_map (taker_as k.waker) by) (now k p))
-  ended_same f l l_as is by on_so p few =
+  ended_same alike f l l_as is by p few =
       subst
       (λ l_as. Same (takes.ended k.wakes c f l by p)
       (takes.ended k.wakes_as d f l_as (option_map (taker_as k.waker) by) (now k p)))
       is
       (into (takes.out k.wakes c l by) (takes.out k.wakes_as d (left l) (option_map (taker_as k.waker) by))
-      (put_alike k f l.task p few) (out_same l by on_so))
+      (put_alike k f l.task p few) (out_same alike l by))
 
-  given_up_alike : (f : ℕ) → Goes k (takes.given_up k.wakes c f) (takes.given_up k.wakes_as d f)
+  pub given_up_alike : (f : ℕ) → Goes k (takes.given_up k.wakes c f) (takes.given_up k.wakes_as d f)
   given_up_alike f p few =
       if_alike k p.is_static (stays k p few) (release_alike k tells tells_as (tell_alike k) f p few)
 
-  left_so : (end : End T) (t : AbstractTask T A)
+  pub left_so : (end : End T) (t : AbstractTask T A)
       → left (takes.left_by k.wakes c end t) ≡ takes.left_by k.wakes_as d (end_as k.output end) (its_task k t)
   left_so Closed t = finishes_so k.output k.waker t
   left_so (Gave v) t = ready_so k.output k.waker v t
 
-  pub dropped_same : (f : ℕ) (end : End T) (by : Taker A) → GoesOnAlike c d by → (p : Plain T A) → Few k p
+  pub dropped_same : RunsAlike c d → (f : ℕ) (end : End T) (by : Taker A) (p : Plain T A) → Few k p
       → Same (takes.dropped k.wakes c f end by p) (takes.dropped k.wakes_as d f (end_as k.output end) (taker by) (now k p))
-  dropped_same f end by on_so p few =
+  dropped_same alike f end by p few =
       into
       (λ q. takes.ended k.wakes c f (takes.left_by k.wakes c end (task f q)) (Some by) q)
       (λ q. takes.ended k.wakes_as d f (takes.left_by k.wakes_as d (end_as k.output end) (task f q)) (Some (taker by)) q)
@@ -475,8 +425,8 @@ module _ {T U A B : Type 0} (k : Setting T U A B) where
       (changed_alike k (λ future. record future { is_dropped = true }) (λ future. record future { is_dropped = true }) (λ x. refl) f p few)
       (given_up_alike f))
       (λ q few.
-      ended_same f (takes.left_by k.wakes c end (task f q))
+      ended_same alike f (takes.left_by k.wakes c end (task f q))
       (takes.left_by k.wakes_as d (end_as k.output end) (task f (now k q)))
       (left_so end (task f q)
       ∙ ap (λ (t : AbstractTask U B). takes.left_by k.wakes_as d (end_as k.output end) t) (task_alike k f q))
-      (Some by) on_so q few)
+      (Some by) q few)

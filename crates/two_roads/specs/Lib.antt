@@ -6,3 +6,4 @@ pub mod Together
 pub mod Refusing
 pub mod Acting
 pub mod Turns
+pub mod Wishing

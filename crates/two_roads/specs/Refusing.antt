@@ -1,11 +1,11 @@
 -- What the machine's own trace and world say of the memory that is refused in an act.
-use Rattle.std.specs.Prelude.{nat_lt, Bool, true, false, List, [], ◌∷◌, length}
+use Rattle.std.specs.Prelude.{ℕ, nat_lt, Bool, true, false, List, [], ◌∷◌, length, Option}
 use Rattle.executor_model.specs.Steps.{Machine}
 use Rattle.task_moves.specs.AbstractTask as abstract
-use Rattle.plain_scheduler.specs.State.{AtOnce, Event, Granted, Later, Plain, Refusal}
+use Rattle.plain_scheduler.specs.State.{AtOnce, Choice, Event, Granted, Later, Plain, Refusal}
 use Rattle.plain_scheduler.specs.Moves.{task}
-use Rattle.plain_scheduler.specs.Calls.{Call, Copy, NewRun, NewTick, Pends, PollHandle, PollTick, Spawn}
-use Rattle.machine_roads.specs.Refused.{is_in_vain}
+use Rattle.plain_scheduler.specs.Calls.{Call, Copy, Ends, NewRun, NewTick, Pends, PollHandle, PollTick, Spawn}
+use Rattle.machine_roads.specs.Refused.{in_vain}
 use Rattle.machine_roads.specs.Seeing.{heard_in}
 use Rattle.machine_roads.specs.Within.{Act}
 use Rattle.two_roads.specs.Renaming.{is_refusal}
@@ -14,17 +14,17 @@ abbrev pub has_to_wait : {T : Type 0} → abstract.Polled T → Bool
 has_to_wait abstract.Polled.Waits = true
 has_to_wait _ = false
 
--- where no run takes a future these calls alone ask for memory: a poll of a handle where it has to wait, and the end of the poll of a
--- run's own future where it searches in vain
-abbrev pub asks_memory : {T A : Type 0} → Plain T A → Call T A → Bool
-asks_memory p (Spawn m) = true
-asks_memory p (Copy f) = true
-asks_memory p (PollHandle f w) = has_to_wait (abstract.polled (task f p))
-asks_memory p NewTick = true
-asks_memory p (PollTick t w) = true
-asks_memory p NewRun = true
-asks_memory p Pends = is_in_vain p
-asks_memory p _ = false
+-- these calls alone ask for memory: a poll of a handle where it has to wait, and the end of code where a run then searches in vain
+abbrev pub asks_memory : {T A : Type 0} → (A → Option ℕ) → Choice → Plain T A → Call T A → Bool
+asks_memory wakes c p (Spawn m) = true
+asks_memory wakes c p (Copy f) = true
+asks_memory wakes c p (PollHandle f w) = has_to_wait (abstract.polled (task f p))
+asks_memory wakes c p NewTick = true
+asks_memory wakes c p (PollTick t w) = true
+asks_memory wakes c p NewRun = true
+asks_memory wakes c p Pends = in_vain wakes c Pends p
+asks_memory wakes c p Ends = in_vain wakes c Ends p
+asks_memory wakes c p _ = false
 
 -- the last of these is the answer that there is no memory
 abbrev pub ends_refused : {T A : Type 0} → List (Event T A) → Bool

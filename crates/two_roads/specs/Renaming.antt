@@ -1,5 +1,5 @@
 -- The plain scheduler with other outputs and other wakers in the place of its own.
-use Rattle.std.specs.Prelude.{◌≡◌, ℕ, ◌≤◌, Bool, true, false, List, [], ◌∷◌, map, length, Option, Some, None}
+use Rattle.std.specs.Prelude.{◌≡◌, ℕ, ◌≤◌, Bool, true, false, List, [], ◌∷◌, map, length, Option, Some}
 use Rattle.std.specs.Option.{option_map}
 use Rattle.executor_parts.specs.declared.mark.Mark.TheVariants.{Plain as PlainMark, Urgent}
 use Rattle.task_moves.specs.AbstractTask.{AbstractTask}
@@ -8,10 +8,11 @@ use Rattle.plain_scheduler.specs.State.{DropOwn}
 use Rattle.plain_scheduler.specs.State.{Close, Event, Polls, Drops, Loses, Calls, Answers, Choice, Plain}
 use Rattle.plain_scheduler.specs.State.{Answer, Made, Full, NoMemory, Yes, No, Pending, Ready, Gives, Cancelled, Finished, Done}
 use Rattle.plain_scheduler.specs.Lists.{any}
-use Rattle.plain_scheduler.specs.Moves.{is_common, is_due, is_kept}
+use Rattle.plain_scheduler.specs.Moves.{is_common, is_kept}
 use Rattle.plain_scheduler.specs.Calls.{Call, Spawn, TryTick, IsEmpty, Wake, Use, Copy, Release, PollHandle, Cancel, Detach, DropHandle}
 use Rattle.plain_scheduler.specs.Calls.{NewTick, PollTick, DropTick, NewRun, PollRun, DropRun, Leak, DropExecutor, Pends, EndsWith, Ends}
 use Rattle.plain_scheduler.specs.Calls.{does}
+use Rattle.plain_scheduler.specs.Searches.{Search, finds, searches}
 
 module _ {A B : Type 0} (waker : A → B) where
   abbrev pub lying_as : Lying A → Lying B
@@ -118,13 +119,6 @@ pub record AreBothDue (due : List Due) : Type 0 where
   pub plain : any (is_common PlainMark) due ≡ true
   pub urgent : any (is_common Urgent) due ≡ true
 
--- what a run's poll takes and keeps
-pub record RunsAlike (c d : Choice) : Type 0 where
-  pub first : c.first ≡ d.first
-  pub keeps : c.keeps ≡ d.keeps
-  pub robs : c.robs ≡ d.robs
-  pub moves : c.moves ≡ d.moves
-
 -- nor are there any that no run keeps
 pub record IsNoneCommon (due : List Due) : Type 0 where
   pub plain : any (is_common PlainMark) due ≡ false
@@ -139,59 +133,33 @@ pub record TakesSo (x y : Choice) (r : ℕ) (due : List Due) : Type 0 where
   pub moves : any (is_kept r) due ≡ false → IsNoneCommon due → x.moves ≡ y.moves
 
 -- which of the two choices have to be the same: at which mark is looked first matters where a try or a tick takes a future while
--- futures of both are due; how a run takes and keeps matters only to a run, and where any is due
+-- futures of both are due; how a run takes and keeps matters only where one searches, and any is due there
 module _ (c d : Choice) where
   abbrev pub FirstAlike : List Due → Type 0
   FirstAlike due = AreBothDue due → c.first ≡ d.first
 
-  module _ {A : Type 0} where
-    abbrev pub TakesAlike : Taker A → List Due → Type 0
-    TakesAlike Try due = FirstAlike due
-    TakesAlike (Tick t w) due = FirstAlike due
-    TakesAlike (Run r w) due = any is_due due ≡ true → TakesSo c d r due
-
-    -- behind a future a run takes another
-    abbrev pub GoesOnAlike : Taker A → Type 0
-    GoesOnAlike Try = Unit {0}
-    GoesOnAlike (Tick t w) = Unit {0}
-    GoesOnAlike (Run r w) = RunsAlike c d
-
-    abbrev pub GoesOnIf : Option (Taker A) → Type 0
-    GoesOnIf None = Unit {0}
-    GoesOnIf (Some by) = GoesOnAlike by
-
-  module _ {T A : Type 0} where
-    -- where its own future is pending it takes one only where any is due
-    abbrev pub EndsAlike : List Due → Code T A → Type 0
-    EndsAlike due (Poll f by) = GoesOnAlike by
-    EndsAlike due (Drop f end by) = GoesOnAlike by
-    EndsAlike due (Lose awaiter by) = GoesOnIf by
-    EndsAlike due (PollOwn r w) = TakesAlike (Run r w) due
-    EndsAlike due (DropOwn r answer) = Unit {0}
-    EndsAlike due (Close fs all) = Unit {0}
-
-    abbrev pub InnermostAlike : List Due → List (Code T A) → Type 0
-    InnermostAlike due [] = Unit {0}
-    InnermostAlike due (code ∷ codes) = EndsAlike due code
+  module _ {T A : Type 0} (wakes : A → Option ℕ) where
+    abbrev pub SearchesAlike : Plain T A → Call T A → Type 0
+    SearchesAlike p call = (x : Search T A) → searches wakes c call p ≡ Some x → finds x ≡ true → TakesSo c d x.run x.at.due
 
     abbrev pub CallsAlike : Plain T A → Call T A → Type 0
     CallsAlike p TryTick = FirstAlike p.due
     CallsAlike p (PollTick t w) = FirstAlike p.due
-    CallsAlike p Pends = InnermostAlike p.due p.inside
-    CallsAlike p Ends = InnermostAlike p.due p.inside
+    CallsAlike p Pends = SearchesAlike p Pends
+    CallsAlike p Ends = SearchesAlike p Ends
     CallsAlike p _ = Unit {0}
 
 -- one call, by two choices: the same is refused, and both tell who lay down last
-pub record ChooseAlike {T A : Type 0} (c d : Choice) (p : Plain T A) (call : Call T A) : Type 0 where
+pub record ChooseAlike {T A : Type 0} (wakes : A → Option ℕ) (c d : Choice) (p : Plain T A) (call : Call T A) : Type 0 where
   pub refusal : c.refusal ≡ d.refusal
   pub tells : length p.lying ≤ c.tells
   pub tells_so : length p.lying ≤ d.tells
-  pub takes : CallsAlike c d p call
+  pub takes : CallsAlike c d wakes p call
 
 -- the same calls but for these names, by choices that are alike
 module _ {T U A B : Type 0} (output : T → U) (waker : A → B) (wakes : A → Option ℕ) where
   pub data AreSame : List (Choice × Call T A) → Plain T A → List (Choice × Call U B) → Type 0 where
     none : (p : Plain T A) → AreSame [] p []
     more : (c d : Choice) (call : Call T A) (cs : List (Choice × Call T A)) (p : Plain T A) (ds : List (Choice × Call U B))
-        → ChooseAlike c d p call → AreSame cs (does wakes c call p) ds
+        → ChooseAlike wakes c d p call → AreSame cs (does wakes c call p) ds
         → AreSame ((c, call) ∷ cs) p ((d, call_as output waker call) ∷ ds)

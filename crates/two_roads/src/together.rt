@@ -1,5 +1,5 @@
 //! By the same calls the step machine, one party at a time alone, and the executor of one owner give the same.
-ghost use Rattle.std.specs.Prelude.{◌≡◌, ℕ, ◌++◌, [], ◌∷◌, List, not, true};
+ghost use Rattle.std.specs.Prelude.{◌≡◌, ◌≤◌, ℕ, ◌++◌, [], ◌∷◌, List, not, true};
 ghost use Rattle.executor_model.specs.Quiet.{IsQuiet};
 ghost use Rattle.executor_model.specs.Steps.{is_static_kind, start};
 ghost use Rattle.executor_model.specs.declared.call.Call.TheVariants.{DropExecutor as DropsExecutor};
@@ -20,12 +20,15 @@ ghost use Rattle.solo.specs.declared.solo.Solo.{Solo};
 ghost use Rattle.solo_laws.specs.Closing.{IsClosed};
 ghost use Rattle.solo_laws.specs.Courses.{Leads};
 ghost use Rattle.solo_laws.specs.LastCalls.{LastCalls};
+ghost use Rattle.queue_steps.specs.ClosableQueue.{most_accepted};
+ghost use Rattle.solo_laws.specs.Making.{Goes, MayGo, Wish, by_number, queued_by};
 ghost use Rattle.solo_laws.specs.Owner.{Owner, new_owner};
 ghost use Rattle.solo_laws.specs.Road.{wakes};
 ghost use Rattle.solo_laws.specs.Tabled.{Stands};
-ghost use Rattle.two_roads.specs.Acting.{AreActed, AreOfSteps, EndActed, EndOfSteps, acts_by, drop_acts_by, left_of};
+ghost use Rattle.two_roads.specs.Acting.{AreOfSteps, EndOfSteps, acts_by, drop_acts_by, left_of};
 ghost use Rattle.two_roads.specs.Renaming.{AreSame};
 ghost use Rattle.two_roads.specs.Together.{TellsOf, as_heard, left_by, made_by, nothing, numbered};
+ghost use Rattle.two_roads.specs.Wishing.{AreRefusedSo, AreWishesOfSteps};
 
 /// A list of lone calls of a new machine is one of the plain scheduler's, and so is a list of calls of a new executor of one owner.
 /// Where these are the same calls, with the same ends of polls and drops and the same refusals, both then stand where one plain
@@ -94,67 +97,50 @@ pub fn nested_calls_end_alike<F, T, X>()
         × (heard_in (left_of a.left later).world.trace ≡ as_heard number (shown ++ others)) }
 {}
 
-/// And so, where no run takes a future though it may search for one, each list of such acts of a new machine tells of what a list of calls
-/// of a new executor of one owner shows, where each of these calls is what the machine's step begins, or the answer of a poll or the end
-/// of a drop that the step has; where a call that asks for memory, also of a run that searches in vain, is refused it as the machine's
-/// trace and world say of the act; and where a try and a tick's poll look first at the mark that the machine's turn names.
-pub fn untaken_calls_show_alike<F, T, X>()
+/// And so each list of such acts of a new machine tells of what a list of calls of a new executor of one owner shows, where each of these
+/// calls is what the machine's step begins, or the answer of a poll or the end of a drop that the step has; where a call that asks for
+/// memory is refused it as the machine's trace and world say of the act; and where a run that robs another of a future looks for whom from
+/// the same word on as the machine's run in the act. Nothing else is asked: both then take as many turns in each call, their runs count as
+/// many futures, and the own queues stand in the same order; so each looks first at the mark, keeps and moves as many futures, and robs
+/// whom the other does.
+pub fn calls_show_alike<F, T, X>()
     ensures { (its : ℕ → Lent) (number : X → ℕ) (limit : ℕ) (kind : MachineKind) (solo_kind : Kind) (parties : ℕ) (acts : List Act)
         (calls : List (Choice × Call T (SoloWaker X))) (first last : Solo F T X) (shown : List (Event T (SoloWaker X)))
         (before : Who → ℕ) (after : Owner) → AreActs (start limit kind parties) acts
         → IsNew limit solo_kind first → counts solo_kind ≡ not (is_static_kind kind)
-        → Leads its calls (new_owner before) first (new limit (is_static_kind kind)) shown after last
-        → AreActed number (start limit kind parties) acts (new limit (is_static_kind kind)) calls
+        → (led : Leads its calls (new_owner before) first (new limit (is_static_kind kind)) shown after last)
+        → AreOfSteps number (start limit kind parties) acts led
         → Stands its last (course wakes calls (new limit (is_static_kind kind)))
         × (heard_in (left_of (start limit kind parties) acts).world.trace ≡ as_heard number shown) }
 {}
 
+/// And there is such a list of calls for each list of wishes that are the machine's acts, where the executor's owner may make each of these
+/// calls where those before it have led, and they queue no more tasks than a queue accepts in its life. Where memory is refused in it as in
+/// the acts, the machine's trace tells of what it shows.
+pub fn wished_calls_show_alike<F, T, X>()
+    ensures { (future : F) (number : X → ℕ) (limit : ℕ) (kind : MachineKind) (solo_kind : Kind) (parties : ℕ) (acts : List Act)
+        (xs : List (Wish T (SoloWaker X))) (first : Solo F T X) (before : Who → ℕ) → AreActs (start limit kind parties) acts
+        → IsNew limit solo_kind first → counts solo_kind ≡ not (is_static_kind kind)
+        → AreWishesOfSteps number (start limit kind parties) acts xs → queued_by limit xs ≤ most_accepted
+        → MayGo by_number xs (new_owner before) first (new limit (is_static_kind kind))
+        → (go : Goes by_number xs (new_owner before) first (new limit (is_static_kind kind)))
+        × (AreRefusedSo xs go.leads
+        → heard_in (left_of (start limit kind parties) acts).world.trace ≡ as_heard number go.shown) }
+{}
+
 /// And so to the end: from the executor's drop on, once no call is in progress any more, with the calls made in the drops of its futures
 /// and behind it.
-pub fn untaken_calls_end_alike<F, T, X>()
+pub fn calls_end_alike<F, T, X>()
     ensures { (its : ℕ → Lent) (number : X → ℕ) (limit : ℕ) (kind : MachineKind) (solo_kind : Kind) (parties : ℕ) (acts : List Act)
         (a : Act) (later : List Act) (calls ends : List (Choice × Call T (SoloWaker X))) (first middle last : Solo F T X)
         (shown others : List (Event T (SoloWaker X))) (before : Who → ℕ) (after : Owner) → AreActs (start limit kind parties) acts
         → IsQuiet (left_by_acts (start limit kind parties) acts).world.trace → IsAct (left_by_acts (start limit kind parties) acts) a
         → a.first ≡ Begin a.party DropsExecutor → AreDropActs a.left later → IsNew limit solo_kind first
         → counts solo_kind ≡ not (is_static_kind kind)
-        → Leads its calls (new_owner before) first (new limit (is_static_kind kind)) shown after middle
+        → (led : Leads its calls (new_owner before) first (new limit (is_static_kind kind)) shown after middle)
         → LastCalls its middle (course wakes calls (new limit (is_static_kind kind))) ends others last
         → (course wakes calls (new limit (is_static_kind kind))).inside ≡ []
-        → AreActed number (start limit kind parties) acts (new limit (is_static_kind kind)) calls
-        → EndActed number a later (course wakes calls (new limit (is_static_kind kind))) ends
-        → IsClosed its last (course wakes (calls ++ ends) (new limit (is_static_kind kind)))
-        × (heard_in (left_of a.left later).world.trace ≡ as_heard number (shown ++ others)) }
-{}
-
-/// And so, where no run searches, each list of such acts of a new machine tells of what a list of calls of a new executor of one owner
-/// shows, where each of these calls is what the machine's step begins, or the answer of a poll or the end of a drop that the step
-/// has; and where a call that asks for memory is refused it as the machine's trace and world say of the act. Both then take as many turns
-/// in each call, and so a try and a tick's poll look first at the same mark.
-pub fn runless_calls_show_alike<F, T, X>()
-    ensures { (its : ℕ → Lent) (number : X → ℕ) (limit : ℕ) (kind : MachineKind) (solo_kind : Kind) (parties : ℕ) (acts : List Act)
-        (calls : List (Choice × Call T (SoloWaker X))) (first last : Solo F T X) (shown : List (Event T (SoloWaker X)))
-        (before : Who → ℕ) (after : Owner) → AreActs (start limit kind parties) acts
-        → IsNew limit solo_kind first → counts solo_kind ≡ not (is_static_kind kind)
-        → Leads its calls (new_owner before) first (new limit (is_static_kind kind)) shown after last
-        → AreOfSteps number (start limit kind parties) acts (new limit (is_static_kind kind)) calls
-        → Stands its last (course wakes calls (new limit (is_static_kind kind)))
-        × (heard_in (left_of (start limit kind parties) acts).world.trace ≡ as_heard number shown) }
-{}
-
-/// And so to the end: from the executor's drop on, once no call is in progress any more, with the calls made in the drops of its futures
-/// and behind it.
-pub fn runless_calls_end_alike<F, T, X>()
-    ensures { (its : ℕ → Lent) (number : X → ℕ) (limit : ℕ) (kind : MachineKind) (solo_kind : Kind) (parties : ℕ) (acts : List Act)
-        (a : Act) (later : List Act) (calls ends : List (Choice × Call T (SoloWaker X))) (first middle last : Solo F T X)
-        (shown others : List (Event T (SoloWaker X))) (before : Who → ℕ) (after : Owner) → AreActs (start limit kind parties) acts
-        → IsQuiet (left_by_acts (start limit kind parties) acts).world.trace → IsAct (left_by_acts (start limit kind parties) acts) a
-        → a.first ≡ Begin a.party DropsExecutor → AreDropActs a.left later → IsNew limit solo_kind first
-        → counts solo_kind ≡ not (is_static_kind kind)
-        → Leads its calls (new_owner before) first (new limit (is_static_kind kind)) shown after middle
-        → LastCalls its middle (course wakes calls (new limit (is_static_kind kind))) ends others last
-        → (course wakes calls (new limit (is_static_kind kind))).inside ≡ []
-        → AreOfSteps number (start limit kind parties) acts (new limit (is_static_kind kind)) calls
+        → AreOfSteps number (start limit kind parties) acts led
         → EndOfSteps number a later (course wakes calls (new limit (is_static_kind kind))) ends
         → IsClosed its last (course wakes (calls ++ ends) (new limit (is_static_kind kind)))
         × (heard_in (left_of a.left later).world.trace ≡ as_heard number (shown ++ others)) }

@@ -1,13 +1,10 @@
-//! Both take as many turns of their two queues in each call.
-ghost use Rattle.two_roads.specs.Turns.{ActsTakeTurns, CallsTakeTurns};
+//! How many turns of its two queues the machine takes in an act.
+ghost use Rattle.two_roads.specs.Turns.{ActsTakeTurns};
 
-/// In an act in which no run goes on the machine takes one turn if that is a try; one in a tick's poll where a future without a keeper is
-/// due, the tick lies with a waker or memory is refused to it at once, and else two; and in any other act none.
+/// Where both stand alike before an act of the machine and behind it, it takes in the act as many turns of its two queues as the call that
+/// the act is, by what the machine's trace and world show to be refused: one in a try; in a tick's poll one where a future that no run
+/// keeps is due, the tick lies with a waker or memory is refused to it at once, and else two; in the search of a run none where that
+/// keeps one itself, one where it takes another, and else as many as a tick; and in any other act none.
 pub fn acts_take_turns()
     ensures { ActsTakeTurns }
-{}
-
-/// So does an executor of one owner, to which a list of calls has led.
-pub fn calls_take_turns<F, T, X>()
-    ensures { CallsTakeTurns F T X }
 {}

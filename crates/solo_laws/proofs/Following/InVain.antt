@@ -137,7 +137,7 @@ module _ {F T X : Type 0} where
 
   module _ (r : ℕ) where
     -- a look that finds none was at a queue that has none
-    look_dry : (k : ℕ) (s : Solo F T X) → own.queue_of r s.runs.queues ≡ Some [] → (r == k) ≡ false
+    pub look_dry : (k : ℕ) (s : Solo F T X) → own.queue_of r s.runs.queues ≡ Some [] → (r == k) ≡ false
         → own.first_of r (steals.stolen (OwnOf k) r s).runs ≡ None → IsDry k s
     look_dry k s empty away none = by (own.queue_of k s.runs.queues) refl
       where

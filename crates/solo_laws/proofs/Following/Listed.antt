@@ -19,6 +19,7 @@ use Rattle.solo_laws.proofs.Following.Adding.{get_last}
 use Rattle.solo_laws.proofs.Following.Cells.{same_number}
 use Rattle.solo_laws.proofs.Following.Due.{both_true, clash, not_true}
 use Rattle.solo_laws.proofs.Following.Listing.{in_of, listed_made, listed_queue, there}
+use Rattle.solo_laws.proofs.Following.ListedWithin.{Within, changed_within, closed_within, listed_within, opened_within}
 use Rattle.solo_laws.proofs.Following.Lists.{got_below, set_other, set_same}
 use Rattle.solo_laws.proofs.Following.Owns.{changed_list, changed_now, changed_queue, closed_made, closed_other, last_queue, mapped}
 use Rattle.solo_laws.proofs.Following.Owns.{numbers}
@@ -90,9 +91,10 @@ abbrev Fine : (ℕ → Bool) → Own → Type 0
 Fine polled q = (q.queue ≡ []) × (polled q.number ≡ false)
 
 module _ (polled busy : ℕ → Bool) where
-  -- one at which nobody looks is empty, and its run isn't polled; each run that is polled was made, and each that a call is on has its
-  -- own
+  -- no more are looked at than there are; one at which nobody looks is empty, and its run isn't polled; each run that is polled was made,
+  -- and each that a call is on has its own
   pub record Listed (o : own.OwnQueuesValue) : Type 0 where
+    pub within : Within o
     pub late : (at : ℕ) (q : Own) → slice_get o.queues at ≡ Some q → nat_lt at o.listed ≡ false → Fine polled q
     pub made : (r : ℕ) → polled r ≡ true → r < o.made
     pub held : (r : ℕ) → busy r ≡ true → has_own r o ≡ true
@@ -125,6 +127,7 @@ module _ (polled busy : ℕ → Bool) where
     changed_listed o l =
         subst Listed (sym (changed_now f r o))
         (record {
+          within = subst Within (changed_now f r o) (changed_within f r o l.within);
           late = λ at q here late. changed_fine o.queues at q (λ old was. l.late at old was late) here;
           made = l.made;
           held = λ j is. ap (λ o. has_own j o) (sym (changed_now f r o)) ∙ changed_held j is;
@@ -149,6 +152,7 @@ module _ (polled busy : ℕ → Bool) where
   pub opened_listed : (o : own.OwnQueuesValue) → own.one_more o.made ≡ o.made + 1 → Listed o → Listed (own.opened o)
   opened_listed o more l =
       record {
+        within = opened_within o l.within;
         late = λ at q here late. by at q late (at == length o.queues) (sym (get_last o.queues new at) ∙ here);
         made = later;
         held = λ r is.
@@ -200,6 +204,7 @@ module _ (polled busy : ℕ → Bool) where
 pub closed_listed : (polled busy then : ℕ → Bool) (r : ℕ) (o : own.OwnQueuesValue)
     → ((k : ℕ) → then k ≡ true → (busy k ≡ true) × ((k == r) ≡ false)) → Listed polled busy o → Listed polled then (own.closed r o)
 closed_listed polled busy then r o others l = record {
+  within = closed_within r o l.within;
   late = closed_late polled busy r o l;
   made = λ k is. subst (λ n. k < n) (sym (closed_made r o)) (l.made k is);
   held = λ k is. ap is_some (closed_other r k o (others k is).1) ∙ l.held k (others k is).0;
@@ -209,6 +214,7 @@ closed_listed polled busy then r o others l = record {
 pub fewer_listed : (polled now busy then : ℕ → Bool) (o : own.OwnQueuesValue) → ((r : ℕ) → now r ≡ true → polled r ≡ true)
     → ((r : ℕ) → then r ≡ true → busy r ≡ true) → Listed polled busy o → Listed now then o
 fewer_listed polled now busy then o less fewer l = record {
+  within = l.within;
   late = λ at q here late.
       let it = l.late at q here late in (it.0, off (now q.number) (polled q.number) (less q.number) it.1);
   made = λ r is. l.made r (less r is);
@@ -218,7 +224,7 @@ fewer_listed polled now busy then o less fewer l = record {
 -- one more goes
 pub going_listed : (polled busy : ℕ → Bool) (r : ℕ) (o : own.OwnQueuesValue) → has_own r o ≡ true → Listed polled busy o
     → Listed polled (λ k. cond (k == r) true (busy k)) o
-going_listed polled busy r o has l = record { late = l.late; made = l.made; held = λ k is. by k (k == r) refl is }
+going_listed polled busy r o has l = record { within = l.within; late = l.late; made = l.made; held = λ k is. by k (k == r) refl is }
   where
     by : (k : ℕ) (b : Bool) → (k == r) ≡ b → cond b true (busy k) ≡ true → has_own k o ≡ true
     by k true one is = subst (λ n. has_own n o ≡ true) (sym (same_number k r one)) has
@@ -305,6 +311,7 @@ module _ (polled busy : ℕ → Bool) (r : ℕ) (o : own.OwnQueuesValue) (apart_
   pub listed_listed : (ts : List Task) → own.queue_of r o.queues ≡ Some ts → Listed more (λ k. cond (k == r) true (busy k)) (own.listed r o)
   listed_listed ts has =
       record {
+        within = listed_within r o l.within;
         late = by (own.place_of r o.queues) refl has;
         made = made_so (own.listed r o).made (listed_made r o apart_so);
         held = λ k is. ap is_some (listed_queue r o apart_so k) ∙ (going_listed polled busy r o (ap is_some has) l).held k is;

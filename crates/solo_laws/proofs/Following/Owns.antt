@@ -165,7 +165,7 @@ module _ (f : List Task → List Task) where
         by true is rest = first_queue j new qs ∙ (here is (q.number == j) refl ∙ sym (ap all first))
         by false away rest = first_queue j q (changed_list qs) ∙ (past away rest (q.number == j) refl ∙ sym (ap all first))
 
-    list_numbers : (qs : List Own) → numbers (changed_list qs) ≡ numbers qs
+    pub list_numbers : (qs : List Own) → numbers (changed_list qs) ≡ numbers qs
     list_numbers [] = refl
     list_numbers (q ∷ qs) = by (q.number == r) (list_numbers qs)
       where

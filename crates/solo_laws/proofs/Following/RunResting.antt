@@ -216,7 +216,7 @@ module _ {F T X : Type 0} (its : ℕ → Lent) (number : Who → ℕ) (s : Solo 
               absurd cc
 
   -- and none is due
-  none_due : p.due ≡ []
+  pub none_due : p.due ≡ []
   none_due = by p.due refl
     where
       common : (m : Mark) → filter (is_common m) p.due ≡ []
@@ -292,7 +292,7 @@ module _ {F T X : Type 0} (its : ℕ → Lent) (number : Who → ℕ) (s : Solo 
         (λ k. ap (own.first_of k) (it.1 ∙ copies_runs w (solo.popped s)) ∙ dry k)
         (ap (λ l. (search_answer l).task) (it.0 ∙ copies_lines w (solo.popped s)) ∙ nothing_queued (solo.popped s).lines so.none)
 
-    rested_is : run_rested r start later ticker w s ≡ rested ticker w s
+    pub rested_is : run_rested r start later ticker w s ≡ rested ticker w s
     rested_is =
         ap (λ (out : Ticked F X). choose (looks_again out.look) (slept_from r later out.ticker w (slept_from r start ticker w s))
         (slept_from r start ticker w s)) out_is

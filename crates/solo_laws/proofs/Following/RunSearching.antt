@@ -60,7 +60,7 @@ module _ {T X : Type 0} where
       keeps_many r mark n (keeps r (is_common mark) p)
       ∙ ap (λ (q : Plain T (SoloWaker X)). with_due (repeat n (next_due r mark) q.due) q) (keeps_due r mark p)
 
-  keeps_each : (r : ℕ) (marks : List Mark) (p : Plain T (SoloWaker X))
+  pub keeps_each : (r : ℕ) (marks : List Mark) (p : Plain T (SoloWaker X))
       → each marks (λ mark. keeps r (is_common mark)) p ≡ with_due (each marks (next_due r) p.due) p
   keeps_each r [] p = refl
   keeps_each r (mark ∷ marks) p =
@@ -122,7 +122,8 @@ same_stands its c s p ds es so all both =
 
 module _ {F T X : Type 0} where
   -- a steal leaves how many tasks a queue has accepted
-  moved_lives : (k n : ℕ) (mark : Mark) (r : ℕ) (s : Solo F T X) → HasLife k s.lines → HasLife k (steals.moved n (Common mark) r s).lines
+  pub moved_lives : (k n : ℕ) (mark : Mark) (r : ℕ) (s : Solo F T X) → HasLife k s.lines → HasLife k
+      (steals.moved n (Common mark) r s).lines
   moved_lives k zero mark r s life = life
   moved_lives k (suc n) mark r s life =
       by (steals.first_of (Common mark) s) first
@@ -152,13 +153,13 @@ module _ {F T X : Type 0} (its : ℕ → Lent) (number : Who → ℕ) (s : Solo 
   abbrev ticker : Ticker
   ticker = ticker_of number who p.lying
 
-  abbrev left : Plain T (SoloWaker X)
+  abbrev pub left : Plain T (SoloWaker X)
   left = with_due (without (chosen (tests c.first) p.due) p.due) p
 
-  abbrev share : ℕ
+  abbrev pub share : ℕ
   share = share_of (Common mark) r (solo.popped s)
 
-  abbrev stolen : Solo F T X
+  abbrev pub stolen : Solo F T X
   stolen = steals.stolen (Common mark) r (solo.popped s)
 
   abbrev marks : List Mark
@@ -168,35 +169,35 @@ module _ {F T X : Type 0} (its : ℕ → Lent) (number : Who → ℕ) (s : Solo 
   abbrev later : Choice
   later = record c { keeps = marks }
 
-  abbrev more : List Due
+  abbrev pub more : List Due
   more = repeat share (next_due r mark) left.due
 
-  out : FollowsBut (Some d) (named its) (solo.popped s) left
+  pub out : FollowsBut (Some d) (named its) (solo.popped s) left
   out = (trying.something (named its) c s p turn both.0 d found).1
 
-  out_table : IsTable its (solo.popped s) left
+  pub out_table : IsTable its (solo.popped s) left
   out_table =
       tabled its c s (solo.popped s) p left (bases.same s)
       (taken_still its c s p both.0 both.1 (chosen (tests c.first) p.due) (λ r d is. chosen_free c.first p.due r d is)) both.1
 
-  lives : HasLife 5 (solo.popped s).lines
+  pub lives : HasLife 5 (solo.popped s).lines
   lives = trying.lives (named its) c s p turn both.0 5 life
 
   -- it steals first
-  abbrev StolenAt : Plain T (SoloWaker X) → Type 0
+  abbrev pub StolenAt : Plain T (SoloWaker X) → Type 0
   StolenAt q = FollowsBut (Some d) (named its) stolen q × IsTable its stolen q
 
-  stolen_so : StolenAt (with_due more left)
+  pub stolen_so : StolenAt (with_due more left)
   stolen_so =
       subst StolenAt (keeps_many r mark share left)
       (steals_all (Some d) its r (solo.popped s) left (out, out_table) going (Common mark) refl)
 
-  numbered_so : IsNumbered number stolen.sleepers p.lying
+  pub numbered_so : IsNumbered number stolen.sleepers p.lying
   numbered_so =
       subst (λ (sl : Sleepers (SoloWaker X)). IsNumbered number sl p.lying)
       (sym (moved_left share (Common mark) r (solo.popped s)).1) n
 
-  live : is_dropped d.future p ≡ false
+  pub live : is_dropped d.future p ≡ false
   live = due_lives its c s p both.0 both.1 d.future (found_stands (chosen (tests c.first) p.due) p.due d found)
 
   abbrev Taken : Plain T (SoloWaker X) → Type 0
@@ -204,10 +205,10 @@ module _ {F T X : Type 0} (its : ℕ → Lent) (number : Who → ℕ) (s : Solo 
       IsTaken its number s p who (Run r w) (runs.found_answer runner ticker None (named its d.future) false stolen).ticked
       (runs.found runner ticker (named its d.future) stolen) q
 
-  abbrev told : Plain T (SoloWaker X)
+  abbrev pub told : Plain T (SoloWaker X)
   told = tell wakes c (up wakes c who left)
 
-  appends : Appends (λ p. tell wakes c (up wakes c who p)) left
+  pub appends : Appends (λ p. tell wakes c (up wakes c who p)) left
   appends = both_append c who left
 
   -- with these due
@@ -243,16 +244,18 @@ module _ {F T X : Type 0} (its : ℕ → Lent) (number : Who → ℕ) (s : Solo 
         lent = it.lent;
       })
 
-  told_due : told.due ≡ left.due ++ appends.tail
+  pub told_due : told.due ≡ left.due ++ appends.tail
   told_due = ap (λ (q : Plain T (SoloWaker X)). q.due) (appends.is left.due)
 
-  same : Same after before
-  same =
-      each_same r marks (repeat share (next_due r mark) (left.due ++ appends.tail)) (more ++ appends.tail)
-      (many_behind r mark appends.tail appends.free share left.due
+  pub same_first : Same (repeat share (next_due r mark) (left.due ++ appends.tail)) (more ++ appends.tail)
+  same_first =
+      many_behind r mark appends.tail appends.free share left.due
       (let most = (share_most (steals.length_of (Common mark) (solo.popped s)) (own.free_of r (solo.popped s).runs)).0 in
       let there = length_there (Some d) its r (Common mark) (solo.popped s) left (out, out_table) in
-      omega (arith, most, there)))
+      omega (arith, most, there))
+
+  same : Same after before
+  same = each_same r marks (repeat share (next_due r mark) (left.due ++ appends.tail)) (more ++ appends.tail) same_first
 
   once_told : once told.due ≡ true
   once_told =
@@ -296,7 +299,7 @@ module _ {F T X : Type 0} (its : ℕ → Lent) (number : Who → ℕ) (s : Solo 
       subst (λ q. Taken (takes.run wakes c d.future (Run r w) (takes.counted wakes c r q))) (sym kept_is) taken_after
 
 -- one without a keeper
-free : (d : Due) → ((k : ℕ) → is_kept k d ≡ false) → d.keeper ≡ None
+pub free : (d : Due) → ((k : ℕ) → is_kept k d ≡ false) → d.keeper ≡ None
 free d none = by d.keeper none
   where
     by : (o : Option ℕ) → ((k : ℕ) → is_run k o ≡ false) → o ≡ None

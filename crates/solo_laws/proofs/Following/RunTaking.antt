@@ -300,7 +300,7 @@ abbrev others_of : Choice → List (Due → Bool)
 others_of c = commons c ++ is_kept c.robs ∷ is_due ∷ []
 
 -- whoever keeps it robs nobody
-own_robs : {T X : Type 0} (c : Choice) (r : ℕ) (o : Option ℕ) (q : Plain T (SoloWaker X)) → is_run r o ≡ true
+pub own_robs : {T X : Type 0} (c : Choice) (r : ℕ) (o : Option ℕ) (q : Plain T (SoloWaker X)) → is_run r o ≡ true
     → takes.robbed wakes c r o q ≡ q
 own_robs c r None q is = refl
 own_robs c r (Some k) q is = ap (λ b. if b then q else repeat c.moves (keeps r (is_kept k)) q) is

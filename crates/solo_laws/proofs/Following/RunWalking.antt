@@ -41,36 +41,36 @@ use Rattle.solo_laws.proofs.Following.Trying as trying
 use Rattle.solo_laws.proofs.Following.Walking as walking
 
 -- who keeps one
-its_keeper : (k : ℕ) (d : Due) → is_kept k d ≡ true → d.keeper ≡ Some k
+pub its_keeper : (k : ℕ) (d : Due) → is_kept k d ≡ true → d.keeper ≡ Some k
 its_keeper k d is = by d.keeper is
   where
     by : (o : Option ℕ) → is_run k o ≡ true → o ≡ Some k
     by None is = absurd cc
     by (Some n) is = ap (λ n. Some n) (sym (same_number k n is))
 
-none_by : (test : Due → Bool) (ds : List Due) → find test ds ≡ None → any test ds ≡ false
+pub none_by : (test : Due → Bool) (ds : List Due) → find test ds ≡ None → any test ds ≡ false
 none_by test ds is = found_any test ds ∙ ap (λ o. is_some o) is
 
-some_by : (test : Due → Bool) (ds : List Due) (d : Due) → find test ds ≡ Some d → any test ds ≡ true
+pub some_by : (test : Due → Bool) (ds : List Due) (d : Due) → find test ds ≡ Some d → any test ds ≡ true
 some_by test ds d is = found_any test ds ∙ ap (λ o. is_some o) is
 
 module _ {F T X : Type 0} (its : ℕ → Lent) (number : Who → ℕ) (s : Solo F T X) (p : Plain T (SoloWaker X)) (both : Stands its s p)
     (n : IsNumbered number s.sleepers p.lying) (c : Choice) (runner : Runner) (w : SoloWaker X) (start : ℕ) (task : Task)
     (going : goes_on runner.number p ≡ true) (first : own.first_of runner.number s.runs ≡ None) (has : solo.sought s ≡ None)
     (turn : c.first ≡ mark_of_turn s.lines.turn) (many : length p.lying ≤ c.tells) (life : HasLife 5 s.lines) where
-  abbrev r : ℕ
+  abbrev pub r : ℕ
   r = runner.number
 
-  abbrev ticker : Ticker
+  abbrev pub ticker : Ticker
   ticker = ticker_of number (ARun r) p.lying
 
-  abbrev empty : Solo F T X
+  abbrev pub empty : Solo F T X
   empty = steals.own_popped r s
 
-  abbrev searched : Solo F T X
+  abbrev pub searched : Solo F T X
   searched = solo.popped empty
 
-  abbrev end : Solo F T X
+  abbrev pub end : Solo F T X
   end = steals.walked r start searched
 
   abbrev Taken : Plain T (SoloWaker X) → Type 0
@@ -78,7 +78,7 @@ module _ {F T X : Type 0} (its : ℕ → Lent) (number : Who → ℕ) (s : Solo 
       IsTaken its number s p (ARun r) (Run r w) (runs.found_answer runner ticker None task false end).ticked
       (runs.searched runner ticker start s) q
 
-  none_own : any (is_kept r) p.due ≡ false
+  pub none_own : any (is_kept r) p.due ≡ false
   none_own = none_kept its s p both r going first
 
   both_empty : Stands its empty p
@@ -95,50 +95,50 @@ module _ {F T X : Type 0} (its : ℕ → Lent) (number : Who → ℕ) (s : Solo 
           let it : ◌≡◌ {A = Option Task} None (Some (named its d.future)) = sym has ∙ some.0 in
           absurd cc
 
-  both_searched : Stands its searched p
+  pub both_searched : Stands its searched p
   both_searched = (
     (trying.nothing (named its) c empty p turn both_empty.0 none_common).1,
     tabled its c empty searched p p (bases.same empty) (seen_still c p p.events) both_empty.1,
   )
 
-  lives : HasLife 5 searched.lines
+  pub lives : HasLife 5 searched.lines
   lives = trying.lives (named its) c empty p turn both_empty.0 5 life
 
-  abbrev from : ℕ × Solo F T X
+  abbrev pub from : ℕ × Solo F T X
   from = robbed r start searched
 
-  abbrev share : ℕ
+  abbrev pub share : ℕ
   share = share_of (Own from.0) r from.1 - 1
 
   module _ (finds : (steals.whole_round r start searched).0 ≡ Some task) (robs : c.robs ≡ from.0) (moves : c.moves ≡ share)
       (keeps_are : c.keeps ≡ stolen_marks (runs.is_steal_due runner) r (runs.told ticker end)) where
-    abbrev Found : Type 0
+    abbrev pub Found : Type 0
     Found = walking.Found its number p r going none_own searched.lines s.sleepers n task end from.0 share
 
-    found : Found
+    pub found : Found
     found =
         walking.walks its number p r going none_own searched.lines s.sleepers n task searched.runs.listed searched.runs.listed
         (start % searched.runs.listed) searched (record { stands = both_searched; lines_are = refl; sleepers_are = refl }) finds
 
-    abbrev d : Due
+    abbrev pub d : Due
     d = found.d
 
-    abbrev k : ℕ
+    abbrev pub k : ℕ
     k = from.0
 
-    abbrev left : Plain T (SoloWaker X)
+    abbrev pub left : Plain T (SoloWaker X)
     left = with_due (without (is_kept k) p.due) p
 
-    abbrev moved : Plain T (SoloWaker X)
+    abbrev pub moved : Plain T (SoloWaker X)
     moved = repeat share (keeps r (is_kept k)) left
 
-    abbrev StandsAt : Plain T (SoloWaker X) → Type 0
+    abbrev pub StandsAt : Plain T (SoloWaker X) → Type 0
     StandsAt q = FollowsBut (Some d) (named its) end q × IsTable its end q
 
-    stands_so : StandsAt (with_due moved.due left)
+    pub stands_so : StandsAt (with_due moved.due left)
     stands_so = subst StandsAt (walking.only_due r share (is_kept k) left) (found.follows, found.table)
 
-    live : is_dropped d.future p ≡ false
+    pub live : is_dropped d.future p ≡ false
     live = due_lives its c s p both.0 both.1 d.future (found_stands (is_kept k) p.due d found.is)
 
     abbrev ended : Plain T (SoloWaker X) → Plain T (SoloWaker X)
@@ -175,7 +175,7 @@ module _ {F T X : Type 0} (its : ℕ → Lent) (number : Who → ℕ) (s : Solo 
           lent = it.lent;
         }))))
 
-    robbed_is : takes.robbed wakes c r d.keeper left ≡ with_due moved.due left
+    pub robbed_is : takes.robbed wakes c r d.keeper left ≡ with_due moved.due left
     robbed_is =
         ap (λ o. takes.robbed wakes c r o left) (its_keeper k d (passes (is_kept k) p.due d found.is))
         ∙ (ap (λ b. if b then left else repeat c.moves (keeps r (is_kept k)) left) found.away
@@ -196,7 +196,7 @@ module _ {F T X : Type 0} (its : ℕ → Lent) (number : Who → ℕ) (s : Solo 
         (subst (λ q. Taken (ended q)) (sym robbed_is) taken))
 
     -- no queue of the executor has any
-    commons_none : (any (is_common c.first) p.due ≡ false) × (any (is_common (other c.first)) p.due ≡ false)
+    pub commons_none : (any (is_common c.first) p.due ≡ false) × (any (is_common (other c.first)) p.due ≡ false)
     commons_none = by (any (is_common c.first) p.due) (any (is_common (other c.first)) p.due) refl refl
       where
         test : Bool → Bool → Due → Bool

@@ -440,7 +440,7 @@ module _ {F T X : Type 0} (aside : Option Due) (its : ℕ → Lent) (r : ℕ) wh
       subst (λ o. own.count_in o ≤ length (filter (is_kept k) p.due)) (sym (both.1.queues k))
       (count_of its (goes_on k p) (filter (is_kept k) p.due))
 
-  free_there : (s : Solo F T X) (p : Plain T (SoloWaker X)) → StandsBut aside its s p → goes_on r p ≡ true
+  pub free_there : (s : Solo F T X) (p : Plain T (SoloWaker X)) → StandsBut aside its s p → goes_on r p ≡ true
       → own.free_of r s.runs ≡ 512 - kept_of r p
   free_there s p both going =
       ap own.free_in (both.1.queues r)

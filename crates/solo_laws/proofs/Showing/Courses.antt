@@ -336,7 +336,7 @@ module _ {F T X : Type 0} (its : ℕ → Lent) where
     numbered = new_numbered number limit kind s is;
     listed =
         subst (Listed (λ r. false) (λ r. false)) (sym is.runs)
-        (record { late = λ at q here late. absurd cc; made = λ r is. absurd cc; held = λ r is. absurd cc });
+        (record { within = omega arith; late = λ at q here late. absurd cc; made = λ r is. absurd cc; held = λ r is. absurd cc });
     once = refl;
     housed =
         let rooms = ap (λ (sleepers : Sleepers (SoloWaker X)). sleepers.rooms) is.sleepers in

@@ -1,8 +1,0 @@
-use Rattle.two_roads.proofs.ActedToEnd.{runless_end_together}
-use Rattle.two_roads.proofs.together.untaken_calls_end_alike.Goals as goal
-
-pub returns : goal.returns
-returns g c its number limit kind solo_kind parties acts a later calls ends first middle last shown others before after they quiet acts_so
-    begins they_too is_new counted led then_so nowhere of end_of =
-    runless_end_together its number limit kind solo_kind parties acts a later calls ends first middle last shown others before after they
-    quiet acts_so begins they_too is_new counted led then_so nowhere of end_of

@@ -19,8 +19,7 @@ use Rattle.plain_scheduler.specs.Calls.{Leak, NewRun, NewTick, Pends, PollHandle
 use Rattle.plain_scheduler.specs.Calls.{does, is_granted}
 use Rattle.solo_laws.specs.Busy.{busy_in}
 use Rattle.solo_laws.specs.Courses.{Acts, Leads, Makes, copies, makes, makes_tick, polls, run_goes_on, run_looks, tick_lies_refused}
-use Rattle.solo_laws.specs.Courses.{tick_refused}
-use Rattle.solo_laws.specs.Courses.{leads, stays, tick_rests}
+use Rattle.solo_laws.specs.Courses.{leads, spawns, stays, tick_refused, tick_rests}
 use Rattle.solo_laws.specs.Numbered.{ticker_of}
 use Rattle.solo_laws.specs.Owner.{Owner, has_tick}
 use Rattle.solo_laws.specs.Road.{HasLife, IsNamed, is_in, wakes}
@@ -139,6 +138,17 @@ module _ {F T X : Type 0} (its : ℕ → Lent) (c : Choice) (s : Solo F T X) (p 
   NamesTick name owner call shown now z (makes_tick t new granted) = t ≡ name
   NamesTick name owner call shown now z how = Unit {0}
 
+  -- a future that comes takes the last room in the table
+  abbrev pub Enters : (call : Call T (SoloWaker X)) (shown : List (Event T (SoloWaker X))) (z : Solo F T X)
+      → Makes its c s p call shown z → Type 0
+  Enters call shown z (spawns mark future spawned z' so is granted life few) = z'.table.has_room ≡ false
+  Enters call shown z how = Unit {0}
+
+  abbrev pub TakesRoom : (owner : Owner) (call : Call T (SoloWaker X)) (shown : List (Event T (SoloWaker X))) (now : Owner)
+      (z : Solo F T X) → Acts its owner c s p call shown now z → Type 0
+  TakesRoom owner call shown now z (makes call' shown' z' how) = Enters call' shown' z' how
+  TakesRoom owner call shown now z how = Unit {0}
+
 -- this is so of the waker by which a run is polled, in each user's code
 module _ {A : Type 0} (Is : A → Type 0) where
   abbrev pub PolledBy : Taker A → Type 0
@@ -183,7 +193,7 @@ module _ {F T X : Type 0} (its : ℕ → Lent) (owner : Owner) (s : Solo F T X) 
   MayEnd (DropOwn r answer ∷ rest) = Unit {0}
   MayEnd codes = ⊥
 
-  -- one more future takes memory
+  -- one more future takes memory, and so may be refused it
   abbrev pub HasNoRoom : Type 0
   HasNoRoom = s.table.has_room ≡ true → HasRoomFor s.cells.slab 1 → ⊥
 
@@ -241,6 +251,7 @@ module _ {F T X : Type 0} (its : ℕ → Lent) (owner : Owner) (s : Solo F T X) 
     pub refused : choice.refusal ≡ acted_as its choice s p owner x.call shown now after x.refusal acts
     pub starts : ActsFrom its choice s p x.first x.second owner x.call shown now after acts
     pub named_so : NamesTick its choice s p x.name owner x.call shown now after acts
+    pub room : TakesRoom its choice s p owner x.call shown now after acts
 
   -- the next future's name is free: no task has its key, and no entry that of its place
   pub record NextIsFree : Type 0 where

@@ -67,7 +67,7 @@ kept_past n (Some g ∷ ws) (suc k) f is none = kept_past n ws k f is (omega (ar
 handle_past : (w : World) (f : ℕ) → (task w f).handle ≡ true → f < length w.tasks
 handle_past w f has =
     ⊎_elim (λ x. x.1) (λ (x : (past (length w.tasks) f ≡ 1) × (length w.tasks ≤ f)). absurd (none (ap (λ (t : State). t.handle)
-        (sym (get_or_past w.tasks f blank x.1)) ∙ has))) (past_is (length w.tasks) f).1
+    (sym (get_or_past w.tasks f blank x.1)) ∙ has))) (past_is (length w.tasks) f).1
   where
     none : false ≡ true → ⊥
     none is = cc

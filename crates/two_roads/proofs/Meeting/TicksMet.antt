@@ -185,7 +185,7 @@ module _ {F T X : Type 0} (s : Machine) (a : Act) (owner : Owner) (y : Solo F T 
       → Behind (record owner { ticks = t ∷ owner.ticks })
   made t new is so granted = (
     λ u.
-    ap (λ n. if u == n then true else has_tick u owner) is
+        ap (λ n. if u == n then true else has_tick u owner) is
         ∙ (ap (λ b. if u == name then true else b) (ticks u)
         ∙ (sym (pushed s.world.ticks u)
         ∙ sym (so.live u ∙ ap (λ b. lives (get_or (if b then s.world.ticks else s.world.ticks ++ Awake ∷ []) u Left)) off))),
@@ -215,7 +215,7 @@ module _ {F T X : Type 0} (s : Machine) (a : Act) (owner : Owner) (y : Solo F T 
   behind call shown now z (courses.makes_no_tick refused) is named so = unmade so (ap is_granted (sym is) ∙ refused)
   behind call shown now z (courses.tick_leaves t lives' life) is named so = (
     λ u.
-    without_in t u owner.ticks once
+        without_in t u owner.ticks once
         ∙ (ap (λ b. if u == t then false else b) (ticks u) ∙ sym (so u)),
     apart_without t owner.ticks once,
   )

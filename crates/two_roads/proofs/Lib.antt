@@ -28,3 +28,4 @@ pub mod ActedToEnd
 pub mod InStep
 pub mod InStepToEnd
 pub mod Wished
+pub mod IdleActs

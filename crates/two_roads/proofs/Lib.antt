@@ -2,6 +2,7 @@ pub mod Words
 pub mod WaitingTasks
 pub mod HandedOut
 pub mod OnlyBegun
+pub mod IdleActs
 pub mod TakenInActs
 pub mod PollsShown
 pub mod Tasks
@@ -28,4 +29,3 @@ pub mod ActedToEnd
 pub mod InStep
 pub mod InStepToEnd
 pub mod Wished
-pub mod IdleActs

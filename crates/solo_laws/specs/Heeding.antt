@@ -13,9 +13,9 @@ use Rattle.solo_laws.specs.Road.{IsNamed, wakes}
 use Rattle.solo_laws.specs.Tabled.{named}
 
 module _ {T X : Type 0} (its : ℕ → Lent) (p : Plain T (SoloWaker X)) where
-  -- somebody has a waker of it, and it has two references fewer than it may
+  -- somebody has a waker of it, or it is queued or polled; and it has two references fewer than it may
   abbrev pub CanBeCopied : ℕ → Type 0
-  CanBeCopied f = (f < length p.futures) × (0 < (task f p).wakers) × (references_of (task f p) + 1 < 2 ^ 40)
+  CanBeCopied f = (f < length p.futures) × (0 < references_of (task f p)) × (references_of (task f p) + 1 < 2 ^ 40)
 
   abbrev pub IsCopied : SoloWaker X → Type 0
   IsCopied (OfTask t) = IsNamed (named its) (length p.futures) t × CanBeCopied t.number

@@ -87,13 +87,16 @@ module _ {F T X : Type 0} (its : ℕ → Lent) (s : Solo F T X) (p : Plain T (So
       let x = get_below p.futures f can.0 in
       by x.0 x.1 (found (named its f) s.cells) refl (subst (TaskIs (found (named its f) s.cells)) x.1 (r.tasks f can.0))
     where
-      none_left : (t : AbstractTask T (SoloWaker X)) → IsOver t → 0 < t.wakers → ⊥
-      none_left t over less = (let none = over.wakers in absurd (omega (arith, none, less)))
+      none_left : (t : AbstractTask T (SoloWaker X)) → IsOver t → 0 < references_of t → ⊥
+      none_left t over less =
+          let none = over.wakers in
+          let idle : token_by t.phase ≡ 0 = ap (λ phase. token_by phase) over.phase in
+          absurd (omega (arith, none, idle, less))
 
       by : (x : Future T (SoloWaker X)) → slice_get p.futures f ≡ Some x → (o : Option (Kept T X)) → found (named its f) s.cells ≡ o
           → TaskIs o (Some x) → (v : Kept T X) × (found (named its f) s.cells ≡ Some v) × (v.task ≡ task f p)
       by x is None none over =
-          absurd (none_left x.task over (subst (λ (t : AbstractTask T (SoloWaker X)). 0 < t.wakers) (task_is f p x is) can.1))
+          absurd (none_left x.task over (subst (λ (t : AbstractTask T (SoloWaker X)). 0 < references_of t) (task_is f p x is) can.1))
       by x is (Some v) some of = (v, some, of.task ∙ sym (task_is f p x is))
 
   pub may_once : (f : ℕ) → CanBeCopied its p f → solo.may_hold (named its f) s ≡ true

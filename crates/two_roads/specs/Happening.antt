@@ -1,5 +1,5 @@
 -- Acts of the machine, as calls that the owner of an executor makes.
-use Rattle.std.specs.Prelude.{◌≡◌, ℕ, ◌+◌, ◌*◌, ◌<◌, true, false, List, [], ◌∷◌, length, Some}
+use Rattle.std.specs.Prelude.{◌≡◌, ℕ, ◌+◌, ◌*◌, ◌<◌, true, false, List, [], ◌∷◌, length, Some, None}
 use Rattle.queue_steps.specs.ClosableQueue.{most_accepted}
 use Rattle.executor_model.specs.declared.op.Waker.{Waker}
 use Rattle.executor_model.specs.declared.op.Waker.TheVariants.{Task as TaskWaker, Outside as OutsideWaker}
@@ -9,6 +9,7 @@ use Rattle.executor_model.specs.World.{tick_of}
 use Rattle.solo.specs.declared.names.SoloWaker.{SoloWaker}
 use Rattle.solo.specs.declared.names.SoloWaker.TheVariants.{Task as OfTask, Outside}
 use Rattle.solo.specs.declared.solo.Solo.{Solo}
+use Rattle.solo.specs.Solo.{sought}
 use Rattle.task_moves.specs.AbstractTask as abstract
 use Rattle.plain_scheduler.specs.Moves.{task}
 use Rattle.plain_scheduler.specs.State.{Choice, Event, Plain, Who}
@@ -18,6 +19,7 @@ use Rattle.machine_roads.specs.Seeing.{heard_in}
 use Rattle.machine_roads.specs.View.{Output}
 use Rattle.machine_roads.specs.Within.{Act, IsMade}
 use Rattle.solo_laws.specs.Courses.{Acts, Leads}
+use Rattle.solo_laws.specs.Heeding.{IsCopied}
 use Rattle.solo_laws.specs.Making.{HasNoRoom, WakersAreKnown, by_number, may_copy, queues_with}
 use Rattle.solo_laws.specs.Owner.{Owner, has_tick, new_owner}
 use Rattle.solo_laws.specs.Road.{HasLife, apart, wakes}
@@ -42,30 +44,25 @@ pub record NamesAlike {F T X : Type 0} (s : Machine) (owner : Owner) (y : Solo F
   pub ticks : (t : ℕ) → has_tick t owner ≡ lives (tick_of s.world t)
   pub once : apart owner.ticks ≡ true
 
--- a waker from outside
-abbrev pub IsOutside : {X : Type 0} → SoloWaker X → Type 0
-IsOutside (OfTask t) = ⊥
-IsOutside (Outside x) = Unit {0}
-
 module _ {F T X : Type 0} (number : X → ℕ) (s : Machine) (a : Act) (owner : Owner) (y : Solo F T X) (p : Plain T (SoloWaker X)) where
   -- a copy of a task's waker is refused in the act if the task has as many references as it may, and only then
   abbrev pub CopiesAlike : SoloWaker X → Type 0
   CopiesAlike (OfTask t) = is_granted (refused_in s a) ≡ may_copy (OfTask t) y
   CopiesAlike (Outside x) = Unit {0}
 
-  -- a run that searches in vain does so in its poll by a waker from outside
-  abbrev pub VainFromOutside : Call T (SoloWaker X) → Type 0
-  VainFromOutside call =
-      (c : Choice) (x : Search T (SoloWaker X)) → searches wakes c call p ≡ Some x → finds x ≡ false → IsOutside x.waker
+  -- a run that searches in vain may have copies of its waker
+  abbrev pub VainCanCopy : Call T (SoloWaker X) → Type 0
+  VainCanCopy call =
+      (c : Choice) (x : Search T (SoloWaker X)) → searches wakes c call p ≡ Some x → finds x ≡ false → IsCopied by_number x.at x.waker
 
-  -- memory for a future is refused in it only if the executor has no room; and who searches in vain does so by a waker from outside
+  -- memory for a future is refused in it only if the executor has no room
   abbrev pub FitsMemory : Call T (SoloWaker X) → Type 0
   FitsMemory (Spawn mark) = is_granted (refused_in s a) ≡ false → HasNoRoom by_number owner y p
   FitsMemory (Copy f) = CopiesAlike (OfTask (named by_number f))
   FitsMemory (PollHandle f w) = has_to_wait (abstract.polled (task f p)) ≡ true → CopiesAlike w
-  FitsMemory (PollTick t w) = IsOutside w
-  FitsMemory Pends = VainFromOutside Pends
-  FitsMemory Ends = VainFromOutside Ends
+  FitsMemory (PollTick t w) = sought y ≡ None → IsCopied by_number p w
+  FitsMemory Pends = VainCanCopy Pends
+  FitsMemory Ends = VainCanCopy Ends
   FitsMemory call = Unit {0}
 
   -- its queues may accept as many tasks as the call may queue, and fewer futures and runs came than may

@@ -36,50 +36,11 @@ use Rattle.solo_laws.proofs.Showing.Courses.{Known, makes_alike, run_room}
 use Rattle.solo_laws.proofs.Showing.StillListed.{one_in, stage_codes}
 
 module _ {F T X : Type 0} (its : ℕ → Lent) (owner : Owner) (c : Choice) (s : Solo F T X) (p : Plain T (SoloWaker X)) where
-  -- what may be so of how a run searches
-  abbrev pub OfSearch : Type 1
-  OfSearch =
-      (runner : Runner) (w : SoloWaker X) (y : Solo F T X) (q : Plain T (SoloWaker X)) (shown : List (Event T (SoloWaker X)))
-      (now : Owner) (z : Solo F T X) → Searches its owner c runner w y q shown now z → Type 0
-
-  module _ (So : OfSearch) where
-    -- no run searches, and none has counted any; or one does, and it does so
-    pub data SearchedSo (call : Call T (SoloWaker X)) (now : Owner) (z : Solo F T X) : Type 0 where
-      none_from : searches wakes c call p ≡ None → ((r : ℕ) → now.runner r ≡ owner.runner r) → SearchedSo call now z
-      one_from : (x : Search T (SoloWaker X)) → searches wakes c call p ≡ Some x → (at : SearchesAt its owner c s x now z)
-          → So at.runner x.waker at.before x.at at.shown now z at.searches → SearchedSo call now z
-
-    -- it is so of the search in a call, if there is one
-    abbrev pub RunsSo : (runner : Runner) (w : SoloWaker X) (y : Solo F T X) (q : Plain T (SoloWaker X))
-        (shown : List (Event T (SoloWaker X))) (now : Owner) (z : Solo F T X) → RunsOn its owner c runner w y q shown now z → Type 0
-    RunsSo runner w y q shown now z (looks_on shown' now' z' less how) = So runner w y q shown' now' z' how
-    RunsSo runner w y q shown now z (gives_way enough names life) = Unit {0}
-
-    abbrev pub ActsSo : (now : Owner) (z : Solo F T X) (call : Call T (SoloWaker X)) (shown : List (Event T (SoloWaker X)))
-        → Acts its owner c s p call shown now z → Type 0
-    ActsSo now z call shown (courses.run_looks runner w rest shown' now' z' mine is how) =
-        So runner w s (record p { inside = rest }) shown' now' z' how
-    ActsSo now z call shown (courses.run_goes_on stage runner w rest call' first more now' y z' mine is ends how on) =
-        RunsSo runner w y (behind its c s p stage rest call' first) more now' z' on
-    ActsSo now z call shown acts = Unit {0}
-
-  -- its walks begin at these words
-  abbrev From : ℕ → ℕ → OfSearch
-  From one two = λ runner w y q shown now z how. WalksFrom its owner c y q runner w one two shown now z how
-
-  runs_so : (one two : ℕ) (runner : Runner) (w : SoloWaker X) (y : Solo F T X) (q : Plain T (SoloWaker X))
-      (shown : List (Event T (SoloWaker X))) (now : Owner) (z : Solo F T X) (on : RunsOn its owner c runner w y q shown now z)
-      → RunsFrom its owner c y q runner w one two shown now z on → RunsSo (From one two) runner w y q shown now z on
-  runs_so one two runner w y q shown now z (looks_on shown' now' z' less how) from = from
-  runs_so one two runner w y q shown now z (gives_way enough names life) from = tt
-
-  acts_so : (one two : ℕ) (now : Owner) (z : Solo F T X) (call : Call T (SoloWaker X)) (shown : List (Event T (SoloWaker X)))
-      (acts : Acts its owner c s p call shown now z) → ActsFrom its c s p one two owner call shown now z acts
-      → ActsSo (From one two) now z call shown acts
-  acts_so one two now z call shown (courses.run_looks runner w rest shown' now' z' mine is how) from = from
-  acts_so one two now z call shown (courses.run_goes_on stage runner w rest call' first more now' y z' mine is ends how on) from =
-      runs_so one two runner w y (behind its c s p stage rest call' first) more now' z' on from
-  acts_so one two now z call shown acts from = tt
+  -- no run searches, and none has counted any; or one does, and its walks begin at these words
+  pub data SearchedFrom (one two : ℕ) (call : Call T (SoloWaker X)) (now : Owner) (z : Solo F T X) : Type 0 where
+    none_from : searches wakes c call p ≡ None → ((r : ℕ) → now.runner r ≡ owner.runner r) → SearchedFrom one two call now z
+    one_from : (x : Search T (SoloWaker X)) → searches wakes c call p ≡ Some x → (at : SearchesAt its owner c s x now z)
+        → WalksFrom its owner c at.before x.at at.runner x.waker one two at.shown now z at.searches → SearchedFrom one two call now z
 
   pub data Searched (call : Call T (SoloWaker X)) (now : Owner) (z : Solo F T X) : Type 0 where
     no_search : searches wakes c call p ≡ None → ((r : ℕ) → now.runner r ≡ owner.runner r) → Searched call now z
@@ -161,12 +122,12 @@ module _ {F T X : Type 0} (its : ℕ → Lent) (owner : Owner) (c : Choice) (s :
               ∙ ap (λ es. record q { events = es }) (sym before) in
               sought ∙ sym (ap (λ q. searches_of wakes c (Run r w) q) mid_is)
 
-    module _ (So : OfSearch) where
+    module _ (one two : ℕ) where
       -- its own future is pending
       looks_so : (runner : Runner) (w : SoloWaker X) (rest : List (Code T (SoloWaker X))) (shown : List (Event T (SoloWaker X)))
           (now : Owner) (z : Solo F T X) → HasRunner runner owner → p.inside ≡ PollOwn runner.number w ∷ rest
           → (how : Searches its owner c runner w s (record p { inside = rest }) shown now z)
-          → So runner w s (record p { inside = rest }) shown now z how → SearchedSo So Pends now z
+          → WalksFrom its owner c s (record p { inside = rest }) runner w one two shown now z how → SearchedFrom one two Pends now z
       looks_so runner w rest shown now z has is how from =
           let out : Plain T (SoloWaker X) = record p { inside = rest } in
           let stands =
@@ -201,8 +162,8 @@ module _ {F T X : Type 0} (its : ℕ → Lent) (owner : Owner) (c : Choice) (s :
           → HasRunner runner owner → p.inside ≡ code_at stage (Run runner.number w) ∷ rest → IsEnding stage call
           → Makes its c s (in_try stage rest p) call (shown ++ Answers Yes ∷ []) y
           → (on : RunsOn its owner c runner w y (behind its c s p stage rest call shown) others now z)
-          → RunsSo So runner w y (behind its c s p stage rest call shown) others now z on
-          → SearchedSo So call now z
+          → RunsFrom its owner c y (behind its c s p stage rest call shown) runner w one two others now z on
+          → SearchedFrom one two call now z
       goes_so stage runner w rest call shown others now y z has is ends how on from =
           by others now z on from
         where
@@ -228,8 +189,8 @@ module _ {F T X : Type 0} (its : ℕ → Lent) (owner : Owner) (c : Choice) (s :
               ∙ known.tallied.gives_way runner.number
 
           by : (others : List (Event T (SoloWaker X))) (now : Owner) (z : Solo F T X)
-              → (on : RunsOn its owner c runner w y mid others now z) → RunsSo So runner w y mid others now z on
-              → SearchedSo So call now z
+              → (on : RunsOn its owner c runner w y mid others now z) → RunsFrom its owner c y mid runner w one two others now z on
+              → SearchedFrom one two call now z
           by others now z (gives_way enough names life) from =
               none_from
               (sought ∙ ap (λ b. if b then Some (record { run = runner.number; waker = w; at = mid }) else None) (way ∙ ap not enough))
@@ -271,7 +232,8 @@ module _ {F T X : Type 0} (its : ℕ → Lent) (owner : Owner) (c : Choice) (s :
               }) from
 
       pub acts_searched_from : (now : Owner) (z : Solo F T X) (call : Call T (SoloWaker X)) (shown : List (Event T (SoloWaker X)))
-          → (acts : Acts its owner c s p call shown now z) → ActsSo So now z call shown acts → SearchedSo So call now z
+          → (acts : Acts its owner c s p call shown now z) → ActsFrom its c s p one two owner call shown now z acts
+          → SearchedFrom one two call now z
       acts_searched_from now z call shown (courses.makes call' shown' z' how) from =
           none_from (makes_none c its s z' p call' shown' how) (λ r. refl)
       acts_searched_from now z call shown (courses.makes_tick t new may) from = none_from (silent c call (λ code q. refl) p) (λ r. refl)
@@ -308,10 +270,9 @@ module _ {F T X : Type 0} (its : ℕ → Lent) (owner : Owner) (c : Choice) (s :
         → Acts its owner c s p call shown now z → Searched call now z
     acts_searched now z call shown acts =
         let words = acts_from now z call shown acts in
-        forget words.0 words.1
-        (acts_searched_from (From words.0 words.1) now z call shown acts (acts_so words.0 words.1 now z call shown acts words.2))
+        forget words.0 words.1 (acts_searched_from words.0 words.1 now z call shown acts words.2)
       where
-        forget : (one two : ℕ) → SearchedSo (From one two) call now z → Searched call now z
+        forget : (one two : ℕ) → SearchedFrom one two call now z → Searched call now z
         forget one two (none_from none still) = no_search none still
         forget one two (one_from x is at from) = a_search x is at
 
@@ -328,29 +289,22 @@ module _ {F T X : Type 0} (its : ℕ → Lent) (owner : Owner) (c : Choice) (s :
             none_some so = absurd cc
         by (a_search y so at) = subst (λ x. SearchesAt its owner c s x now z) (ap (λ o. or o (λ x. x) x) (sym so ∙ is)) at
 
-    -- with what is so of it
-    module _ (So : OfSearch) where
-      pub sought_there : (now : Owner) (z : Solo F T X) (call : Call T (SoloWaker X)) (shown : List (Event T (SoloWaker X)))
-          (acts : Acts its owner c s p call shown now z) → ActsSo So now z call shown acts
-          → (x : Search T (SoloWaker X)) → searches wakes c call p ≡ Some x
-          → (at : SearchesAt its owner c s x now z) × So at.runner x.waker at.before x.at at.shown now z at.searches
-      sought_there now z call shown acts so x is = by (acts_searched_from So now z call shown acts so)
-        where
-          There : Search T (SoloWaker X) → Type 0
-          There x = (at : SearchesAt its owner c s x now z) × So at.runner x.waker at.before x.at at.shown now z at.searches
-
-          by : SearchedSo So call now z → There x
-          by (none_from none still) = absurd (none_some (sym none ∙ is))
-            where
-              none_some : ◌≡◌ {A = Option (Search T (SoloWaker X))} None (Some x) → ⊥
-              none_some so = absurd cc
-          by (one_from y so at from) = subst There (ap (λ o. or o (λ x. x) x) (sym so ∙ is)) (at, from)
-
-    -- and so with the words at which its walks begin
+    -- with the words at which its walks begin
     pub walked_there : (one two : ℕ) (now : Owner) (z : Solo F T X) (call : Call T (SoloWaker X)) (shown : List (Event T (SoloWaker X)))
         (acts : Acts its owner c s p call shown now z) → ActsFrom its c s p one two owner call shown now z acts
         → (x : Search T (SoloWaker X)) → searches wakes c call p ≡ Some x
         → (at : SearchesAt its owner c s x now z)
         × WalksFrom its owner c at.before x.at at.runner x.waker one two at.shown now z at.searches
-    walked_there one two now z call shown acts from =
-        sought_there (From one two) now z call shown acts (acts_so one two now z call shown acts from)
+    walked_there one two now z call shown acts from x is = by (acts_searched_from one two now z call shown acts from)
+      where
+        Walked : Search T (SoloWaker X) → Type 0
+        Walked x =
+            (at : SearchesAt its owner c s x now z)
+            × WalksFrom its owner c at.before x.at at.runner x.waker one two at.shown now z at.searches
+
+        by : SearchedFrom one two call now z → Walked x
+        by (none_from none still) = absurd (none_some (sym none ∙ is))
+          where
+            none_some : ◌≡◌ {A = Option (Search T (SoloWaker X))} None (Some x) → ⊥
+            none_some so = absurd cc
+        by (one_from y so at from) = subst Walked (ap (λ o. or o (λ x. x) x) (sym so ∙ is)) (at, from)

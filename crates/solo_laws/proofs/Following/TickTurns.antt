@@ -137,10 +137,10 @@ module _ {F T X : Type 0} (its : ℕ → Lent) (number : Who → ℕ) (s : Solo 
   module _ (none : solo.sought s ≡ None) (room : HasRoom (ATick t) s p)
       (names : (u : Task) → w ≡ OfTask u → IsNamed (named its) (length p.futures) u × (solo.may_hold u s ≡ true))
       (many : suc (length p.lying) ≤ c.tells) (life : HasLife 2 s.lines) where
-    pub fewer : length p.lying ≤ c.tells
+    fewer : length p.lying ≤ c.tells
     fewer = omega (arith, many)
 
-    pub so : Standing its c (ATick t) w number (solo.popped s) p
+    so : Standing its c (ATick t) w number (solo.popped s) p
     so = record {
       follows = (trying.nothing (named its) c s p turn both.0 (none_sought none)).1;
       tabled = tabled its c s (solo.popped s) p p (bases.same s) (still c p) both.1;
@@ -148,7 +148,7 @@ module _ {F T X : Type 0} (its : ℕ → Lent) (number : Who → ℕ) (s : Solo 
       none = searched_empty s.lines none;
     }
 
-    pub lives : HasLife 2 (solo.popped s).lines
+    lives : HasLife 2 (solo.popped s).lines
     lives = trying.lives (named its) c s p turn both.0 2 life
 
     -- it lies, or lies down and searches again

@@ -1,11 +1,10 @@
 -- Which ticks live behind an act: one more where one was made, one less where one was dropped, and else the same.
-use Rattle.std.proofs.Common.{◌≡◌, ◌<◌, ◌++◌, ◌==◌, not, ℕ, zero, suc, List, [], ◌∷◌, Bool, true, false, nat_lt, length, get_or, set}
+use Rattle.std.proofs.Common.{◌≡◌, ◌<◌, ◌++◌, ◌==◌, ℕ, zero, suc, List, [], ◌∷◌, Bool, true, false, nat_lt, length, get_or, set}
 use Rattle.std.proofs.Common.{Option, Some, None, Ok, is_some, if◌then◌else◌, refl, sym, ap, ◌∙◌, subst, arith, append_assoc, append-nil}
 use Rattle.std.specs.Prelude.{reverse}
 use Rattle.std.proofs.lemmas.Bool.Decides.{nat_tests}
 use Rattle.executor_model.specs.declared.call.Call.{Call}
 use Rattle.executor_model.specs.declared.call.Call.TheVariants as call
-use Rattle.executor_model.specs.declared.call.Reply.{Reply}
 use Rattle.executor_model.specs.declared.call.Reply.TheVariants as reply
 use Rattle.executor_model.specs.declared.event.Event.{Event}
 use Rattle.executor_model.specs.declared.event.Event.TheVariants as event
@@ -16,7 +15,6 @@ use Rattle.executor_model.specs.declared.op.Op.{Op}
 use Rattle.executor_model.specs.declared.op.Op.TheVariants as op
 use Rattle.executor_model.specs.declared.op.RunPoll.{RunPoll}
 use Rattle.executor_model.specs.declared.op.TableOp.TheVariants as table_op
-use Rattle.executor_model.specs.declared.op.TickOp.TheVariants as tick_op
 use Rattle.executor_model.specs.declared.op.TickOrRun.TheVariants as tick_or_run
 use Rattle.executor_model.specs.declared.op.UserOp.TheVariants as user_op
 use Rattle.executor_model.specs.declared.op.Waker.{Waker}
@@ -28,7 +26,8 @@ use Rattle.executor_model.specs.declared.step.UserEnd.{UserEnd}
 use Rattle.executor_model.specs.declared.step.UserEnd.TheVariants.{Done as Over, Polled}
 use Rattle.executor_model.specs.ActsOfSleepers.{leave_sleepers_by, make_tick_by}
 use Rattle.executor_model.specs.Executions.{run_all}
-use Rattle.executor_model.specs.Steps.{Machine, after, begun, drop_run, future_of, kept, lives, mine, part_refusal, party_of, poll_run, react}
+use Rattle.executor_model.specs.Steps.{Machine, after, begun, drop_run, future_of, kept, lives, mine, part_refusal, party_of, poll_run}
+use Rattle.executor_model.specs.Steps.{react}
 use Rattle.executor_model.specs.Steps.{refusal, stack, top, with_future}
 use Rattle.executor_model.specs.Trace.{Trace}
 use Rattle.executor_model.specs.Weights.{weigh}

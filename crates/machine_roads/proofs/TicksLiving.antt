@@ -1,5 +1,5 @@
 -- Which ticks live behind what one party does alone: the same, but where one is made or leaves.
-use Rattle.std.proofs.Common.{◌≡◌, ℕ, zero, suc, ◌+◌, ◌≤◌, ◌%◌, ◌++◌, ◌==◌, cond, Bool, true, false, List, [], ◌∷◌, length, get_or, set, Option, Some, None}
+use Rattle.std.proofs.Common.{◌≡◌, ℕ, zero, suc, ◌≤◌, ◌%◌, Bool, true, false, List, [], ◌∷◌, length, get_or, set, Option, Some, None}
 use Rattle.std.proofs.Common.{refl, sym, ap, ◌∙◌, arith}
 use Rattle.std.specs.Prelude.{is_none}
 use Rattle.task_moves.specs.declared.moves.owed.Move.{Move}
@@ -39,7 +39,7 @@ use Rattle.executor_model.specs.Doing.{act, list_act, search_by_who, sleeper_act
 use Rattle.executor_model.specs.Steps.{begun, future_of, kept, lives, react, waits, with_future}
 use Rattle.executor_model.specs.Weights.{weigh}
 use Rattle.executor_model.specs.World.{Asleep, Awake, Done, Ended, Left, Listed, New, Stage, Ticker, World, done, log, own_of, place_of}
-use Rattle.executor_model.specs.World.{put_own, queue_of, run_of, tick_of, ticks_with}
+use Rattle.executor_model.specs.World.{put_own, tick_of, ticks_with}
 use Rattle.executor_model.proofs.OwnQueues.RunsAside.{bustle_of, frame-act, frame-call, is_lone}
 use Rattle.executor_model.proofs.Sleepers.SleepersAway.{Away, SleepersSeen, away-act, away-call, away-own, is_seen_asleep}
 use Rattle.executor_model.proofs.Steps.Lift.{no_hint}

@@ -1,6 +1,6 @@
 -- Each act is a call that the owner may make.
-use Rattle.std.proofs.Common.{◌≡◌, ℕ, suc, ◌==◌, ◌<◌, ◌≤◌, ◌&&◌, ◌++◌, cond, not, nat_lt, Bool, true, false, List, [], ◌∷◌, length, map, Option}
-use Rattle.std.proofs.Common.{Some, None, get_or, slice_get, refl, sym, ap, subst, ◌∙◌, arith}
+use Rattle.std.proofs.Common.{◌≡◌, ℕ, suc, ◌==◌, ◌<◌, ◌++◌, true, false, List, [], ◌∷◌, length, map, Option}
+use Rattle.std.proofs.Common.{Some, None, slice_get, refl, sym, ap, subst, ◌∙◌, arith}
 use Rattle.std.specs.Option.{option_map}
 use Rattle.std.specs.Prelude.{reverse}
 use Rattle.std.proofs.lemmas.Bool.Decides.{nat_tests}
@@ -16,20 +16,20 @@ use Rattle.executor_model.specs.declared.op.Op.{Op}
 use Rattle.executor_model.specs.declared.op.Waker.{Waker}
 use Rattle.executor_model.specs.declared.op.Waker.TheVariants.{Task as TaskWaker, Outside as OutsideWaker}
 use Rattle.executor_model.specs.declared.step.Step.{Step}
-use Rattle.executor_model.specs.declared.step.Step.TheVariants.{Answer, Begin}
+use Rattle.executor_model.specs.declared.step.Step.TheVariants.{Answer}
 use Rattle.executor_model.specs.declared.step.StepError.TheVariants.{Idle, WrongAnswer}
 use Rattle.executor_model.specs.declared.step.StepError.{StepError}
 use Rattle.executor_model.specs.declared.step.UserEnd.{UserEnd}
 use Rattle.executor_model.specs.declared.step.UserEnd.TheVariants.{Done as Over, Polled}
 use Rattle.executor_model.specs.Rows.{handling_of, running_of, ticking_of}
-use Rattle.executor_model.specs.Steps.{Machine, accepts, answer_refusal, has_all, has_handle, has_run, has_tick, is_known, is_there, is_unused}
+use Rattle.executor_model.specs.Steps.{Machine, accepts, answer_refusal, has_all, has_handle, has_run, has_tick, is_known, is_there}
+use Rattle.executor_model.specs.Steps.{is_unused}
 use Rattle.executor_model.specs.Steps.{begin_refusal, lives, mine, party_of, refusal, stack, top, waker_of}
-use Rattle.executor_model.specs.Weights.{weigh, weigh_all}
-use Rattle.executor_model.specs.World.{Left, Ticker, run_of, task as task_of, tick_of}
+use Rattle.executor_model.specs.Weights.{weigh_all}
+use Rattle.executor_model.specs.World.{Left, run_of, task as task_of, tick_of}
 use Rattle.executor_model.proofs.Steps.Reached.{Reached}
 use Rattle.executor_model.proofs.Steps.Stepping.{refusal-there}
 use Rattle.solo.specs.declared.names.SoloWaker.{SoloWaker}
-use Rattle.solo.specs.declared.names.SoloWaker.TheVariants.{Task as OfTask, Outside}
 use Rattle.solo.specs.declared.solo.Solo.{Solo}
 use Rattle.plain_scheduler.specs.State.{Close, Code, Drop, DropOwn, Future, Lose, Plain, Poll, PollOwn, Refusal, Run, Taker, Tick, Try}
 use Rattle.plain_scheduler.specs.Lists.{or}
@@ -43,7 +43,7 @@ use Rattle.machine_roads.proofs.Inmost.{whole}
 use Rattle.machine_roads.proofs.LoneRuns.{both_true, passed}
 use Rattle.machine_roads.proofs.LoneTicks.{may_begin, owned_by, there_all}
 use Rattle.machine_roads.proofs.Tying.{top_of}
-use Rattle.solo_laws.specs.Busy.{busy_in, run_if, run_of as run_in}
+use Rattle.solo_laws.specs.Busy.{busy_in, run_of as run_in}
 use Rattle.solo_laws.specs.Making.{Allows, HasNoRoom, IsKnown, MayEnd, MayPend, by_number}
 use Rattle.solo_laws.specs.Owner.{Owner, has_tick as has_its_tick}
 use Rattle.solo_laws.specs.Road.{is_in}
@@ -52,7 +52,7 @@ use Rattle.two_roads.specs.Renaming.{code_as, future_as, renamed, taker_as}
 use Rattle.two_roads.specs.Together.{nothing, numbered}
 use Rattle.two_roads.proofs.Meeting.Came.{Came, WakerCame, came}
 use Rattle.two_roads.proofs.Meeting.Ending.{Accepts, EndsSo, ends_so, free_in}
-use Rattle.two_roads.proofs.Meeting.Near.{Near, as_many, near}
+use Rattle.two_roads.proofs.Meeting.Near.{as_many, near}
 use Rattle.two_roads.proofs.Words.{length_map}
 
 taker_runs : {A B : Type 0} (waker : A → B) (by : Taker A) → run_in (taker_as waker by) ≡ run_in by
@@ -81,8 +81,10 @@ module _ {T X : Type 0} (number : X → ℕ) where
 
   pub busy_as : (codes : List (Code T (SoloWaker X))) → busy_in (codes_as codes) ≡ busy_in codes
   busy_as [] = refl
-  busy_as (Poll f by ∷ codes) = ap (λ ns. ns ++ busy_in (codes_as codes)) (taker_runs (numbered number) by) ∙ ap (λ ns. run_in by ++ ns) (busy_as codes)
-  busy_as (Drop f why by ∷ codes) = ap (λ ns. ns ++ busy_in (codes_as codes)) (taker_runs (numbered number) by) ∙ ap (λ ns. run_in by ++ ns) (busy_as codes)
+  busy_as (Poll f by ∷ codes) =
+      ap (λ ns. ns ++ busy_in (codes_as codes)) (taker_runs (numbered number) by) ∙ ap (λ ns. run_in by ++ ns) (busy_as codes)
+  busy_as (Drop f why by ∷ codes) =
+      ap (λ ns. ns ++ busy_in (codes_as codes)) (taker_runs (numbered number) by) ∙ ap (λ ns. run_in by ++ ns) (busy_as codes)
   busy_as (Lose awaiter None ∷ codes) = busy_as codes
   busy_as (Lose awaiter (Some by) ∷ codes) =
       ap (λ ns. ns ++ busy_in (codes_as codes)) (taker_runs (numbered number) by) ∙ ap (λ ns. run_in by ++ ns) (busy_as codes)
@@ -91,7 +93,8 @@ module _ {T X : Type 0} (number : X → ℕ) where
   busy_as (Close fs all ∷ codes) = busy_as codes
 
   module _ {F : Type 0} (owner : Owner) (y : Solo F T X) (p : Plain T (SoloWaker X)) where
-    pub may_pend : (a : Answer_of) (codes : List (Code T (SoloWaker X))) → EndsSo (Polled a) (codes_as codes) → MayPend by_number owner y p codes
+    pub may_pend : (a : Answer_of) (codes : List (Code T (SoloWaker X))) → EndsSo (Polled a) (codes_as codes)
+        → MayPend by_number owner y p codes
     may_pend a [] ends = absurd ends
     may_pend a (Poll f by ∷ codes) ends = tt
     may_pend a (PollOwn r w ∷ codes) ends = tt
@@ -203,7 +206,8 @@ module _ (s : Machine) (reached : Reached s) (p : ℕ) (there : p < length s.par
     begun c x made fits may = by c x made fits (there_all s.world s.parties o c may)
         (came s reached p there c x made (there_all s.world s.parties o c may)) may
       where
-        by : (c : Call) (x : plain.Call Output Waker) → IsCallIn (mine o) s.world c x → FitsSpawn (call_by value outside x) → has_all s.world s.parties o c ≡ true → Came (length s.world.tasks) x
+        by : (c : Call) (x : plain.Call Output Waker) → IsCallIn (mine o) s.world c x → FitsSpawn (call_by value outside x)
+            → has_all s.world s.parties o c ≡ true → Came (length s.world.tasks) x
             → begin_refusal s.world s.parties o c ≡ None → May x
         by c x (within.spawn m) fits has here may = fits
         by c x within.try_tick fits has here may = tt

@@ -95,7 +95,8 @@ module _ (u : UserEnd) where
   ends_so e q (dropping taker final below f b it nested (is_answered next inside follows)) =
       at e.next below b.inside q.inside next inside (by_code below b.inside (inmost below b.inside nested))
   ends_so e q (dropping taker final below f b it nested (loses awaiter next inside ending)) =
-      at e.next (op.User (user_op.DropOutput f) ∷ (rest_of (task e.world f).awaiter f final ++ below)) (Lose awaiter (Some taker) ∷ b.inside)
+      at e.next (op.User (user_op.DropOutput f) ∷ (rest_of (task e.world f).awaiter f final ++ below))
+      (Lose awaiter (Some taker) ∷ b.inside)
       q.inside next inside
       (loss_ends f awaiter (Some taker) b.inside u)
   ends_so e q (untaken taker final below f awaiter g gs codes it nested stops) =

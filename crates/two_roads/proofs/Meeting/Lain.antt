@@ -1,6 +1,7 @@
 -- Who lies with a waker, and lies again with another: no more lie uncalled than before.
-use Rattle.std.proofs.Common.{◌≡◌, ℕ, zero, suc, ◌+◌, ◌≤◌, ◌<◌, ◌-◌, cond, if◌then◌else◌, Bool, true, false, not, List, [], ◌∷◌, length, map, min}
-use Rattle.std.proofs.Common.{filter, find, is_some, Option, Some, None, slice_get, slice_set, refl, sym, ap, subst, ◌∙◌, arith}
+use Rattle.std.proofs.Common.{◌≡◌, ℕ, zero, suc, ◌≤◌, ◌<◌, ◌-◌, cond, if◌then◌else◌, Bool, true, false, not, List, [], ◌∷◌, length, map}
+use Rattle.std.proofs.Common.{min}
+use Rattle.std.proofs.Common.{filter, find, is_some, Option, Some, None, slice_get, slice_set, refl, sym, ap, subst, arith}
 use Rattle.task_moves.specs.AbstractTask as abstract
 use Rattle.task_moves.specs.AbstractTask.{AbstractTask}
 use Rattle.task_moves.specs.LocalTask.{info_of}
@@ -8,7 +9,7 @@ use Rattle.executor_model.specs.declared.op.Waker.{Waker}
 use Rattle.executor_model.specs.declared.op.Waker.TheVariants.{Task, Outside}
 use Rattle.plain_scheduler.specs.State.{Choice, Later, Lying, Plain, Who}
 use Rattle.plain_scheduler.specs.Lists.{any, on, or}
-use Rattle.plain_scheduler.specs.Moves.{appended, becomes, called, copied, is_called, let_go, lies, put, release, task, tell, told_at, used}
+use Rattle.plain_scheduler.specs.Moves.{appended, becomes, called, copied, is_called, let_go, lies, put, release, task, tell, told_at}
 use Rattle.plain_scheduler.specs.Takes as takes
 use Rattle.plain_scheduler.specs.Usual.{lies_uncalled}
 use Rattle.machine_roads.specs.Refused.{OneMoreLies}
@@ -54,7 +55,8 @@ becomes_lying more few f new p = by (is_some (info_of (task f p) new))
     at_put = put_lying f new p
 
     by : (b : Bool) → Fewer p (if b then more (appended f (put f new p)) else put f new p)
-    by true = (let one = few (appended f (put f new p)) in let two = same_lie p (appended f (put f new p)) at_put in omega (arith, one, two))
+    by true =
+        (let one = few (appended f (put f new p)) in let two = same_lie p (appended f (put f new p)) at_put in omega (arith, one, two))
     by false = same_lie p (put f new p) at_put
 
 same_few : (p : Plain Output Waker) → Fewer p p
@@ -68,7 +70,8 @@ told_fewer : (at : ℕ) (p : Plain Output Waker) → Fewer p (told_at wakes at p
 told_fewer at p = by (slice_get p.lying at)
   where
     by : (o : Option (Lying Waker))
-        → Fewer p (on o (λ l p. on l.waker (called wakes (λ s. s)) (record p { lying = slice_set p.lying at (record l { waker = None }) })) p)
+        → Fewer p
+        (on o (λ l p. on l.waker (called wakes (λ s. s)) (record p { lying = slice_set p.lying at (record l { waker = None }) })) p)
     by None = omega arith
     by (Some l) = waker l.waker
       where

@@ -1,19 +1,17 @@
 -- So lists of acts happen, one after the other.
-use Rattle.std.proofs.Common.{◌≡◌, ℕ, ◌+◌, ◌*◌, ◌≤◌, ◌<◌, ◌++◌, not, true, List, [], ◌∷◌, length, append_assoc, append-nil, slice_index_or}
+use Rattle.std.proofs.Common.{◌≡◌, ℕ, ◌+◌, ◌≤◌, ◌<◌, ◌++◌, not, true, List, [], ◌∷◌, length, append_assoc, append-nil}
 use Rattle.std.proofs.Common.{refl, sym, ap, subst, ◌∙◌, arith}
 use Rattle.std.specs.Prelude.{reverse}
 use Rattle.queue_steps.specs.ClosableQueue.{most_accepted}
 use Rattle.executor_model.specs.declared.kind.Kind.{Kind as MachineKind}
-use Rattle.executor_model.specs.declared.op.Waker.{Waker}
-use Rattle.executor_model.specs.Steps.{Machine, is_static_kind, lives, stack, start}
+use Rattle.executor_model.specs.Steps.{Machine, is_static_kind, stack, start}
 use Rattle.solo.specs.declared.names.Kind.{Kind}
 use Rattle.solo.specs.declared.names.SoloWaker.{SoloWaker}
 use Rattle.solo.specs.declared.solo.Solo.{Solo}
 use Rattle.solo.specs.Solo.{IsNew, counts}
 use Rattle.plain_scheduler.specs.State.{Choice, Event, Plain, Who}
 use Rattle.plain_scheduler.specs.Calls.{Call, course, does, new}
-use Rattle.machine_roads.specs.View.{Output}
-use Rattle.machine_roads.specs.Within.{Act, AreActs, IsAct, IsMade, is_on_way}
+use Rattle.machine_roads.specs.Within.{Act, AreActs, IsAct, is_on_way}
 use Rattle.solo_laws.specs.Courses.{Acts, Leads, leads, stays}
 use Rattle.solo_laws.specs.Making.{by_number}
 use Rattle.solo_laws.specs.Owner.{Owner, new_owner}
@@ -156,8 +154,8 @@ module _ {F T X : Type 0} (number : X → ℕ) (outside : ℕ → X) (numbers : 
         leads = here.leads;
         of = here.of;
         told =
-            (steps_together by_number number limit kind solo_kind parties here.acts here.calls first y here.shown before owner here.they is_new
-            counted here.leads here.of).1;
+            (steps_together by_number number limit kind solo_kind parties here.acts here.calls first y here.shown before owner here.they
+            is_new counted here.leads here.of).1;
       })
   go (a ∷ rest) s owner y p here names known same life futures runs they fits all is =
       let n = queued_in limit rest in

@@ -1,12 +1,12 @@
 -- Wherever acts and calls have led, each further act is a call that the owner makes.
-use Rattle.std.proofs.Common.{◌≡◌, ℕ, suc, ◌==◌, ◌≤◌, ◌<◌, ◌++◌, nat_lt, not, Bool, true, false, List, [], ◌∷◌, length, Option, None}
+use Rattle.std.proofs.Common.{◌≡◌, ℕ, ◌==◌, ◌≤◌, ◌<◌, ◌++◌, nat_lt, not, true, List, [], ◌∷◌, length, None}
 use Rattle.std.proofs.Common.{slice_index_or, refl, sym, ap, subst, ◌∙◌, arith}
 use Rattle.std.specs.Prelude.{reverse}
 use Rattle.executor_model.specs.declared.kind.Kind.{Kind as MachineKind}
 use Rattle.executor_model.specs.declared.op.Waker.{Waker}
 use Rattle.executor_model.specs.declared.step.StepError.TheVariants.{NoSuch}
-use Rattle.executor_model.specs.Steps.{Machine, after as after_step, is_static_kind, lives, part_refusal, party_of, refusal, stack, start}
-use Rattle.executor_model.specs.World.{done, tick_of}
+use Rattle.executor_model.specs.Steps.{Machine, after as after_step, is_static_kind, part_refusal, party_of, refusal, stack, start}
+use Rattle.executor_model.specs.World.{done}
 use Rattle.executor_model.proofs.Quiet.Resting.{rests}
 use Rattle.executor_model.proofs.Steps.Reached.{Reached, deep-here, reached-more, run-first}
 use Rattle.solo.specs.declared.names.Kind.{Kind}
@@ -25,7 +25,7 @@ use Rattle.machine_roads.proofs.LoneRuns.{passed, within}
 use Rattle.machine_roads.proofs.TicksBehind.{act_ticks}
 use Rattle.solo_laws.specs.Courses.{Leads, leads, stays}
 use Rattle.solo_laws.specs.Making.{Allows, Happens, Wish, by_number}
-use Rattle.solo_laws.specs.Owner.{Owner, has_tick, new_owner}
+use Rattle.solo_laws.specs.Owner.{Owner, new_owner}
 use Rattle.solo_laws.specs.Road.{apart, wakes}
 use Rattle.solo_laws.proofs.Happening.Each.{happens}
 use Rattle.solo_laws.proofs.Happening.Free.{acts_vacant}

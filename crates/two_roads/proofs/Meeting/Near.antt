@@ -1,6 +1,7 @@
 -- Wherever a party rests a world stands where a plain state does that is near both: futures, handles and the kind are the same.
-use Rattle.std.proofs.Common.{◌≡◌, ℕ, zero, suc, ◌-◌, ◌++◌, is_some, ◌<◌, ◌==◌, cond, not, Bool, true, false, List, [], ◌∷◌, length, Option, Some, None, slice_get, slice_set}
-use Rattle.std.proofs.Common.{get_or, set, get_or-set_same, get_or-set_other, refl, sym, ap, subst, ◌∙◌, arith}
+use Rattle.std.proofs.Common.{◌≡◌, ℕ, zero, suc, ◌-◌, ◌++◌, is_some, ◌==◌, not, Bool, true, false, List, [], ◌∷◌, length, Option, Some}
+use Rattle.std.proofs.Common.{None, slice_get, slice_set}
+use Rattle.std.proofs.Common.{get_or, set, get_or-set_other, refl, sym, ap, subst, ◌∙◌}
 use Rattle.task_moves.specs.AbstractTask.{AbstractTask}
 use Rattle.task_moves.specs.declared.moves.state.State.{State}
 use Rattle.executor_model.specs.declared.op.Op.{Op}
@@ -9,14 +10,13 @@ use Rattle.executor_model.specs.declared.op.UserOp.TheVariants as user_op
 use Rattle.executor_model.specs.declared.op.HandleOp.TheVariants as handle_op
 use Rattle.executor_model.specs.declared.op.TableOp.TheVariants as table_op
 use Rattle.executor_model.specs.declared.op.Waker.{Waker}
-use Rattle.executor_model.specs.World.{Done, World, among, blank, put, put_awaiter, task as task_of}
+use Rattle.executor_model.specs.World.{Done, World, among, blank, put, task as task_of}
 use Rattle.plain_scheduler.specs.State.{Future, Plain, Running}
 use Rattle.plain_scheduler.specs.Lists.{on}
 use Rattle.plain_scheduler.specs.Moves.{runs, task}
 use Rattle.machine_roads.specs.Dropped.{answered, loses, rest_of, without_run}
 use Rattle.machine_roads.specs.Forgotten.{unawaited, without_awaiter}
 use Rattle.machine_roads.specs.InLoss.{loss_ops, without_handles}
-use Rattle.machine_roads.specs.Losing.{without_handle}
 use Rattle.machine_roads.specs.Road.{Follows}
 use Rattle.machine_roads.specs.View.{Output}
 use Rattle.machine_roads.specs.Within.{StandsAlike, alike, dropping, forgetting, forgotten, going, losing, untaken}
@@ -93,7 +93,8 @@ of_awaiter : (f : ℕ) (w : World) (g : ℕ) → (task_of (without_awaiter f w) 
 of_awaiter f w g = handle_put w f g (record (task_of w f) { awaiter = false }) refl
 
 -- what is asked of a plain state whose run is another, or one of whose tasks nobody awaits
-runs_by : {B : Type 0} (ask : Plain Output Waker → B) → ((q : Plain Output Waker) (rs : List Running) → ask (record q { runs = rs }) ≡ ask q)
+runs_by : {B : Type 0} (ask : Plain Output Waker → B)
+    → ((q : Plain Output Waker) (rs : List Running) → ask (record q { runs = rs }) ≡ ask q)
     → (h : Running → Running) (r : ℕ) (q : Plain Output Waker) → ask (runs h r q) ≡ ask q
 runs_by ask same h r q = by (slice_get q.runs r)
   where

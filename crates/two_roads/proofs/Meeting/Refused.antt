@@ -1,20 +1,12 @@
 -- Memory is refused to the owner's call as to the act.
-use Rattle.std.proofs.Common.{◌≡◌, ℕ, suc, ◌≤◌, ◌<◌, nat_lt, cond, if◌then◌else◌, Bool, true, false, not, List, ◌∷◌, ◌++◌, length, Option, Some, None}
-use Rattle.std.proofs.Common.{refl, sym, ap, subst, ◌∙◌, arith}
-use Rattle.std.proofs.lemmas.Bool.Decides.{nat_tests}
-use Rattle.executor_model.specs.declared.op.Waker.{Waker}
+use Rattle.std.proofs.Common.{◌≡◌, ℕ, ◌≤◌, Bool, true, false, not, List, ◌++◌, length, Some, None}
+use Rattle.std.proofs.Common.{refl, sym, ap, ◌∙◌}
 use Rattle.executor_model.specs.Steps.{Machine}
 use Rattle.solo.specs.declared.names.SoloWaker.{SoloWaker}
 use Rattle.solo.specs.declared.names.SoloWaker.TheVariants.{Task as OfTask, Outside}
-use Rattle.solo.specs.declared.names.Task.{Task}
-use Rattle.solo.specs.declared.owed.Lent.{Lent}
-use Rattle.solo.specs.declared.runs.Runner.{Runner}
 use Rattle.solo.specs.declared.solo.Solo.{Solo}
-use Rattle.solo.specs.declared.ticks.Ticked.{Ticked}
-use Rattle.solo.specs.declared.ticks.Ticker.{Ticker}
-use Rattle.solo.specs.Lines.{mark_of_turn}
 use Rattle.solo.specs.Solo as solo
-use Rattle.plain_scheduler.specs.State.{ARun, ATick, AtOnce, Choice, Event, Granted, Later, Plain, Refusal}
+use Rattle.plain_scheduler.specs.State.{ARun, ATick, Choice, Event, Later, Plain, Refusal}
 use Rattle.plain_scheduler.specs.Lists.{or}
 use Rattle.plain_scheduler.specs.Calls as calls
 use Rattle.plain_scheduler.specs.Calls.{Call, is_granted}
@@ -22,23 +14,18 @@ use Rattle.plain_scheduler.specs.Searches.{Search, finds, searches}
 use Rattle.plain_scheduler.specs.Usual.{lies_uncalled}
 use Rattle.machine_roads.specs.Refused.{in_vain}
 use Rattle.machine_roads.specs.Within.{Act}
-use Rattle.solo_laws.specs.Choosing.{SearchesAt}
 use Rattle.solo_laws.specs.Courses as courses
 use Rattle.solo_laws.specs.Courses.{Acts, Makes}
-use Rattle.solo_laws.specs.Making.{acted_as, behind, by_number, copy_refusal, made_as, may_copy, ran_as, rest_refusal, searched_as}
-use Rattle.solo_laws.specs.Numbered.{ticker_of}
-use Rattle.solo_laws.specs.Owner.{Owner, has_tick}
-use Rattle.solo_laws.specs.Road.{HasLife, IsNamed, wakes}
-use Rattle.solo_laws.specs.RunGoing.{IsEnding, drop_ends, loss_ends, poll_ends, RunsOn, Searches, Stage, gives_way, is_refused, lies_refused, looks_on, rests, robs_another, takes_common}
-use Rattle.solo_laws.specs.RunGoing.{takes_own}
-use Rattle.solo_laws.specs.RunResting.{sleep_answer}
+use Rattle.solo_laws.specs.Making.{acted_as, by_number, copy_refusal, made_as}
+use Rattle.solo_laws.specs.Owner.{Owner}
+use Rattle.solo_laws.specs.Road.{wakes}
+use Rattle.solo_laws.specs.RunGoing.{IsEnding, drop_ends, loss_ends, poll_ends, Stage}
 use Rattle.solo_laws.specs.Tabled.{named}
-use Rattle.solo_laws.specs.Ticking.{looks_again, slept_answer}
 use Rattle.solo_laws.proofs.Happening.Refused.{acts_heed}
 use Rattle.solo_laws.proofs.Showing.Courses.{Known}
 use Rattle.solo_laws.specs.Heeding.{FitsSearch}
 use Rattle.two_roads.specs.Happening.{FitsMemory, VainCanCopy}
-use Rattle.two_roads.specs.Refusing.{asks_memory, has_to_wait, refused_in}
+use Rattle.two_roads.specs.Refusing.{asks_memory, refused_in}
 
 -- never once it lies
 abbrev pub IsOnce : Refusal → Type 0
@@ -118,7 +105,8 @@ module _ {F T X : Type 0} (number : X → ℕ) (s : Machine) (a : Act) (owner : 
           → c.refusal ≡ acted_as by_number c y p owner call (first ++ others) now' z' r acts → asks_memory wakes c p call ≡ true
           → FitsMemory number s a owner y p call → SaysOf call → c.refusal ≡ r
       goes st call (poll_ends f) acts is asks fits says =
-          acts_heed by_number owner c y p known many r calls.Pends (first ++ others) now' z' acts is (fits_search calls.Pends asks fits says)
+          acts_heed by_number owner c y p known many r calls.Pends (first ++ others) now' z' acts is
+          (fits_search calls.Pends asks fits says)
       goes st call (drop_ends f end) acts is asks fits says =
           acts_heed by_number owner c y p known many r calls.Ends (first ++ others) now' z' acts is (fits_search calls.Ends asks fits says)
       goes st call (loss_ends awaiter) acts is asks fits says =

@@ -1,5 +1,5 @@
 -- What the machine's act says of its refusal: copies are refused at once, and who lies and wasn't called isn't refused memory later.
-use Rattle.std.proofs.Common.{◌≡◌, ℕ, ◌+◌, ◌≤◌, ◌<◌, nat_lt, cond, Bool, true, false, not, List, [], ◌∷◌, ◌++◌, length, map, Option, Some, None}
+use Rattle.std.proofs.Common.{◌≡◌, ℕ, ◌≤◌, ◌<◌, nat_lt, cond, Bool, true, false, not, List, [], length, map, Option, Some, None}
 use Rattle.std.proofs.Common.{filter, find, is_some, refl, sym, ap, subst, ◌∙◌, arith}
 use Rattle.std.proofs.lemmas.Bool.Decides.{nat_tests}
 use Rattle.std.specs.Option.{option_map}
@@ -14,9 +14,9 @@ use Rattle.executor_model.specs.World.{Ticker, Awake, Asleep, Left, Done}
 use Rattle.solo.specs.declared.names.SoloWaker.{SoloWaker}
 use Rattle.solo.specs.declared.solo.Solo.{Solo}
 use Rattle.solo.specs.Lines.{mark_of_turn}
-use Rattle.solo.specs.Solo as solo
 use Rattle.task_moves.specs.AbstractTask as abstract
-use Rattle.plain_scheduler.specs.State.{ARun, ATick, Answers, AtOnce, Cancelled, Choice, Due, Gives, Granted, Later, Lying, Made, NoMemory, Pending}
+use Rattle.plain_scheduler.specs.State.{ARun, ATick, Answers, AtOnce, Cancelled, Choice, Due, Gives, Granted, Later, Lying, Made}
+use Rattle.plain_scheduler.specs.State.{NoMemory, Pending}
 use Rattle.plain_scheduler.specs.State.{Plain, Refusal, Run, Who}
 use Rattle.plain_scheduler.specs.Lists.{any, on, or, without}
 use Rattle.plain_scheduler.specs.Moves.{answers, chosen, copied, is_common, lies, looks, put, task, tell}
@@ -28,13 +28,12 @@ use Rattle.plain_scheduler.specs.Searches.{Search, finds, searches}
 use Rattle.plain_scheduler.specs.Usual.{lies_uncalled}
 use Rattle.plain_laws.proofs.Searching.{searching, tell_it}
 use Rattle.machine_roads.specs.Road.{uncalled, who_of}
-use Rattle.machine_roads.specs.Seeing.{heard_in, shown as shown_alike}
 use Rattle.machine_roads.specs.View.{Output, wakes as wakes_in}
 use Rattle.machine_roads.specs.Within.{Act, StandsAlike, standing}
 use Rattle.machine_roads.proofs.RunLies.{none_due}
 use Rattle.machine_roads.proofs.Silent.{none_told}
 use Rattle.machine_roads.proofs.TickPolls.{nothing_is}
-use Rattle.solo_laws.specs.Making.{by_number, copy_refusal}
+use Rattle.solo_laws.specs.Making.{by_number}
 use Rattle.solo_laws.specs.Owner.{Owner}
 use Rattle.solo_laws.specs.Road.{wakes}
 use Rattle.solo_laws.proofs.Following.TickTurns.{none_found_common, none_sought}
@@ -43,15 +42,14 @@ use Rattle.two_roads.specs.Happening.{call_by, waker_by}
 use Rattle.two_roads.specs.Refusing.{ends_refused, refused_in, refused_so}
 use Rattle.two_roads.specs.Renaming.{call_as, lying_as, renamed}
 use Rattle.two_roads.specs.Together.{nothing, numbered}
-use Rattle.two_roads.proofs.Acted.{seen_so}
 use Rattle.two_roads.proofs.Both.{wakes_so}
 use Rattle.two_roads.proofs.Calling.{setting}
 use Rattle.two_roads.proofs.Meeting.Lain.{lay_not}
 use Rattle.two_roads.proofs.Meeting.Near.{near}
 use Rattle.two_roads.proofs.Meeting.Refused.{IsOnce, SaysOf}
-use Rattle.two_roads.proofs.Moving.{Few, Setting}
-use Rattle.two_roads.proofs.Refusing.{Lie, last_is, same_test}
-use Rattle.two_roads.proofs.Sought.{Sought, both_search, none_searches, search_as, sought_alike}
+use Rattle.two_roads.proofs.Moving.{Setting}
+use Rattle.two_roads.proofs.Refusing.{last_is, same_test}
+use Rattle.two_roads.proofs.Sought.{Sought, both_search, search_as, sought_alike}
 use Rattle.two_roads.proofs.Words.{find_map}
 
 abbrev lie : Plain Output Waker → ℕ
@@ -201,7 +199,8 @@ module _ {T X : Type 0} (number : X → ℕ) where
           let k : Setting T Output (SoloWaker X) Waker =
           setting nothing (numbered number) wakes wakes_in (wakes_so number) c (record d { refusal = c.refusal }) p many few refl in
           let there = theirs k at (searches wakes_in (record d { refusal = c.refusal }) (call_as nothing (numbered number) call) (as_its p))
-          (subst (λ o. Sought k o (searches wakes_in (record d { refusal = c.refusal }) (call_as nothing (numbered number) call) (as_its p)))
+          (subst
+          (λ o. Sought k o (searches wakes_in (record d { refusal = c.refusal }) (call_as nothing (numbered number) call) (as_its p)))
           at_is (sought_alike k call p (least (length p.lying)))) in
           let sought : searches wakes_in d x q ≡ Some (search_as k at) =
           tell_it wakes_in d (record d { refusal = c.refusal }) x q refl

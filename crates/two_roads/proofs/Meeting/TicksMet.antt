@@ -1,6 +1,6 @@
 -- The owner's ticks stay the machine's that live.
-use Rattle.std.proofs.Common.{◌≡◌, ℕ, zero, suc, ◌==◌, ◌&&◌, ◌++◌, cond, not, if◌then◌else◌, Bool, true, false, List, [], ◌∷◌, length, get_or}
-use Rattle.std.proofs.Common.{nat_lt, refl, sym, ap, subst, ◌∙◌, arith}
+use Rattle.std.proofs.Common.{◌≡◌, ℕ, zero, suc, ◌==◌, ◌&&◌, ◌++◌, not, if◌then◌else◌, Bool, true, false, List, [], ◌∷◌, length, get_or}
+use Rattle.std.proofs.Common.{refl, sym, ap, ◌∙◌, arith}
 use Rattle.std.proofs.lemmas.Bool.Decides.{nat_tests}
 use Rattle.executor_model.specs.declared.op.Waker.{Waker}
 use Rattle.executor_model.specs.Steps.{Machine, lives}
@@ -8,14 +8,14 @@ use Rattle.executor_model.specs.World.{Awake, Left, Ticker, World, tick_of}
 use Rattle.solo.specs.declared.names.SoloWaker.{SoloWaker}
 use Rattle.solo.specs.declared.runs.Runner.{Runner}
 use Rattle.solo.specs.declared.solo.Solo.{Solo}
-use Rattle.plain_scheduler.specs.State.{ATick, Answers, Choice, Event, Granted, Made, NoMemory, Plain, Refusal}
+use Rattle.plain_scheduler.specs.State.{ATick, Answers, Choice, Event, Granted, Made, NoMemory, Plain}
 use Rattle.plain_scheduler.specs.Lists.{without}
 use Rattle.plain_scheduler.specs.Calls as calls
 use Rattle.plain_scheduler.specs.Calls.{Call, is_granted}
 use Rattle.machine_roads.specs.Seeing.{heard_in}
 use Rattle.machine_roads.specs.View.{Output}
 use Rattle.machine_roads.specs.Within.{Act}
-use Rattle.machine_roads.proofs.Lists.{clash, same_of}
+use Rattle.machine_roads.proofs.Lists.{same_of}
 use Rattle.machine_roads.proofs.LoneRuns.{both_true}
 use Rattle.machine_roads.proofs.TicksBehind.{MadeTick, TicksBy}
 use Rattle.machine_roads.proofs.TicksLiving.{LivesSo}
@@ -25,7 +25,8 @@ use Rattle.solo_laws.specs.Making.{NamesTick, acted_as, by_number}
 use Rattle.solo_laws.specs.Owner.{Owner, has_tick, renumbered}
 use Rattle.solo_laws.specs.Road.{apart, is_in}
 use Rattle.solo_laws.specs.Ticking.{number_after}
-use Rattle.solo_laws.specs.RunGoing.{IsEnding, RunsOn, Searches, Stage, drop_ends, gives_way, loss_ends, poll_ends, is_refused, lies_refused, looks_on, rests, robs_another, takes_common}
+use Rattle.solo_laws.specs.RunGoing.{IsEnding, RunsOn, Searches, Stage, drop_ends, gives_way, loss_ends, poll_ends, is_refused}
+use Rattle.solo_laws.specs.RunGoing.{lies_refused, looks_on, rests, robs_another, takes_common}
 use Rattle.solo_laws.specs.RunGoing.{takes_own}
 use Rattle.two_roads.specs.Happening.{call_by}
 use Rattle.two_roads.specs.Refusing.{ends_refused, refused_in, refused_so}

@@ -7,6 +7,7 @@ pub mod Waits
 pub mod InOrder
 pub mod Altogether
 pub mod TakesDue
+pub mod Counts
 pub mod Idle
 pub mod Over
 pub mod Begun

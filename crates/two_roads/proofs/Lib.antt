@@ -19,6 +19,7 @@ pub mod StepAlike
 pub mod Plainly
 pub mod PlainCalls
 pub mod Both
+pub mod GoesIdle
 pub mod Inner
 pub mod InDrop
 pub mod Refusing

@@ -14,7 +14,7 @@ use Rattle.plain_scheduler.specs.State.{NoMemory, Pending, Plain, Polls, Ready, 
 use Rattle.plain_scheduler.specs.Lists.{any}
 use Rattle.plain_scheduler.specs.Moves.{is_common, is_kept}
 use Rattle.plain_scheduler.specs.Calls.{Call, course, does, new}
-use Rattle.plain_laws.specs.Order.{InOrder, InWholeOrder, IsAlone, IsOnlyBegun, all_came, all_came_with, all_go_idle, all_taken, begun_by}
+use Rattle.plain_laws.specs.Order.{InOrder, InWholeOrder, IsAlone, IsOnlyBegun, all_came, all_came_with, all_taken, begun_by}
 use Rattle.plain_laws.specs.Order.{came, came_with, count, is_kept_of, is_others, is_unkept, is_urgent, last_begun, line}
 use Rattle.plain_laws.specs.Order.{of_mark, taken, took, whole_line}
 use Rattle.plain_laws.proofs.Words.{Each, filter_none, map_both, none_as}
@@ -27,11 +27,12 @@ use Rattle.machine_roads.specs.DropActs.{plain_behind}
 use Rattle.machine_roads.specs.Road.{Follows, counted_anew, run_view}
 use Rattle.machine_roads.specs.Seeing.{heard_in, shown as shown_alike}
 use Rattle.machine_roads.specs.View.{Output, wakes}
-use Rattle.machine_roads.specs.Within.{Act, ActAlike, standing}
+use Rattle.machine_roads.specs.Within.{Act, ActAlike, AreActs, standing}
 use Rattle.solo_laws.proofs.Following.Lists.{length_map}
 use Rattle.two_roads.specs.Acting.{acts_by, left_of}
 use Rattle.two_roads.specs.ActsInOrder.{IsAloneInActs, all_wait_in, come_in, line_of_all, line_of_mark, taken_in, taken_with, wait_in}
 use Rattle.two_roads.proofs.Both.{course_of_both}
+use Rattle.two_roads.proofs.GoesIdle.{all_idle}
 use Rattle.two_roads.proofs.InDrop.{acts_come}
 use Rattle.two_roads.proofs.Inner.{seen_in}
 use Rattle.two_roads.proofs.WaitingTasks.{others_none, there_below}
@@ -267,21 +268,19 @@ module _ (limit : ℕ) (kind : Kind) (parties : ℕ) (before acts : List Act)
       (sym (come_in_so r every (line_of_all r) s q acts on ∙ all_came_same r calls q)))))
 
 -- and nothing stands in the own queue of another run where one alone is begun
-pub none_begun : (limit : ℕ) (kind : Kind) (parties : ℕ) (before : List Act)
-    (go : ActAlike (start limit kind parties) (new limit (is_static_kind kind)) before) (r : ℕ)
-    → all_go_idle wakes (acts_by (start limit kind parties) (new limit (is_static_kind kind)) before go) (new limit (is_static_kind kind))
-    ≡ true
+pub none_begun : (limit : ℕ) (kind : Kind) (parties : ℕ) (before : List Act) → AreActs (start limit kind parties) before
+    → (go : ActAlike (start limit kind parties) (new limit (is_static_kind kind)) before) (r : ℕ)
     → IsOnlyBegun wakes r (acts_by (start limit kind parties) (new limit (is_static_kind kind)) before go) (new limit (is_static_kind kind))
     → Follows (left_of (start limit kind parties) before).world
     (plain_behind before (start limit kind parties) (new limit (is_static_kind kind)) go)
     → (k : ℕ) → (r == k) ≡ false → own_of (left_of (start limit kind parties) before).world k ≡ []
-none_begun limit kind parties before go r idle only follows k away =
+none_begun limit kind parties before are go r only follows k away =
     let first : Plain Output Waker = new limit (is_static_kind kind) in
     let cs = acts_by (start limit kind parties) first before go in
     let q = plain_behind before (start limit kind parties) first go in
     let none : any (is_others r) q.due ≡ false =
     subst (λ (p : Plain Output Waker). any (is_others r) p.due ≡ false) (acts_come before (start limit kind parties) first go)
-    (only_one wakes limit (is_static_kind kind) cs r idle only) in
+    (only_one wakes limit (is_static_kind kind) cs r (all_idle limit kind parties before are go) only) in
     follows.kept k
     ∙ ap (map (λ (d : Due). d.future))
     (filter_none (is_kept k) (is_kept k) (λ d is. is) q.due

@@ -1,5 +1,6 @@
 pub mod Words
 pub mod WaitingTasks
+pub mod CountsMore
 pub mod HandedOut
 pub mod OnlyBegun
 pub mod TakenInActs

@@ -1,15 +1,11 @@
 -- In acts of the machine no run goes while it is polled: one call at a time uses a run.
 use Rattle.std.proofs.Common.{◌≡◌, ℕ, ◌+◌, ◌<◌, ◌≤◌, ◌==◌, cond, not, nat_lt, Bool, true, false, List, [], ◌∷◌, length}
-use Rattle.std.proofs.Common.{Option, Some, None, refl, sym, ap, subst, ◌∙◌, arith}
+use Rattle.std.proofs.Common.{refl, sym, ap, subst, ◌∙◌, arith}
 use Rattle.std.proofs.lemmas.Bool.Decides.{nat_tests}
-use Rattle.std.specs.Prelude.{is_some, reverse}
-use Rattle.executor_model.specs.declared.call.Reply.TheVariants as reply
+use Rattle.std.specs.Prelude.{reverse}
 use Rattle.executor_model.specs.declared.kind.Kind.{Kind}
-use Rattle.executor_model.specs.declared.op.ListOp.TheVariants as list_op
 use Rattle.executor_model.specs.declared.op.Op.{Op}
 use Rattle.executor_model.specs.declared.op.Op.TheVariants as op
-use Rattle.executor_model.specs.declared.op.RunPoll.{RunPoll}
-use Rattle.executor_model.specs.declared.op.Section.TheVariants as section
 use Rattle.executor_model.specs.declared.op.UserOp.TheVariants as user_op
 use Rattle.executor_model.specs.declared.op.Waker.{Waker}
 use Rattle.executor_model.specs.declared.step.StepError.TheVariants.{NoSuch}
@@ -21,8 +17,7 @@ use Rattle.executor_model.proofs.Quiet.Resting.{rests}
 use Rattle.executor_model.proofs.Steps.Lists.{same_is}
 use Rattle.executor_model.proofs.Steps.Reached.{Reached, deep-here, reached-more, run-first}
 use Rattle.executor_laws.proofs.Termination.LoneEnds.{OthersRest, still-rest}
-use Rattle.plain_scheduler.specs.State.{Code, DropOwn, Lose, Plain, Taker}
-use Rattle.plain_scheduler.specs.State as state
+use Rattle.plain_scheduler.specs.State.{Code, Plain, Taker}
 use Rattle.plain_scheduler.specs.Lists.{any}
 use Rattle.plain_scheduler.specs.Calls as calls
 use Rattle.plain_scheduler.specs.Calls.{Call, new}
@@ -30,7 +25,6 @@ use Rattle.plain_laws.specs.Order.{all_go_idle, goes_idle, is_of_run, is_taker}
 use Rattle.plain_laws.proofs.Words.{both_so}
 use Rattle.machine_roads.specs.View.{Output, wakes}
 use Rattle.machine_roads.specs.Dropped.{answered as drop_answered, loses}
-use Rattle.machine_roads.specs.InLoss.{loss_codes}
 use Rattle.machine_roads.specs.Stopped.{Stopped, answered, drops, drops_given, drops_polled, polls}
 use Rattle.machine_roads.specs.Within.{Act, ActAlike, AreActs, GoesOnBy, IsLeaving, Nested, StandsAlike, alike, by_run, by_tick, by_try}
 use Rattle.machine_roads.specs.Within.{dropping, drops_own, forgetting, forgotten, going, listed, losing, nowhere, polls_own, standing}

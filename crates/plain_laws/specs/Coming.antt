@@ -1,0 +1,25 @@
+-- In which order futures stand that come with one call.
+use Rattle.std.specs.Prelude.{◌≡◌, ℕ, Bool, false, not, is_some, List, [], ◌∷◌, ◌++◌, map, filter}
+use Rattle.plain_scheduler.specs.State.{Due}
+use Rattle.plain_scheduler.specs.Lists.{any}
+use Rattle.plain_scheduler.specs.Moves.{is_kept}
+
+-- some of another list, in its order
+pub data IsPart {A : Type 0} : List A → List A → Type 0 where
+  no_more : IsPart [] []
+  has : (x : A) (xs ys : List A) → IsPart xs ys → IsPart (x ∷ xs) (x ∷ ys)
+  lacks : (y : A) (xs ys : List A) → IsPart xs ys → IsPart xs (y ∷ ys)
+
+abbrev pub future_in : Due → ℕ
+future_in d = d.future
+
+abbrev pub has_keeper : Due → Bool
+has_keeper d = is_some d.keeper
+
+-- a run gives back what it keeps: all else stands as it stood, and behind it what came, which nobody keeps; among that what the run kept,
+-- in order
+pub record GivesBack (r : ℕ) (before behind : List Due) : Type 0 where
+  pub came : List Due
+  pub stands : behind ≡ filter (λ d. not (is_kept r d)) before ++ came
+  pub unkept : any has_keeper came ≡ false
+  pub in_order : IsPart (map future_in (filter (is_kept r) before)) (map future_in came)

@@ -9,6 +9,7 @@ pub mod Altogether
 pub mod TakesDue
 pub mod Counts
 pub mod GivingBack
+pub mod Leaking
 pub mod Idle
 pub mod Over
 pub mod Begun

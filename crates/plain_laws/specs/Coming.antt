@@ -1,8 +1,9 @@
 -- In which order futures stand that come with one call.
-use Rattle.std.specs.Prelude.{◌≡◌, ℕ, Bool, false, not, is_some, List, [], ◌∷◌, ◌++◌, map, filter}
-use Rattle.plain_scheduler.specs.State.{Due}
+use Rattle.std.specs.Prelude.{◌≡◌, ℕ, Bool, false, ◌&&◌, not, is_some, None, List, [], ◌∷◌, ◌++◌, map, filter}
+use Rattle.task_moves.specs.AbstractTask.{is_idle}
+use Rattle.plain_scheduler.specs.State.{Due, Plain}
 use Rattle.plain_scheduler.specs.Lists.{any}
-use Rattle.plain_scheduler.specs.Moves.{is_kept}
+use Rattle.plain_scheduler.specs.Moves.{is_kept, mark, task}
 
 -- some of another list, in its order
 pub data IsPart {A : Type 0} : List A → List A → Type 0 where
@@ -23,3 +24,12 @@ pub record GivesBack (r : ℕ) (before behind : List Due) : Type 0 where
   pub stands : behind ≡ filter (λ d. not (is_kept r d)) before ++ came
   pub unkept : any has_keeper came ≡ false
   pub in_order : IsPart (map future_in (filter (is_kept r) before)) (map future_in came)
+
+module _ {T A : Type 0} where
+  -- a wake queues it
+  abbrev pub waits_idle : Plain T A → ℕ → Bool
+  waits_idle p f = is_idle (task f p).phase && not (task f p).closed
+
+  -- so it comes
+  abbrev pub unkept : Plain T A → ℕ → Due
+  unkept p f = record { future = f; mark = mark f p; keeper = None }

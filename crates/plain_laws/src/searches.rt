@@ -1,6 +1,20 @@
 //! Where runs search for futures, and what is chosen there.
-ghost use Rattle.std.specs.Prelude.{◌≡◌, ◌≤◌, ◌==◌, ℕ, Option, None, Some, false, true, length, filter, is_some, nat_lt,
-    slice_get};
+ghost use Rattle.std.specs.Prelude.{
+  ◌≡◌,
+  ◌≤◌,
+  ◌==◌,
+  ℕ,
+  Option,
+  None,
+  Some,
+  false,
+  true,
+  length,
+  filter,
+  is_some,
+  nat_lt,
+  slice_get,
+};
 ghost use Rattle.plain_scheduler.specs.Calls.{Call, does};
 ghost use Rattle.plain_scheduler.specs.Lists.{any};
 ghost use Rattle.plain_scheduler.specs.Moves.{is_kept};

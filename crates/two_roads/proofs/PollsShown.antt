@@ -29,6 +29,7 @@ use Rattle.plain_scheduler.specs.State.{Run, Taker, Who, Yes}
 use Rattle.plain_scheduler.specs.Lists.{or}
 use Rattle.plain_scheduler.specs.Calls as calls
 use Rattle.plain_scheduler.specs.Calls.{Call, course, does, is_granted, new}
+use Rattle.plain_laws.specs.Coming.{IsPart, has, lacks, no_more}
 use Rattle.plain_laws.specs.Order.{innermost_leads_to, last_begun, leaves_to, takes_alone}
 use Rattle.plain_laws.proofs.Words.{assoc, both_true, is_itself, map_both, same_number}
 use Rattle.plain_laws.proofs.InOrder.{last_of}
@@ -53,7 +54,7 @@ use Rattle.solo_laws.specs.Shown.{call_shows, cancel_shows, detach_shows, drop_s
 use Rattle.solo_laws.specs.Shown.{answer_in, ended_in, polled_as, rings, rings_of, rings_without}
 use Rattle.solo_laws.specs.Tabled.{named}
 use Rattle.solo_laws.proofs.Showing.Courses.{Known, leads_alike, new_known}
-use Rattle.two_roads.specs.InOrder.{IsPart, handed, handed_with, has, lacks, no_more, polls_in}
+use Rattle.two_roads.specs.InOrder.{handed, handed_with, polls_in}
 
 module _ {T A : Type 0} where
   polls_both : (xs ys : List (Event T A)) → polls_in (xs ++ ys) ≡ polls_in xs ++ polls_in ys

@@ -27,12 +27,6 @@ polls_in [] = []
 polls_in (Polls f ∷ es) = f ∷ polls_in es
 polls_in (_ ∷ es) = polls_in es
 
--- some of another list, in its order
-pub data IsPart {A : Type 0} : List A → List A → Type 0 where
-  no_more : IsPart [] []
-  has : (x : A) (xs ys : List A) → IsPart xs ys → IsPart (x ∷ xs) (x ∷ ys)
-  lacks : (y : A) (xs ys : List A) → IsPart xs ys → IsPart xs (y ∷ ys)
-
 module _ {F T X : Type 0} where
   -- the mark of a task
   abbrev pub mark_in : Solo F T X → Task → Mark

@@ -8,6 +8,7 @@ ghost use Rattle.machine_roads.specs.DropActs.{plain_behind};
 ghost use Rattle.machine_roads.specs.Road.{Follows};
 ghost use Rattle.machine_roads.specs.View.{wakes as wakes_in};
 ghost use Rattle.machine_roads.specs.Within.{Act, ActAlike, AreActs};
+ghost use Rattle.plain_laws.specs.Coming.{IsPart};
 ghost use Rattle.plain_laws.specs.Order.{IsOnlyBegun, is_urgent, of_mark, takes_alone};
 ghost use Rattle.plain_scheduler.specs.Calls.{Call, course, new};
 ghost use Rattle.plain_scheduler.specs.Lists.{any};
@@ -24,12 +25,13 @@ ghost use Rattle.solo_laws.specs.Road.{wakes};
 ghost use Rattle.solo_laws.specs.Tabled.{named};
 ghost use Rattle.two_roads.specs.Acting.{acts_by, left_of};
 ghost use Rattle.two_roads.specs.ActsInOrder.{IsAloneInActs, all_wait_in, come_in, line_of_all, line_of_mark, taken_in, wait_in};
-ghost use Rattle.two_roads.specs.InOrder.{HandsInOrder, IsAloneIn, IsOnlyBegunIn, IsPart, all_wait, handed, polls_in, waits};
+ghost use Rattle.two_roads.specs.InOrder.{HandsInOrder, IsAloneIn, IsOnlyBegunIn, all_wait, handed, polls_in, waits};
 
 /// Where a list of calls has led from a new executor of one owner on, nothing stands in the own queue of another run, and in the calls
 /// that go on run r alone takes futures and doesn't go, it is handed the tasks of each mark in the order in which they were queued: what
 /// it was handed, and behind it what waits, is what waited before, and behind it what came since. For a run wait the tasks in its own
-/// queue, and behind them those in the executor's. What it was handed is what is shown last, to be polled or dropped.
+/// queue, and behind them those in the executor's. What it was handed with a call, if it has counted another since, is what is shown last,
+/// to be polled or dropped: it counts each that it is handed, and with every 64th begins anew.
 pub fn tasks_are_handed_in_order<F, T, X>()
     ensures { (its : ℕ → Lent) (limit : ℕ) (kind : Kind) (is_static : Bool) (calls cs : List (Choice × Call T (SoloWaker X)))
         (first middle last : Solo F T X) (shown others : List (Event T (SoloWaker X))) (number : Who → ℕ) (before after : Owner) (r : ℕ)
@@ -73,7 +75,7 @@ pub fn only_begun_runs_have_tasks<F, T, X>()
 {}
 
 /// So it is with the futures that a run of the machine takes, where one party of a new machine at a time begins calls, also in polls and
-/// drops, and user code answers and ends. What it takes is what the trace tells of last, as polled or dropped. Who waits is read off the
+/// drops, and user code answers and ends. What it takes in an act, if it has counted another since, is what the trace tells of last. Who waits is read off the
 /// machine's queues where the acts begin and where they end: both stand alike there, so in no drop in which a call still owes something.
 pub fn futures_are_taken_in_order()
     ensures { (limit : ℕ) (kind : MachineKind) (parties : ℕ) (before acts : List Act)

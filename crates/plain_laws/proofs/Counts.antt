@@ -1,10 +1,12 @@
 -- A run counts one more just where it searches and finds a future.
-use Rattle.std.proofs.Common.{◌≡◌, ℕ, ◌+◌, ◌==◌, ◌++◌, ◌&&◌, is_some, nat_lt, cond, find, filter, Bool, true, false, List, [], ◌∷◌, Option, Some, None}
+use Rattle.std.proofs.Common.{◌≡◌, ℕ, ◌+◌, ◌==◌, ◌++◌, ◌&&◌, is_some, nat_lt, cond, find, filter, Bool, true, false, List, [], ◌∷◌}
+use Rattle.std.proofs.Common.{Option, Some, None}
 use Rattle.std.proofs.Common.{slice_get, slice_set, refl, sym, subst, ap, ◌∙◌, count_by}
 use Rattle.executor_parts.specs.declared.mark.Mark.TheVariants.{Plain as PlainMark, Urgent}
 use Rattle.task_moves.specs.AbstractTask as abstract
 use Rattle.task_moves.specs.AbstractTask.{Left}
-use Rattle.plain_scheduler.specs.State.{ARun, ATick, Choice, Close as Closing, Closed, Code, Done, Drop, DropOwn, Due, End, Gave, Lose, Loses}
+use Rattle.plain_scheduler.specs.State.{ARun, ATick, Choice, Close as Closing, Closed, Code, Drop, DropOwn, Due, End, Gave, Lose}
+use Rattle.plain_scheduler.specs.State.{Loses}
 use Rattle.plain_scheduler.specs.State.{Plain, Poll, PollOwn, Polls, Ready, Run, Running, Taker, Tick, Try}
 use Rattle.plain_scheduler.specs.Lists.{any, each, on, or, repeat, without}
 use Rattle.plain_scheduler.specs.Moves.{answers, appended, changed, chosen, enters, given_back, is_common, is_due, is_kept, let_go, looks}
@@ -21,11 +23,12 @@ use Rattle.plain_laws.proofs.Calling.{Ways, call_so}
 use Rattle.plain_laws.proofs.InOrder.{count_so, count_there}
 use Rattle.plain_laws.proofs.Over.{at_elsewhere, other_number}
 use Rattle.plain_laws.proofs.Searching.{searching}
-use Rattle.plain_laws.proofs.TakesDue.{Begun, Counts, counted_so, counts_last, now_counts, take_begins, taken_counts}
+use Rattle.plain_laws.proofs.TakesDue.{Counts, counts_last, now_counts, take_begins, taken_counts}
 use Rattle.plain_laws.proofs.Waits.{taken_of}
-use Rattle.plain_laws.proofs.Walk.{Keeps, becomes_good, calls_good, closed_good, each_good, freed_good, given_up_good, gives_way_good, goes_good}
+use Rattle.plain_laws.proofs.Walk.{Keeps, becomes_good, calls_good, closed_good, each_good, freed_good, given_up_good, gives_way_good}
+use Rattle.plain_laws.proofs.Walk.{goes_good}
 use Rattle.plain_laws.proofs.Walk.{if_so, leaves_good, nothing_good, on_good, or_good, put_good, repeat_good, tell_good, up_good}
-use Rattle.plain_laws.proofs.Words.{at, not_below_itself, not_below_zero, same_number}
+use Rattle.plain_laws.proofs.Words.{not_below_itself, not_below_zero, same_number}
 
 none_due : (ds : List Due) → any is_due ds ≡ false → ds ≡ []
 none_due [] none = refl

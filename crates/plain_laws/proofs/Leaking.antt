@@ -1,5 +1,6 @@
 -- A leak appends idle futures in the order of spawning, where nobody lies.
-use Rattle.std.proofs.Common.{◌≡◌, ℕ, zero, suc, ◌<◌, ◌==◌, ◌&&◌, not, min, ◌-◌, cond, filter, Bool, true, false, List, [], ◌∷◌, ◌++◌, length}
+use Rattle.std.proofs.Common.{◌≡◌, ℕ, zero, suc, ◌<◌, ◌==◌, ◌&&◌, not, min, ◌-◌, cond, filter, Bool, true, false, List, [], ◌∷◌, ◌++◌}
+use Rattle.std.proofs.Common.{length}
 use Rattle.std.proofs.Common.{map, Option, Some, None, is_some, slice_get, slice_set, refl, sym, subst, ap, ◌∙◌, arith}
 use Rattle.std.proofs.lemmas.Bool.Decides.{nat_tests}
 use Rattle.executor_parts.specs.declared.mark.Mark.TheVariants.{Plain as PlainMark}
@@ -213,7 +214,8 @@ module _ {T A : Type 0} (wakes : A → Option ℕ) (c : Choice) where
     where
       one : Option (Future T A) → List Due
       one o =
-          cond (is_open_idle (or o (λ x. x.task) no_task)) (record { future = g; mark = or o (λ x. x.mark) PlainMark; keeper = None } ∷ []) []
+          cond (is_open_idle (or o (λ x. x.task) no_task)) (record { future = g; mark = or o (λ x. x.mark) PlainMark; keeper = None } ∷
+              []) []
 
       by : (b : Bool)
           → map (unkept q) (cond b (g ∷ filter (waits_idle q) fs) (filter (waits_idle q) fs))

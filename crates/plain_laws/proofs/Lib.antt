@@ -8,6 +8,7 @@ pub mod InOrder
 pub mod Altogether
 pub mod TakesDue
 pub mod Counts
+pub mod ComingBehind
 pub mod GivingBack
 pub mod Leaking
 pub mod Idle

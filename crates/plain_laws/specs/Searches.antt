@@ -3,7 +3,7 @@ use Rattle.std.specs.Prelude.{ℕ, ◌==◌, ◌&&◌, Bool, true, false, Option
 use Rattle.plain_scheduler.specs.State.{Choice, Plain}
 use Rattle.plain_scheduler.specs.Lists.{or}
 use Rattle.plain_scheduler.specs.Calls.{Call, PollTick, TryTick}
-use Rattle.plain_scheduler.specs.Searches.{Search, finds, searches}
+use Rattle.plain_scheduler.specs.Searches.{finds, searches}
 
 -- a try and a tick's poll look for a future where no run does
 abbrev pub looks_first : {T A : Type 0} → Call T A → Bool

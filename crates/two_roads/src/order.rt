@@ -75,8 +75,9 @@ pub fn only_begun_runs_have_tasks<F, T, X>()
 {}
 
 /// So it is with the futures that a run of the machine takes, where one party of a new machine at a time begins calls, also in polls and
-/// drops, and user code answers and ends. What it takes in an act, if it has counted another since, is what the trace tells of last. Who waits is read off the
-/// machine's queues where the acts begin and where they end: both stand alike there, so in no drop in which a call still owes something.
+/// drops, and user code answers and ends. What it takes in an act, if it has counted another since, is what the trace tells of last. Who
+/// waits is read off the machine's queues where the acts begin and where they end: both stand alike there, so in no drop in which a call
+/// still owes something.
 pub fn futures_are_taken_in_order()
     ensures { (limit : ℕ) (kind : MachineKind) (parties : ℕ) (before acts : List Act)
         (go : ActAlike (start limit kind parties) (new limit (is_static_kind kind)) before)

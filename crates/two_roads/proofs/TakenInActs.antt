@@ -15,7 +15,8 @@ use Rattle.plain_scheduler.specs.Lists.{any}
 use Rattle.plain_scheduler.specs.Moves.{is_common, is_kept}
 use Rattle.plain_scheduler.specs.Calls.{Call, course, does, new}
 use Rattle.plain_laws.specs.Order.{InOrder, InWholeOrder, IsAlone, IsOnlyBegun, all_came, all_came_with, all_taken, begun_by}
-use Rattle.plain_laws.specs.Order.{came, came_with, count, is_kept_of, is_others, is_unkept, is_urgent, last_begun, leaves_to, line}
+use Rattle.plain_laws.specs.Order.{came, came_with, count, is_kept_of, is_others, is_over, is_unkept, is_urgent, last_begun, leaves_to}
+use Rattle.plain_laws.specs.Order.{line}
 use Rattle.plain_laws.specs.Order.{of_mark, taken, takes_alone, took, whole_line}
 use Rattle.plain_laws.proofs.Words.{Each, both_true, filter_none, map_both, none_as}
 use Rattle.plain_laws.proofs.Lines.{kept_by_other}
@@ -29,9 +30,11 @@ use Rattle.machine_roads.specs.Road.{Follows, counted_anew, run_view}
 use Rattle.machine_roads.specs.Seeing.{heard_in, shown as shown_alike}
 use Rattle.machine_roads.specs.View.{Output, wakes}
 use Rattle.machine_roads.specs.Within.{Act, ActAlike, AreActs, standing}
+use Rattle.machine_roads.proofs.Runs.{over_is}
 use Rattle.solo_laws.proofs.Following.Lists.{length_map}
 use Rattle.two_roads.specs.Acting.{acts_by, left_of}
-use Rattle.two_roads.specs.ActsInOrder.{IsAloneInActs, all_wait_in, come_in, line_of_all, line_of_mark, taken_in, taken_with, wait_in}
+use Rattle.two_roads.specs.ActsInOrder.{IsAloneInActs, IsOnlyBegunInActs, all_wait_in, come_in, line_of_all, line_of_mark, taken_in}
+use Rattle.two_roads.specs.ActsInOrder.{taken_with, wait_in}
 use Rattle.two_roads.proofs.Both.{course_of_both}
 use Rattle.two_roads.proofs.CountsMore.{counts_more}
 use Rattle.two_roads.proofs.GoesIdle.{all_idle}
@@ -300,7 +303,8 @@ module _ (limit : ℕ) (kind : Kind) (parties : ℕ) (before acts : List Act)
 -- and nothing stands in the own queue of another run where one alone is begun
 pub none_begun : (limit : ℕ) (kind : Kind) (parties : ℕ) (before : List Act) → AreActs (start limit kind parties) before
     → (go : ActAlike (start limit kind parties) (new limit (is_static_kind kind)) before) (r : ℕ)
-    → IsOnlyBegun wakes r (acts_by (start limit kind parties) (new limit (is_static_kind kind)) before go) (new limit (is_static_kind kind))
+    → IsOnlyBegunInActs r (acts_by (start limit kind parties) (new limit (is_static_kind kind)) before go)
+    (left_of (start limit kind parties) before).world
     → Follows (left_of (start limit kind parties) before).world
     (plain_behind before (start limit kind parties) (new limit (is_static_kind kind)) go)
     → (k : ℕ) → (r == k) ≡ false → own_of (left_of (start limit kind parties) before).world k ≡ []
@@ -308,9 +312,15 @@ none_begun limit kind parties before are go r only follows k away =
     let first : Plain Output Waker = new limit (is_static_kind kind) in
     let cs = acts_by (start limit kind parties) first before go in
     let q = plain_behind before (start limit kind parties) first go in
+    let come = acts_come before (start limit kind parties) first go in
+    let begun : IsOnlyBegun wakes r cs first =
+    λ j polled going.
+    only j polled
+    (sym (over_is (left_of (start limit kind parties) before).world.runs q.runs follows.runs j)
+    ∙ (sym (ap (λ (p : Plain Output Waker). is_over j p) come) ∙ going)) in
     let none : any (is_others r) q.due ≡ false =
-    subst (λ (p : Plain Output Waker). any (is_others r) p.due ≡ false) (acts_come before (start limit kind parties) first go)
-    (only_one wakes limit (is_static_kind kind) cs r (all_idle limit kind parties before are go) only) in
+    subst (λ (p : Plain Output Waker). any (is_others r) p.due ≡ false) come
+    (only_one wakes limit (is_static_kind kind) cs r (all_idle limit kind parties before are go) begun) in
     follows.kept k
     ∙ ap (map (λ (d : Due). d.future))
     (filter_none (is_kept k) (is_kept k) (λ d is. is) q.due

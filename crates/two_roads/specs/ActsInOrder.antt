@@ -5,10 +5,12 @@ use Rattle.executor_parts.specs.declared.mark.Mark.TheVariants.{Plain as PlainMa
 use Rattle.executor_parts.specs.Marks.{same_mark}
 use Rattle.executor_model.specs.declared.op.Waker.{Waker}
 use Rattle.executor_model.specs.Steps.{Machine}
-use Rattle.executor_model.specs.World.{World, mark_of, own_of, queue_of}
-use Rattle.plain_scheduler.specs.State.{Plain}
-use Rattle.plain_laws.specs.Order.{last_begun, line, takes_alone, whole_line}
+use Rattle.executor_model.specs.World.{World, mark_of, own_of, queue_of, run_of}
+use Rattle.plain_scheduler.specs.State.{Choice, Plain}
+use Rattle.plain_scheduler.specs.Calls.{Call}
+use Rattle.plain_laws.specs.Order.{last_begun, line, takes_alone, was_polled, whole_line}
 use Rattle.machine_roads.specs.Choosing.{has_counted}
+use Rattle.machine_roads.specs.Road.{run_view}
 use Rattle.machine_roads.specs.Seeing.{heard_in}
 use Rattle.machine_roads.specs.View.{Output, wakes}
 use Rattle.machine_roads.specs.Within.{Act, ActAlike}
@@ -34,6 +36,10 @@ pub record IsAloneInActs (r : ℕ) (s : Machine) (q : Plain Output Waker) (acts 
   pub is_made : r < length s.world.runs
   pub others : (k : ℕ) → (r == k) ≡ false → own_of s.world k ≡ []
   pub takes_alone : takes_alone wakes r (acts_by s q acts go) q ≡ true
+
+-- of the runs that were polled in these calls, only r isn't over
+abbrev pub IsOnlyBegunInActs : ℕ → List (Choice × Call Output Waker) → World → Type 0
+IsOnlyBegunInActs r cs w = (k : ℕ) → was_polled k cs ≡ true → (run_view (run_of w k)).is_over ≡ false → k ≡ r
 
 -- of what run r takes in an act, and of what waits for it, these are looked at
 module _ (r : ℕ) (of : Plain Output Waker → List ℕ → List ℕ) where

@@ -6,10 +6,9 @@ ghost use Rattle.executor_model.specs.World.{own_of};
 ghost use Rattle.executor_model.specs.declared.kind.Kind.{Kind as MachineKind};
 ghost use Rattle.machine_roads.specs.DropActs.{plain_behind};
 ghost use Rattle.machine_roads.specs.Road.{Follows};
-ghost use Rattle.machine_roads.specs.View.{wakes as wakes_in};
 ghost use Rattle.machine_roads.specs.Within.{Act, ActAlike, AreActs};
 ghost use Rattle.plain_laws.specs.Coming.{IsPart};
-ghost use Rattle.plain_laws.specs.Order.{IsOnlyBegun, is_urgent, of_mark, takes_alone};
+ghost use Rattle.plain_laws.specs.Order.{is_urgent, of_mark, takes_alone};
 ghost use Rattle.plain_scheduler.specs.Calls.{Call, course, new};
 ghost use Rattle.plain_scheduler.specs.Lists.{any};
 ghost use Rattle.plain_scheduler.specs.State.{Choice, Event, Who};
@@ -24,7 +23,7 @@ ghost use Rattle.solo_laws.specs.Owner.{Owner, new_owner};
 ghost use Rattle.solo_laws.specs.Road.{wakes};
 ghost use Rattle.solo_laws.specs.Tabled.{named};
 ghost use Rattle.two_roads.specs.Acting.{acts_by, left_of};
-ghost use Rattle.two_roads.specs.ActsInOrder.{IsAloneInActs, all_wait_in, come_in, line_of_all, line_of_mark, taken_in, wait_in};
+ghost use Rattle.two_roads.specs.ActsInOrder.{IsAloneInActs, IsOnlyBegunInActs, all_wait_in, come_in, line_of_all, line_of_mark, taken_in, wait_in};
 ghost use Rattle.two_roads.specs.InOrder.{HandsInOrder, IsAloneIn, IsOnlyBegunIn, all_wait, handed, polls_in, waits};
 
 /// Where a list of calls has led from a new executor of one owner on, nothing stands in the own queue of another run, and in the calls
@@ -106,8 +105,7 @@ pub fn only_begun_runs_have_futures()
     ensures { (limit : ℕ) (kind : MachineKind) (parties : ℕ) (before : List Act) → AreActs (start limit kind parties) before
         → (go : ActAlike (start limit kind parties) (new limit (is_static_kind kind)) before) (r : ℕ)
         → let s = left_of (start limit kind parties) before in
-        let calls = acts_by (start limit kind parties) (new limit (is_static_kind kind)) before go in
-        IsOnlyBegun wakes_in r calls (new limit (is_static_kind kind))
+        IsOnlyBegunInActs r (acts_by (start limit kind parties) (new limit (is_static_kind kind)) before go) s.world
         → Follows s.world (plain_behind before (start limit kind parties) (new limit (is_static_kind kind)) go)
         → (k : ℕ) → (r == k) ≡ false → own_of s.world k ≡ [] }
 {}

@@ -1,5 +1,5 @@
 -- Acts of the machine, as calls that the owner of an executor makes.
-use Rattle.std.specs.Prelude.{◌≡◌, ℕ, ◌+◌, ◌*◌, ◌^◌, ◌<◌, true, false, List, [], ◌∷◌, length, Some, None}
+use Rattle.std.specs.Prelude.{◌≡◌, ℕ, nat_lt, ◌+◌, ◌*◌, ◌^◌, ◌<◌, true, false, List, [], ◌∷◌, length, Some, None}
 use Rattle.queue_steps.specs.ClosableQueue.{most_accepted}
 use Rattle.executor_model.specs.declared.op.Waker.{Waker}
 use Rattle.executor_model.specs.declared.op.Waker.TheVariants.{Task as TaskWaker, Outside as OutsideWaker}
@@ -13,14 +13,14 @@ use Rattle.solo.specs.Solo.{sought}
 use Rattle.task_moves.specs.AbstractTask as abstract
 use Rattle.task_moves.specs.LocalTask.{references_of}
 use Rattle.plain_scheduler.specs.Moves.{task}
-use Rattle.plain_scheduler.specs.State.{Choice, Event, Plain, Who}
+use Rattle.plain_scheduler.specs.State.{Choice, Event, Plain, Refusal, Who}
 use Rattle.plain_scheduler.specs.Calls.{Call, Copy, Ends, Pends, PollHandle, PollTick, Spawn, does, is_granted, new}
 use Rattle.plain_scheduler.specs.Searches.{Search, finds, searches}
 use Rattle.machine_roads.specs.Seeing.{heard_in}
 use Rattle.machine_roads.specs.View.{Output}
 use Rattle.machine_roads.specs.Within.{Act, IsMade}
 use Rattle.solo_laws.specs.Courses.{Acts, Leads}
-use Rattle.solo_laws.specs.Making.{HasNoRoom, WakersAreKnown, by_number, may_copy, queues_with}
+use Rattle.solo_laws.specs.Making.{HasNoRoom, WakersAreKnown, by_number, queues_with}
 use Rattle.solo_laws.specs.Owner.{Owner, has_tick, new_owner}
 use Rattle.solo_laws.specs.Road.{HasLife, apart, wakes}
 use Rattle.solo_laws.specs.Tabled.{named}
@@ -44,17 +44,19 @@ pub record NamesAlike {F T X : Type 0} (s : Machine) (owner : Owner) (y : Solo F
   pub ticks : (t : ℕ) → has_tick t owner ≡ lives (tick_of s.world t)
   pub once : apart owner.ticks ≡ true
 
--- a task that somebody has a waker of, or that is queued or polled, has two references fewer than it may
-abbrev pub MayBeCopied : {T X : Type 0} → SoloWaker X → Plain T (SoloWaker X) → Type 0
-MayBeCopied (OfTask t) q = (0 < references_of (task t.number q)) × (references_of (task t.number q) + 1 < 2 ^ 40)
-MayBeCopied (Outside x) q = Unit {0}
+module _ {T X : Type 0} where
+  -- somebody has a waker of a task, or it is queued or polled; and it has two references fewer than it may
+  abbrev pub MayBeCopied : SoloWaker X → Plain T (SoloWaker X) → Type 0
+  MayBeCopied (OfTask t) q = (0 < references_of (task t.number q)) × (references_of (task t.number q) + 1 < 2 ^ 40)
+  MayBeCopied (Outside x) q = Unit {0}
+
+  -- a copy of a task's waker is refused where the task has as many references as it may, and only there
+  abbrev pub IsRefusedIfMany : Refusal → SoloWaker X → Plain T (SoloWaker X) → Type 0
+  IsRefusedIfMany refusal (OfTask t) q =
+      (0 < references_of (task t.number q)) × (is_granted refusal ≡ nat_lt (references_of (task t.number q)) (2 ^ 40))
+  IsRefusedIfMany refusal (Outside x) q = Unit {0}
 
 module _ {F T X : Type 0} (number : X → ℕ) (s : Machine) (a : Act) (owner : Owner) (y : Solo F T X) (p : Plain T (SoloWaker X)) where
-  -- a copy of a task's waker is refused in the act if the task has as many references as it may, and only then
-  abbrev pub CopiesAlike : SoloWaker X → Type 0
-  CopiesAlike (OfTask t) = is_granted (refused_in s a) ≡ may_copy (OfTask t) y
-  CopiesAlike (Outside x) = Unit {0}
-
   -- of the waker of a run that searches in vain copies may be had
   abbrev pub VainCanCopy : Call T (SoloWaker X) → Type 0
   VainCanCopy call =
@@ -63,8 +65,8 @@ module _ {F T X : Type 0} (number : X → ℕ) (s : Machine) (a : Act) (owner : 
   -- memory for a future is refused in it only if the executor has no room
   abbrev pub FitsMemory : Call T (SoloWaker X) → Type 0
   FitsMemory (Spawn mark) = is_granted (refused_in s a) ≡ false → HasNoRoom by_number owner y p
-  FitsMemory (Copy f) = CopiesAlike (OfTask (named by_number f))
-  FitsMemory (PollHandle f w) = has_to_wait (abstract.polled (task f p)) ≡ true → CopiesAlike w
+  FitsMemory (Copy f) = IsRefusedIfMany (refused_in s a) (OfTask (named by_number f)) p
+  FitsMemory (PollHandle f w) = has_to_wait (abstract.polled (task f p)) ≡ true → IsRefusedIfMany (refused_in s a) w p
   FitsMemory (PollTick t w) = sought y ≡ None → MayBeCopied w p
   FitsMemory Pends = VainCanCopy Pends
   FitsMemory Ends = VainCanCopy Ends

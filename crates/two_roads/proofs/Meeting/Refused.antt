@@ -1,12 +1,14 @@
 -- Memory is refused to the owner's call as to the act.
-use Rattle.std.proofs.Common.{◌≡◌, ℕ, ◌≤◌, ◌<◌, nat_lt, if◌then◌else◌, Bool, true, false, not, List, [], ◌∷◌, ◌++◌, length, Option, Some, None}
-use Rattle.std.proofs.Common.{slice_get, refl, sym, ap, subst, ◌∙◌}
+use Rattle.std.proofs.Common.{◌≡◌, ℕ, ◌≤◌, ◌<◌, nat_lt, if◌then◌else◌, Bool, true, false, not, List, [], ◌∷◌, ◌++◌, length, Option}
+use Rattle.std.proofs.Common.{Some, None, slice_get, refl, sym, ap, subst, ◌∙◌}
 use Rattle.executor_model.specs.Steps.{Machine}
 use Rattle.solo.specs.declared.names.SoloWaker.{SoloWaker}
 use Rattle.solo.specs.declared.names.SoloWaker.TheVariants.{Task as OfTask, Outside}
+use Rattle.solo.specs.declared.names.Task.{Task}
 use Rattle.solo.specs.declared.solo.Solo.{Solo}
 use Rattle.solo.specs.Solo as solo
-use Rattle.plain_scheduler.specs.State.{ARun, ATick, Choice, Code, Drop, Event, Later, Lose, Plain, Poll, PollOwn, Refusal, Run, Taker, Tick, Try}
+use Rattle.plain_scheduler.specs.State.{ARun, ATick, Choice, Code, Drop, Event, Later, Lose, Plain, Poll, PollOwn, Refusal, Run}
+use Rattle.plain_scheduler.specs.State.{Taker, Tick, Try}
 use Rattle.plain_scheduler.specs.Lists.{or}
 use Rattle.plain_scheduler.specs.Calls as calls
 use Rattle.plain_scheduler.specs.Calls.{Call, does, is_granted}
@@ -17,16 +19,17 @@ use Rattle.machine_roads.specs.Within.{Act}
 use Rattle.solo_laws.specs.Courses as courses
 use Rattle.solo_laws.specs.Courses.{Acts, Makes}
 use Rattle.solo_laws.specs.Making.{EachPolledBy, IsKnown, PolledBy, WakersAreKnown, acted_as, by_number, copy_refusal, made_as}
+use Rattle.solo_laws.proofs.Happening.Heeding.{may_hold_by}
 use Rattle.solo_laws.proofs.Happening.Long.{ends_long, pends_long, take_long}
 use Rattle.plain_laws.proofs.Searching.{searching}
 use Rattle.solo_laws.specs.Owner.{Owner}
-use Rattle.solo_laws.specs.Road.{wakes}
+use Rattle.solo_laws.specs.Road.{IsNamed, wakes}
 use Rattle.solo_laws.specs.RunGoing.{IsEnding, drop_ends, loss_ends, poll_ends, Stage}
 use Rattle.solo_laws.specs.Tabled.{named}
 use Rattle.solo_laws.proofs.Happening.Refused.{acts_heed}
 use Rattle.solo_laws.proofs.Showing.Courses.{Known}
 use Rattle.solo_laws.specs.Heeding.{FitsSearch, IsCopied}
-use Rattle.two_roads.specs.Happening.{FitsMemory, MayBeCopied, VainCanCopy}
+use Rattle.two_roads.specs.Happening.{FitsMemory, IsRefusedIfMany, MayBeCopied, VainCanCopy}
 use Rattle.two_roads.specs.Refusing.{asks_memory, refused_in}
 
 -- never once it lies
@@ -80,16 +83,21 @@ module _ {F T X : Type 0} (number : X → ℕ) (s : Machine) (a : Act) (owner : 
   SaysOf call = Unit {0}
 
   -- a copy of a task's waker
-  copy_same : (m : Bool) → is_granted r ≡ m → IsOnce r → c.refusal ≡ copy_refusal m → c.refusal ≡ r
-  copy_same m fits once is = is ∙ (ap (λ b. copy_refusal b) (sym fits) ∙ sym once)
+  copy_same : (t : Task) → IsNamed (named by_number) (length p.futures) t → IsRefusedIfMany r (OfTask t) p → IsOnce r
+      → c.refusal ≡ copy_refusal (solo.may_hold t y) → c.refusal ≡ r
+  copy_same t its fits once is =
+      is
+      ∙ (ap (λ b. copy_refusal b)
+      (ap (λ t. solo.may_hold t y) (sym its.1) ∙ (may_hold_by by_number y p known.stands.0 t.number its.0 fits.0 ∙ sym fits.1))
+      ∙ sym once)
 
   made_same : (call : Call T (SoloWaker X)) (shown : List (Event T (SoloWaker X))) (z : Solo F T X)
       (how : Makes by_number c y p call shown z) → FitsMemory number s a owner y p call → SaysOf call
       → asks_memory wakes c p call ≡ true
       → c.refusal ≡ made_as by_number owner c y p call shown z r how → c.refusal ≡ r
-  made_same call shown z (courses.copies f at so) fits says asks is = copy_same (solo.may_hold (named by_number f) y) fits says is
+  made_same call shown z (courses.copies f at so) fits says asks is = copy_same (named by_number f) (at, refl) fits says is
   made_same call shown z (courses.polls f (OfTask t) at handle names life) fits says asks is =
-      copy_same (solo.may_hold t y) (fits asks) says is
+      copy_same t (names t refl).0 (fits asks) says is
   made_same call shown z (courses.polls f (Outside x) at handle names life) fits says asks is = is
   made_same call shown z how fits says asks is = is
 
@@ -125,7 +133,8 @@ module _ {F T X : Type 0} (number : X → ℕ) (s : Machine) (a : Act) (owner : 
   module _ (wakers : WakersAreKnown by_number owner y p) where
     fits_search : (call : Call T (SoloWaker X)) → in_vain wakes c call p ≡ true
         → length (does wakes c call p).futures ≡ length p.futures
-        → ((x : Search T (SoloWaker X)) → searches wakes c call p ≡ Some x → IsKnown by_number owner y p x.waker) → VainCanCopy number s a owner y p call
+        → ((x : Search T (SoloWaker X)) → searches wakes c call p ≡ Some x → IsKnown by_number owner y p x.waker)
+        → VainCanCopy number s a owner y p call
         → ((x : Search T (SoloWaker X)) → searches wakes c call p ≡ Some x → finds x ≡ false → r ≡ Later
         → lies_uncalled (ARun x.run) x.at.lying ≡ false)
         → FitsSearch by_number c p r call
@@ -151,21 +160,24 @@ module _ {F T X : Type 0} (number : X → ℕ) (s : Machine) (a : Act) (owner : 
         (acts : Acts by_number owner c y p call shown now z) → FitsMemory number s a owner y p call → SaysOf call → KnowsOf call
         → asks_memory wakes c p call ≡ true
         → c.refusal ≡ acted_as by_number c y p owner call shown now z r acts → c.refusal ≡ r
-    refusal_same call shown now z (courses.makes call' shown' z' how) fits says knows asks is = made_same call' shown' z' how fits says asks is
+    refusal_same call shown now z (courses.makes call' shown' z' how) fits says knows asks is =
+        made_same call' shown' z' how fits says asks is
     refusal_same call shown now z (courses.tick_rests t w lives none first granted names more life) fits says knows asks is =
         acts_heed by_number owner c y p known many r (calls.PollTick t w) shown now z
-        (courses.tick_rests t w lives none first granted names more life) is (record { copied = copied_there p w refl knows (fits none); anew = says none })
+        (courses.tick_rests t w lives none first granted names more life) is
+        (record { copied = copied_there p w refl knows (fits none); anew = says none })
     refusal_same call shown now z (courses.tick_refused t w lives none first refused) fits says knows asks is =
         acts_heed by_number owner c y p known many r (calls.PollTick t w) shown now z (courses.tick_refused t w lives none first refused) is
         (record { copied = copied_there p w refl knows (fits none); anew = says none })
     refusal_same call shown now z (courses.tick_lies_refused t w lives none first refused names twice more life) fits says knows asks is =
         acts_heed by_number owner c y p known many r (calls.PollTick t w) shown now z
-        (courses.tick_lies_refused t w lives none first refused names twice more life) is (record { copied = copied_there p w refl knows (fits none); anew = says none })
+        (courses.tick_lies_refused t w lives none first refused names twice more life) is
+        (record { copied = copied_there p w refl knows (fits none); anew = says none })
     refusal_same call shown now z (courses.run_looks runner w rest shown' now' z' mine at how) fits says knows asks is =
         acts_heed by_number owner c y p known many r calls.Pends shown now z (courses.run_looks runner w rest shown' now' z' mine at how) is
         (fits_pends asks fits says)
-    refusal_same call shown now z (courses.run_goes_on stage runner w rest call' first others now' u z' mine at ends how on) fits says knows asks
-        is =
+    refusal_same call shown now z (courses.run_goes_on stage runner w rest call' first others now' u z' mine at ends how on) fits says knows
+        asks is =
         goes stage call' ends (courses.run_goes_on stage runner w rest call' first others now' u z' mine at ends how on) is asks fits says
       where
         goes : (st : Stage T (SoloWaker X)) (call : Call T (SoloWaker X)) → IsEnding st call

@@ -54,14 +54,13 @@ use Rattle.machine_roads.proofs.Calling.{begin_alike}
 use Rattle.machine_roads.proofs.Counting.{StandsSo}
 use Rattle.machine_roads.proofs.Inmost.{rests_in}
 use Rattle.machine_roads.proofs.Lists.{apart_of, clash, equal, same_of}
-use Rattle.machine_roads.proofs.LoneRuns.{both_true, made_is, not_true, passed, tells, within}
+use Rattle.machine_roads.proofs.LoneRuns.{IsBefore, both_true, made_is, not_true, passed, tells, within}
 use Rattle.machine_roads.proofs.LoneTicks.{may_begin}
 use Rattle.machine_roads.proofs.Open.{IsOpen, settled_open, step_open, still}
 use Rattle.machine_roads.proofs.Tying.{top_of}
 use Rattle.machine_roads.proofs.Unsearched.{ActsAnyhow}
-use Rattle.machine_roads.proofs.Walked.{begun_leads, no_go}
+use Rattle.machine_roads.proofs.Walked.{answer_leads_of, begun_leads, begun_leads_of, no_go}
 use Rattle.machine_roads.proofs.WalkedFrom.{answer_leads_from}
-use Rattle.machine_roads.proofs.WalkedWith.{answer_led, begun_led}
 
 -- the executor's drop hasn't begun, and it doesn't in an act
 
@@ -217,7 +216,7 @@ module _ (s : Machine) (reached : Reached s) (p : ℕ) (q : Plain Output Waker) 
       inside_of taker final below f awaiter codes it nested gs stops =
           let off =
           untaken_off gs (is_some awaiter) f final below c (sym (ap (λ os. may_begin_in os c) stops.left) ∙ even) in
-          begun_led (Asked f awaiter) (asked_walks f awaiter) p
+          begun_leads_of (Asked f awaiter) IsBefore (asked_walks f awaiter) p
           (λ e. (r : Plain Output Waker) × ActsAnyhow s p (Begin p c) q r e.world × StandsSo e r) new later c ts s reached there
           (begins_untaken taker final below f awaiter codes it nested s p q stands.counted gs stops reached there c off.0 off.1
           (may_begin s p c (run-first (Begin p c) ts s new made).0))
@@ -311,7 +310,7 @@ module _ (s : Machine) (reached : Reached s) (p : ℕ) (q : Plain Output Waker) 
         let o = op.User (user_op.DropOutput g) in
         let xs = left_of g ++ loss_ops gs (op.User (user_op.DropOutput f) ∷ (rest_of (is_some awaiter) f final ++ below)) in
         from_there (Answer p u) ts
-        (answer_led (Asked f awaiter) (asked_walks f awaiter) p
+        (answer_leads_of (Asked f awaiter) IsBefore (asked_walks f awaiter) p
         (λ e. (r : Plain Output Waker) × ActsAnyhow s p (Answer p u) q r e.world × StandsSo e r) new later u o xs ts s reached there
         stops.left
         (ends_untaken taker final below f awaiter codes it nested s p q stands.counted g gs stops u

@@ -23,7 +23,7 @@ use Rattle.plain_scheduler.specs.State.{Choice, Code, Granted, Lose, Plain, Refu
 use Rattle.plain_scheduler.specs.Calls.{does, Ends}
 use Rattle.machine_roads.specs.View.{Output, waker_in, wakes}
 use Rattle.machine_roads.specs.Road.{waking_in}
-use Rattle.machine_roads.specs.Alone.{alone, is_resting, HasAllOf}
+use Rattle.machine_roads.specs.Alone.{alone, is_resting, HasAllBy, HasAllOf}
 use Rattle.machine_roads.specs.Alike.{begins, upon}
 use Rattle.machine_roads.specs.Closing.{called, loses}
 use Rattle.machine_roads.specs.Dropped.{loses as loses_by, rest_of, without_run}
@@ -46,7 +46,7 @@ use Rattle.machine_roads.proofs.Named.{Named, named}
 use Rattle.machine_roads.proofs.Owing.{Kept, is_aside}
 use Rattle.machine_roads.proofs.Untaken.{begins_does, calls_beside, loses_beside, loss_ends_beside, owing, resting_on}
 use Rattle.machine_roads.proofs.Unseen.{stands_in}
-use Rattle.machine_roads.proofs.WalkedWith.{HasAllBy, LeadsBy}
+use Rattle.machine_roads.proofs.Tying.{LeadsBy}
 use Rattle.machine_roads.proofs.Unsearched.{ActsAnyhow, loss_so, off_so}
 
 owed_below : (f : ℕ) (hs : List ℕ) (base : List Op) → 1 ≤ weigh (giving_of f) base → 1 ≤ weigh (giving_of f) (loss_ops hs base)

@@ -36,12 +36,12 @@ use Rattle.executor_model.specs.Steps.{waker_of}
 use Rattle.executor_model.specs.Steps.{with_future}
 use Rattle.executor_model.specs.Rows.{running_of}
 use Rattle.executor_model.proofs.Steps.Lift.{first-true, none_refused}
-use Rattle.executor_model.specs.World.{Done, Ended, Listed, New, Stage, World, done, log, no_run, run_of, task}
+use Rattle.executor_model.specs.World.{Done, Ended, Listed, New, Stage, World, done, log, run_of}
 use Rattle.executor_model.specs.World as world
 use Rattle.executor_model.proofs.Steps.Reached.{Reached, run-first}
 use Rattle.executor_model.proofs.Steps.Stepping.{refusal-there}
 use Rattle.executor_laws.proofs.Walks.Finding.{listed-here}
-use Rattle.plain_scheduler.specs.State.{Code, Drop, DropOwn, Lose, Plain, Poll, PollOwn, Taker}
+use Rattle.plain_scheduler.specs.State.{Code, DropOwn, Plain}
 use Rattle.plain_scheduler.specs.State as state
 use Rattle.plain_scheduler.specs.Calls as plain
 use Rattle.plain_scheduler.specs.Lists.{or, without}
@@ -51,11 +51,10 @@ use Rattle.machine_roads.specs.Alike.{begins as begins_alike, upon}
 use Rattle.machine_roads.specs.Alone.{alone, is_resting}
 use Rattle.machine_roads.specs.Road.{Follows, run_view}
 use Rattle.machine_roads.specs.Within as within
-use Rattle.machine_roads.specs.Within.{Act, GoesOnBy, IsAct, IsCallIn, IsLeaving, IsMade, Nested, StandsAlike, alike, by_run, by_tick}
-use Rattle.machine_roads.specs.Within.{by_try}
-use Rattle.machine_roads.specs.Within.{dropping, drops_own, forgetting, forgotten, going, is_on_way, lets_begin, listed, losing}
+use Rattle.machine_roads.specs.Within.{Act, IsAct, IsCallIn, IsMade, StandsAlike}
+use Rattle.machine_roads.specs.Within.{is_on_way, lets_begin}
 use Rattle.machine_roads.specs.Within.{may_begin_in}
-use Rattle.machine_roads.specs.Within.{may_stand_in, nowhere, owes, polls_own, rests_after, standing, takes, unlisted, untaken}
+use Rattle.machine_roads.specs.Within.{may_stand_in, owes, rests_after, standing}
 use Rattle.machine_roads.proofs.AloneKeeps.{calls_user, due, due_resting, due_to_append}
 use Rattle.machine_roads.proofs.Enlisting.{alone_lists, begins_list, enlists, reacts_list}
 use Rattle.machine_roads.proofs.Having.{same_self}
@@ -145,7 +144,7 @@ module _ (s : Machine) (reached : Reached s) (p : ℕ) (q : Plain Output Waker) 
       is_resting (alone p hints d).next ≡ true → (alone p hints d).world.listed ≡ want)
       → new.world.listed ≡ want
   began c ts there rests made want leads =
-      begun_leads_of (λ w o. Unit {0}) (λ s. Unit {0}) walks p (λ e. e.world.listed ≡ want) new tt c ts s
+      begun_leads_of (λ w os. Unit {0}) (λ s. Unit {0}) walks p (λ e. e.world.listed ≡ want) new tt c ts s
       reached there (λ hints all over. leads hints over) rests made
 
   -- the list stays
@@ -266,7 +265,7 @@ module _ (s : Machine) (reached : Reached s) (p : ℕ) (q : Plain Output Waker) 
         is_resting (alone p hints d).next ≡ true → (alone p hints d).world.listed ≡ want)
         → new.world.listed ≡ want
     leads want o os is so =
-        answer_leads_of (λ w o. Unit {0}) (λ s. Unit {0}) walks p (λ e. e.world.listed ≡ want) new tt u o os ts s reached there is
+        answer_leads_of (λ w os. Unit {0}) (λ s. Unit {0}) walks p (λ e. e.world.listed ≡ want) new tt u o os ts s reached there is
         (λ hints all over. so hints over) rests made
 
     lightly : (os : List Op) → below ≡ os → IsLight os → new.world.listed ≡ order

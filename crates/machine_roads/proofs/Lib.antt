@@ -73,7 +73,6 @@ pub mod Bedding
 pub mod LyingDown
 pub mod RunIdle
 pub mod Tying
-pub mod WalkedWith
 pub mod WhoLeaves
 pub mod Living
 pub mod Having

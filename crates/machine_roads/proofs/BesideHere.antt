@@ -34,8 +34,8 @@ use Rattle.machine_roads.proofs.Having.{has_here, same_self}
 use Rattle.machine_roads.proofs.Inmost.{whole}
 use Rattle.machine_roads.proofs.Lists.{length_set, same_of}
 use Rattle.machine_roads.proofs.LoneRuns.{IsBefore, WalksBy, both_true, gone_before}
-use Rattle.machine_roads.proofs.Owing.{Kept, hide, is_aside, task_other, task_own}
-use Rattle.machine_roads.proofs.OwingActs.{act_does}
+use Rattle.machine_roads.proofs.Hiding.{task_other, task_own}
+use Rattle.machine_roads.proofs.Owing.{Kept, act_does, hide, is_aside, one_less}
 use Rattle.machine_roads.proofs.Tying.{top_of}
 
 module _ (f : ℕ) (awaiter : Option Waker) where
@@ -92,8 +92,8 @@ module _ (f : ℕ) (awaiter : Option Waker) where
         by : (b : Bool) → (f == g) ≡ b → P (task (without_run f s.world) g)
         by true same =
             subst (λ g. g < length s.world.tasks → P (task (without_run f s.world) g)) (same_of f g same)
-            (λ at. subst P (sym (task_own f awaiter s.world at)) (own same)) at
-        by false apart = subst P (sym (task_other f awaiter s.world g apart)) other
+            (λ at. subst P (sym (task_own f one_less s.world at)) (own same)) at
+        by false apart = subst P (sym (task_other f one_less s.world g apart)) other
 
     copies : (a : Waker) → CanCopy s.world a → CanCopy (without_run f s.world) a
     copies (Task g) can = (known g can.0, of_task (λ t. token t ≤ t.references) g can.0 can.1 (λ same. beside))

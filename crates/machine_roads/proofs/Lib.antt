@@ -15,9 +15,9 @@ pub mod BesideHere
 pub mod Lists
 pub mod Moving
 pub mod Owing
-pub mod OwingActs
+pub mod Hiding
 pub mod Spent
-pub mod SpentActs
+pub mod HidingActs
 pub mod InForgotten
 pub mod ActsForgotten
 pub mod UnawaitedCalls

@@ -219,23 +219,6 @@ module _ (s : Machine) (reached : Reached s) (p : ℕ) (q : Plain Output Waker) 
   by_call : (c : Call) (ts : List Step) (x : plain.Call Output Waker) → IsCallIn (mine (top (stack s p))) s.world c x
       → p < length s.parties → rests_after p ts (after s (Begin p c)) ≡ true → run_all (Begin p c ∷ ts) s ≡ Ok new
       → may_begin_in below c ≡ true → Orders x
-  by_call c ts x within.try_tick there rests made none = still c ts there rests made refl
-  by_call c ts x (within.poll_tick t b) there rests made none = still c ts there rests made refl
-  by_call c ts x (within.spawn m) there rests made none = still c ts there rests made refl
-  by_call c ts x within.is_empty there rests made none = still c ts there rests made refl
-  by_call c ts x (within.use_waker k f is) there rests made none = still c ts there rests made refl
-  by_call c ts x (within.wake k f is) there rests made none = still c ts there rests made refl
-  by_call c ts x (within.copy k f is) there rests made none = still c ts there rests made refl
-  by_call c ts x (within.release k f is) there rests made none = still c ts there rests made refl
-  by_call c ts x (within.keep f is) there rests made none = still c ts there rests made refl
-  by_call c ts x (within.wake_self f is) there rests made none = still c ts there rests made refl
-  by_call c ts x (within.poll_handle f b) there rests made none = still c ts there rests made refl
-  by_call c ts x (within.cancel f) there rests made none = still c ts there rests made refl
-  by_call c ts x (within.detach f) there rests made none = still c ts there rests made refl
-  by_call c ts x (within.drop_handle f) there rests made none = still c ts there rests made refl
-  by_call c ts x within.new_tick there rests made none = still c ts there rests made refl
-  by_call c ts x (within.drop_tick t) there rests made none = still c ts there rests made refl
-  by_call c ts x within.new_run there rests made none = still c ts there rests made refl
   by_call c ts x (within.poll_run r b) there rests made none =
       run_polled r b ts there rests made (owes_none (owes below) (lets_begin below) none)
       (lives_of (may_begin s p c (run-first (Begin p c) ts s new made).0))
@@ -246,8 +229,7 @@ module _ (s : Machine) (reached : Reached s) (p : ℕ) (q : Plain Output Waker) 
           not_dropped (run_of s.world r).dropped
           (first-true (is_there (run_of s.world r)) (is_unused (running_of r) s.parties)
           (first-true (has_run s.world s.parties r) (is_known (top (stack s p)) b) has))
-  by_call c ts x (within.drop_run r) there rests made none = still c ts there rests made refl
-  by_call c ts x within.leak there rests made none = still c ts there rests made refl
+  by_call c ts x is there rests made none = still c ts there rests made refl
 
   -- user code ends
   module _ (u : UserEnd) (ts : List Step) (there : p < length s.parties) (rests : rests_after p ts (after s (Answer p u)) ≡ true)

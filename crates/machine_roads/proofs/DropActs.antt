@@ -51,7 +51,7 @@ use Rattle.machine_roads.proofs.Beside.{begins_does, go_append, rest_goes}
 use Rattle.machine_roads.proofs.CallsBehind.{Still, none_in, none_of, of_tasks, still_at}
 use Rattle.machine_roads.proofs.Counted.{counts}
 use Rattle.machine_roads.proofs.CourseBehind.{before_drop, drop_begun, still_gone}
-use Rattle.machine_roads.proofs.ActLosses.{spares_all}
+use Rattle.machine_roads.proofs.LossActs.{spares_all}
 use Rattle.machine_roads.proofs.InDrop.{comes_on, drop_goes_on}
 use Rattle.machine_roads.proofs.InLoss.{calls_in_loss, loses_in_loss, loss_ends_in_loss}
 use Rattle.machine_roads.proofs.LossInDrop.{call_ends, call_loses, drop_ends_so}

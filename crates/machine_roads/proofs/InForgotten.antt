@@ -131,13 +131,7 @@ module _ (f : ℕ) (awaiter : Option Waker) where
       ap (λ (t : AbstractTask Output Waker). is_some t.output) (task_other f awaiter r q b g apart)
   loses_there r q b w c x off (drop_handle g) apart =
       ap (λ (t : AbstractTask Output Waker). is_some t.output) (task_other f awaiter r q b g apart)
-  loses_there r q b w c x off (use_waker k g is) apart = refl
-  loses_there r q b w c x off (wake k g is) apart = refl
-  loses_there r q b w c x off (copy k g is) apart = refl
-  loses_there r q b w c x off (release k g is) apart = refl
-  loses_there r q b w c x off (poll_handle g a) apart = refl
-  loses_there r q b w c x off (cancel g) apart = refl
-  loses_there r q b w c x off is apart = absurd cc
+  loses_there r q b w c x off is apart = refl
 
   -- both as they stand
   record Begun (w : World) (q : Plain Output Waker) : Type 0 where

@@ -1,12 +1,12 @@
 -- Between two calls on the plain scheduler each run has taken fewer than 200 since it last let others go first: behind its 200th it does.
 use Rattle.std.proofs.Common.{◌≡◌, ℕ, zero, suc, ◌==◌, nat_lt, Bool, true, false, List, [], ◌∷◌, ◌++◌, Option, Some, None}
-use Rattle.std.proofs.Common.{slice_get, slice_set, if◌then◌else◌, refl, sym, ap, subst, ◌∙◌, arith}
+use Rattle.std.proofs.Common.{slice_get, if◌then◌else◌, refl, sym, ap, subst, ◌∙◌, arith}
 use Rattle.std.specs.Prelude.{count_by, find}
 use Rattle.std.proofs.lemmas.Bool.Decides.{nat_tests}
 use Rattle.task_moves.specs.AbstractTask as abstract
 use Rattle.task_moves.specs.AbstractTask.{AbstractTask}
 use Rattle.executor_model.specs.declared.op.Waker.{Waker}
-use Rattle.plain_scheduler.specs.State.{ARun, ATick, Calls, Choice, Close, Closed, Code, Drop, DropOwn, Due, End, Future}
+use Rattle.plain_scheduler.specs.State.{ARun, ATick, Calls, Choice, Close, Closed, Code, Drop, DropOwn, Due, End}
 use Rattle.plain_scheduler.specs.State.{Done, Lose, Loses, Pending, Plain, Poll, PollOwn, Polls, Run, Running, Taker, Tick, Try}
 use Rattle.plain_scheduler.specs.Lists.{on, or, repeat, without}
 use Rattle.plain_scheduler.specs.Moves.{answers, appended, becomes, called, chosen, enters, given_back, is_common, is_kept, keeps, leaves}
@@ -21,7 +21,8 @@ use Rattle.machine_roads.proofs.Aside.{becomes_keeps, goes_keeps, leaves_keeps, 
 use Rattle.machine_roads.proofs.Aside.{up_keeps}
 use Rattle.machine_roads.proofs.Lists.{clash, same_of}
 use Rattle.machine_roads.proofs.Runs.{changed, changed_rest, ended_run, one_more, runs_is}
-use Rattle.machine_roads.proofs.RunApart.{Sight, aside, called_sight, each_sight, keeps_sight, repeats_sight, robbed_sight, sight, tell_sight}
+use Rattle.machine_roads.proofs.RunApart.{Sight, aside, called_sight, each_sight, given_up_sight, keeps_sight, repeats_sight, robbed_sight}
+use Rattle.machine_roads.proofs.RunApart.{sight, tell_sight}
 
 abbrev pub few : List Running → ℕ → Bool
 few rs r = or (slice_get rs r) (λ run. nat_lt run.taken 200) true
@@ -257,29 +258,11 @@ module _ (c : Choice) where
       (subst (λ (s : Sight). ByOne by s.runs) (sym same) few)
 
   -- a future is dropped, and the scheduler's waker goes
-  given_up_sight : (f : ℕ) (q : Plain Output Waker) → sight (plain_takes.given_up wakes c f q) ≡ sight q
-  given_up_sight f q = by q.is_static
-    where
-      by : (b : Bool) → sight (if b then q else plain.release wakes (tell wakes c) f q) ≡ sight q
-      by true = refl
-      by false = becomes_keeps sight aside c f (abstract.release (task f q)) q
-
-  abbrev marked : ℕ → Plain Output Waker → Plain Output Waker
-  marked f q = plain.changed (λ future. record future { is_dropped = true }) f q
-
-  marked_sight : (f : ℕ) (q : Plain Output Waker) → sight (marked f q) ≡ sight q
-  marked_sight f q = by (slice_get q.futures f)
-    where
-      by : (o : Option (Future Output Waker))
-          → sight (on o (λ future p. record p { futures = slice_set p.futures f (record future { is_dropped = true }) }) q) ≡ sight q
-      by None = refl
-      by (Some x) = refl
-
   dropped : (f : ℕ) (why : End Output) (by : Taker Waker) (q : Plain Output Waker) → q.inside ≡ [] → ByTaker by q.runs
       → Counts (plain_takes.dropped wakes c f why by q)
   dropped f why by q nowhere few =
-      let z = plain_takes.given_up wakes c f (marked f q) in
-      let same : sight z ≡ sight q = given_up_sight f (marked f q) ∙ marked_sight f q in
+      let z = plain_takes.given_up wakes c f (plain.changed (λ future. record future { is_dropped = true }) f q) in
+      let same : sight z ≡ sight q = given_up_sight c f q in
       ended_by f (plain_takes.left_by wakes c why (task f z)) (Some by) z (ap (λ (s : Sight). s.inside) same ∙ nowhere)
       (subst (λ (s : Sight). ByTaker by s.runs) (sym same) few)
 

@@ -70,7 +70,7 @@ module _ (c : Choice) where
   pub tell_sight : (q : Plain Output Waker) → sight (tell wakes c q) ≡ sight q
   tell_sight q = tell_keeps sight aside c q
 
-  given_up_sight : (f : ℕ) (q : Plain Output Waker)
+  pub given_up_sight : (f : ℕ) (q : Plain Output Waker)
       → sight (plain_takes.given_up wakes c f (plain.changed (λ future. record future { is_dropped = true }) f q)) ≡ sight q
   given_up_sight f q = by marked.is_static ∙ was (slice_get q.futures f)
     where

@@ -43,6 +43,7 @@ use Rattle.machine_roads.specs.Within.{untaken}
 use Rattle.machine_roads.specs.Within.{Act, ActAlike, ActsBy, AreActs, ListsActAlike, Nested, StandsAlike, alike, calls_outside}
 use Rattle.machine_roads.specs.Within.{dropping, forgetting, goes_on, is_on_way, losing, may_begin_in, may_stand_in, nowhere, rests_after}
 use Rattle.machine_roads.specs.Within.{standing}
+use Rattle.machine_roads.proofs.Endings.{ending_as, forgotten_as}
 use Rattle.machine_roads.proofs.ActBegins.{one_begins}
 use Rattle.machine_roads.proofs.ActCodes.{accepted}
 use Rattle.machine_roads.proofs.ActEnds.{code_ends, is_inner}
@@ -251,15 +252,7 @@ module _ (s : Machine) (reached : Reached s) (p : ℕ) (q : Plain Output Waker) 
           begins (subst (λ os. Nested os q.inside) (sym next) (subst (λ codes. Nested below codes) (sym inside) nested)) follows
       by (dropping taker final below f b it nested (loses awaiter next inside ending)) =
           let stands : StandsUntaken s.world f awaiter [] q =
-          record {
-            known = ending.known;
-            over = ending.over;
-            still = ending.still;
-            counted = ending.counted;
-            stored = ending.stored;
-            awaited = ending.awaited;
-            follows = record { shut = tt; follows = ending.follows };
-          } in
+          ending_as ending (record { shut = tt; follows = ending.follows }) in
           inside_of taker final below f awaiter b.inside it nested []
           (record {
             left =
@@ -277,16 +270,7 @@ module _ (s : Machine) (reached : Reached s) (p : ℕ) (q : Plain Output Waker) 
             left = stops.left;
             inside = stops.inside;
             stands =
-                record {
-                  known = it_is.known;
-                  entered = it_is.entered;
-                  spent = it_is.spent;
-                  unheld = it_is.unheld;
-                  finished = it_is.finished;
-                  closed = it_is.closed;
-                  awaited = it_is.awaited;
-                  follows = record { shut = tt; follows = it_is.follows };
-                };
+                forgotten_as q.inside it_is (record { shut = tt; follows = it_is.follows });
           })
       by (forgotten taker final below f g gs codes it nested stops) = within_drop taker final below f codes it nested (g ∷ gs) stops
 

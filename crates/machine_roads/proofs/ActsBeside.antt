@@ -30,6 +30,7 @@ use Rattle.machine_roads.specs.Losing.{left_of}
 use Rattle.machine_roads.specs.Untaken.{HasBeside, IsCallBeside, StandsUntaken, polls}
 use Rattle.machine_roads.specs.Within.{GoesOnBy, Nested, StandsAlike, StopsUntaken, dropping}
 use Rattle.machine_roads.specs.Within.{standing, untaken}
+use Rattle.machine_roads.proofs.Endings.{ending_as}
 use Rattle.machine_roads.proofs.ActBegins.{choice_in, enough}
 use Rattle.machine_roads.proofs.LossActs.{BeginsSo, CallsLose, CallsStay, CodesEnd, EndsSo, all_rest, loss_begins, loss_ends, no_poll_at}
 use Rattle.machine_roads.proofs.Along.{goes_append}
@@ -95,21 +96,12 @@ module _ (s : Machine) (p : ℕ) (q : Plain Output Waker) (f : ℕ) (awaiter : O
       let q0 : Plain Output Waker = record q { inside = inside } in
       let there : StandsUntaken s.world f awaiter (g ∷ hs) q = subst (λ gs. StandsUntaken s.world f awaiter gs q) is stands in
       let it : StandsUntaken s.world f awaiter (g ∷ hs) q0 =
-      record {
-        known = there.known;
-        over = there.over;
-        still = there.still;
-        counted = there.counted;
-        stored = there.stored;
-        awaited = there.awaited;
+      ending_as there (record {
+        shut = there.follows.shut;
         follows =
-            record {
-              shut = there.follows.shut;
-              follows =
-                  stands_in inside (without_handles (g ∷ hs) (without_run f s.world)) q there.follows.follows
-                  (sym (ap (λ codes. waking_in codes) (at ∙ ap (λ gs. loss_codes gs codes) is)));
-            };
-      } in
+            stands_in inside (without_handles (g ∷ hs) (without_run f s.world)) q there.follows.follows
+            (sym (ap (λ codes. waking_in codes) (at ∙ ap (λ gs. loss_codes gs codes) is)));
+      }) in
       let has_all : HasAllOf (HasBeside f) p hints (done s.world (left_of g ++ loss_ops hs base)) =
       beside_all f awaiter p hints s.world (left_of g ++ loss_ops hs base) (owing f awaiter s.world (g ∷ hs) q there)
       (goes_append (without_run f) (is_aside f awaiter) (Kept f awaiter) (left_of g) (loss_ops hs base) refl
@@ -152,15 +144,7 @@ module _ (taker : Taker Waker) (final : Op) (below : List Op) (f : ℕ) (awaiter
   place_so [] e z next inside stands =
       dropping taker final below f (record z { inside = codes }) it nested
       (loses_by awaiter (next ∙ ap base (sym (awaited_so e.world f awaiter [] z stands))) inside
-      (record {
-        known = stands.known;
-        over = stands.over;
-        still = stands.still;
-        counted = stands.counted;
-        stored = stands.stored;
-        awaited = stands.awaited;
-        follows = stands.follows.follows;
-      }))
+      (ending_as stands stands.follows.follows))
   place_so (h ∷ hs) e z next inside stands =
       untaken taker final below f awaiter h hs codes it nested (record { left = next; inside = inside; stands = stands })
 

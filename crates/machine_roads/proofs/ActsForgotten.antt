@@ -1,6 +1,6 @@
 -- A call of a waker or of a handle that begins in the drop of a future that nobody could wake, and the ends of drops of outputs inside of
 -- that: where the party rests next both stand so again.
-use Rattle.std.proofs.Common.{◌≡◌, ℕ, ◌<◌, ◌==◌, ◌++◌, Bool, true, false, List, [], ◌∷◌, length, Option, Some, None, slice_get}
+use Rattle.std.proofs.Common.{◌≡◌, ℕ, ◌<◌, ◌==◌, ◌++◌, Bool, true, false, List, [], ◌∷◌, length, Option, Some, None}
 use Rattle.std.proofs.Common.{refl, sym, ap, subst, ◌∙◌, arith}
 use Rattle.std.specs.Prelude.{reverse}
 use Rattle.executor_model.specs.declared.call.Call.{Call}
@@ -13,7 +13,7 @@ use Rattle.executor_model.specs.Steps.{Machine, accepts, begin_refusal, has_all,
 use Rattle.executor_model.specs.Steps.{mine, stack, top}
 use Rattle.executor_model.specs.World.{Done, World, task}
 use Rattle.executor_model.proofs.Steps.Reached.{Reached}
-use Rattle.plain_scheduler.specs.State.{Choice, Closed, Code, Drop, Future, Granted, Plain, Refusal, Taker}
+use Rattle.plain_scheduler.specs.State.{Choice, Closed, Code, Drop, Granted, Plain, Refusal, Taker}
 use Rattle.plain_scheduler.specs.Calls as plain
 use Rattle.machine_roads.specs.View.{Output}
 use Rattle.machine_roads.specs.Road.{waking_in}
@@ -23,11 +23,11 @@ use Rattle.machine_roads.specs.InLoss.{loss_codes, loss_ops, without_handles}
 use Rattle.machine_roads.specs.Losing.{left_of}
 use Rattle.machine_roads.specs.Within.{GoesOnBy, Nested, StandsAlike, StopsForgotten}
 use Rattle.machine_roads.specs.Within.{forgetting, forgotten, standing}
+use Rattle.machine_roads.proofs.Endings.{forgotten_as, unawaited_in}
 use Rattle.machine_roads.proofs.ActBegins.{choice_in, enough}
 use Rattle.machine_roads.proofs.LossActs.{BeginsSo, CallsLose, CallsStay, CodesEnd, EndsSo, all_rest, loss_begins, loss_ends, no_poll_at}
 use Rattle.machine_roads.proofs.Counting.{Counted}
 use Rattle.machine_roads.proofs.InDrop.{stays_inside}
-use Rattle.machine_roads.proofs.Unseen.{stands_in}
 use Rattle.executor_model.specs.declared.op.HandleOp.TheVariants as handle_op
 use Rattle.executor_model.specs.declared.op.TableOp.TheVariants as table_op
 use Rattle.executor_model.specs.Rows.{handling_of}
@@ -35,17 +35,13 @@ use Rattle.executor_model.specs.Sound.{Sound, pend}
 use Rattle.executor_model.proofs.Steps.Begins.{kept-used}
 use Rattle.executor_model.proofs.Steps.Lists.{wakers_of-used}
 use Rattle.executor_model.proofs.Steps.Reached.{good-here}
-use Rattle.plain_scheduler.specs.Lists.{on}
-use Rattle.plain_scheduler.specs.Moves as moves
 use Rattle.machine_roads.specs.Course.{IsCall, cancel, copy, detach, drop_handle, poll_handle, release, use_waker, wake}
-use Rattle.machine_roads.specs.Forgotten.{unawaited, without_awaiter}
+use Rattle.machine_roads.specs.Forgotten.{without_awaiter}
 use Rattle.machine_roads.specs.InForgotten.{IsCallInForgotten, StandsForgotten, is_of}
-use Rattle.machine_roads.specs.Road.{Follows}
 use Rattle.machine_roads.proofs.InForgotten.{calls_forgotten, loses_forgotten, loss_ends_forgotten}
 use Rattle.machine_roads.proofs.Having.{same_self}
 use Rattle.machine_roads.proofs.Lists.{clash, same_of}
 use Rattle.machine_roads.proofs.LoneRuns.{both_true}
-use Rattle.machine_roads.proofs.Puts.{put_at, put_by}
 
 -- no call is of that one: nobody has a waker of it, nor its handle
 module _ (s : Machine) (reached : Reached s) (f : ℕ) (spent : (task s.world f).references ≡ 0) (unheld : (task s.world f).handle ≡ false)
@@ -85,16 +81,6 @@ module _ (s : Machine) (reached : Reached s) (f : ℕ) (spent : (task s.world f)
     apart_made c x (drop_handle g) off o all = held_apart g all
     apart_made c x is off o all = absurd cc
 
-unawaited_in : (f : ℕ) (inside : List (Code Output Waker)) (q : Plain Output Waker)
-    → record (unawaited f q) { inside = inside } ≡ unawaited f (record q { inside = inside })
-unawaited_in f inside q = by (slice_get q.futures f)
-  where
-    by : (o : Option (Future Output Waker))
-        → record (on o (λ x z. put_at f (record (moves.task f q) { awaiter = None }) x z) q) { inside = inside }
-        ≡ on o (λ x z. put_at f (record (moves.task f q) { awaiter = None }) x z) (record q { inside = inside })
-    by None = refl
-    by (Some x) = refl
-
 module _ (s : Machine) (p : ℕ) (q : Plain Output Waker) (f : ℕ) (gs : List ℕ) (base : List Op)
     (codes : List (Code Output Waker)) (next : reverse (stack s p) ≡ loss_ops gs base) (at : q.inside ≡ loss_codes gs codes)
     (stands : StandsForgotten s.world f gs q) (no_poll : mine (top (stack s p)) ≡ None)
@@ -132,25 +118,13 @@ module _ (s : Machine) (p : ℕ) (q : Plain Output Waker) (f : ℕ) (gs : List �
       let q0 : Plain Output Waker = record q { inside = inside } in
       let there : StandsForgotten s.world f (g ∷ hs) q = subst (λ gs. StandsForgotten s.world f gs q) is stands in
       let it : StandsForgotten s.world f (g ∷ hs) q0 =
-      record {
-        known = there.known;
-        entered = there.entered;
-        spent = there.spent;
-        unheld = there.unheld;
-        finished = there.finished;
-        closed = there.closed;
-        awaited = there.awaited;
+      forgotten_as inside there
+      (record {
+        shut = there.follows.shut;
         follows =
-            record {
-              shut = there.follows.shut;
-              follows =
-                  subst (Follows (without_handles (g ∷ hs) (without_awaiter f s.world))) (unawaited_in f inside q)
-                  (stands_in inside (without_handles (g ∷ hs) (without_awaiter f s.world)) (unawaited f q) there.follows.follows
-                  (sym (ap (λ codes. waking_in codes)
-                  (put_by (λ p. p.inside) f (record (moves.task f q) { awaiter = None }) q (λ fs. refl)
-                  ∙ (at ∙ ap (λ gs. loss_codes gs codes) is)))));
-            };
-      } in
+            unawaited_in f inside (without_handles (g ∷ hs) (without_awaiter f s.world)) q there.follows.follows
+            (sym (ap (λ codes. waking_in codes) (at ∙ ap (λ gs. loss_codes gs codes) is)));
+      }) in
       loss_ends_forgotten p f hs (loss_ops hs base) s.world q0 (choice Granted) hints g (all_rest base under hs) it has rests
 
   pub begins_there : Reached s → p < length s.parties → (c : Call) → is_on_executor c ≡ false
@@ -177,16 +151,7 @@ module _ (taker : Taker Waker) (final : Op) (below : List Op) (f : ℕ) (codes :
         left = next;
         inside = inside;
         forgotten =
-            record {
-              known = stands.known;
-              entered = stands.entered;
-              spent = stands.spent;
-              unheld = stands.unheld;
-              finished = stands.finished;
-              closed = stands.closed;
-              awaited = stands.awaited;
-              follows = stands.follows.follows;
-            };
+            forgotten_as z.inside stands stands.follows.follows;
       })
   place_so (h ∷ hs) e z next inside stands =
       forgotten taker final below f h hs codes it nested (record { left = next; inside = inside; stands = stands })

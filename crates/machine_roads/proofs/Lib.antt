@@ -146,6 +146,7 @@ pub mod Unsearched
 pub mod ActBegins
 pub mod RunsAlone
 pub mod ActLosses
+pub mod CallsAside
 pub mod Endings
 pub mod LossActs
 pub mod ActEnds

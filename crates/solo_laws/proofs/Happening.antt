@@ -13,4 +13,7 @@ pub mod Lasting
 pub mod Vacant
 pub mod Free
 pub mod Wakers
+pub mod LastCalls
+pub mod Heeding
+pub mod Refused
 pub mod Lists

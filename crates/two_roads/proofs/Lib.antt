@@ -1,5 +1,6 @@
 pub mod Words
 pub mod WaitingTasks
+pub mod CountsMore
 pub mod HandedOut
 pub mod OnlyBegun
 pub mod TakenInActs
@@ -19,6 +20,7 @@ pub mod StepAlike
 pub mod Plainly
 pub mod PlainCalls
 pub mod Both
+pub mod GoesIdle
 pub mod Inner
 pub mod InDrop
 pub mod Refusing

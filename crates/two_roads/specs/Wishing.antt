@@ -1,17 +1,10 @@
 -- Calls that an executor's owner may wish to make, as the machine's acts are.
-use Rattle.std.specs.Prelude.{◌≡◌, ℕ, true, List, [], ◌∷◌}
+use Rattle.std.specs.Prelude.{◌≡◌, ℕ, List, [], ◌∷◌}
 use Rattle.executor_model.specs.Steps.{Machine}
 use Rattle.solo.specs.declared.names.SoloWaker.{SoloWaker}
-use Rattle.solo.specs.declared.owed.Lent.{Lent}
-use Rattle.solo.specs.declared.solo.Solo.{Solo}
-use Rattle.plain_scheduler.specs.State.{Choice, Event, Plain}
-use Rattle.plain_scheduler.specs.Calls.{Call}
 use Rattle.machine_roads.specs.Within.{Act, IsMade, start_in}
-use Rattle.solo_laws.specs.Courses.{Leads, leads, stays}
 use Rattle.solo_laws.specs.Making.{Wish}
-use Rattle.solo_laws.specs.Owner.{Owner}
-use Rattle.solo_laws.specs.Road.{wakes}
-use Rattle.two_roads.specs.Refusing.{asks_memory, refused_in}
+use Rattle.two_roads.specs.Refusing.{refused_in}
 use Rattle.two_roads.specs.Renaming.{call_as}
 use Rattle.two_roads.specs.Together.{nothing, numbered}
 
@@ -26,13 +19,3 @@ module _ {T X : Type 0} (number : X → ℕ) where
   AreWishesOfSteps s [] [] = Unit {0}
   AreWishesOfSteps s (a ∷ acts) (x ∷ xs) = IsWishOfStep s a x × AreWishesOfSteps a.left acts xs
   AreWishesOfSteps s acts xs = ⊥
-
--- where a call asks for memory, this is refused to it as was wished
-module _ {F T X : Type 0} {its : ℕ → Lent} where
-  abbrev pub AreRefusedSo : List (Wish T (SoloWaker X)) → {cs : List (Choice × Call T (SoloWaker X))} {before after : Owner}
-      {y z : Solo F T X}
-      {p : Plain T (SoloWaker X)} {shown : List (Event T (SoloWaker X))} → Leads its cs before y p shown after z → Type 0
-  AreRefusedSo [] led = Unit {0}
-  AreRefusedSo (x ∷ xs) (stays owner y p) = Unit {0}
-  AreRefusedSo (x ∷ xs) (leads c call rest before now after y m z p shown others many how on) =
-      (asks_memory wakes c p call ≡ true → c.refusal ≡ x.refusal) × AreRefusedSo xs on

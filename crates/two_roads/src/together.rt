@@ -21,14 +21,14 @@ ghost use Rattle.solo_laws.specs.Closing.{IsClosed};
 ghost use Rattle.solo_laws.specs.Courses.{Leads};
 ghost use Rattle.solo_laws.specs.LastCalls.{LastCalls};
 ghost use Rattle.queue_steps.specs.ClosableQueue.{most_accepted};
-ghost use Rattle.solo_laws.specs.Making.{Goes, MayGo, Wish, by_number, queued_by};
+ghost use Rattle.solo_laws.specs.Making.{Goes, MayGo, MayHeed, Wish, by_number, queued_by};
 ghost use Rattle.solo_laws.specs.Owner.{Owner, new_owner};
 ghost use Rattle.solo_laws.specs.Road.{wakes};
 ghost use Rattle.solo_laws.specs.Tabled.{Stands};
 ghost use Rattle.two_roads.specs.Acting.{AreOfSteps, EndOfSteps, acts_by, drop_acts_by, left_of};
 ghost use Rattle.two_roads.specs.Renaming.{AreSame};
 ghost use Rattle.two_roads.specs.Together.{TellsOf, as_heard, left_by, made_by, nothing, numbered};
-ghost use Rattle.two_roads.specs.Wishing.{AreRefusedSo, AreWishesOfSteps};
+ghost use Rattle.two_roads.specs.Wishing.{AreWishesOfSteps};
 
 /// A list of lone calls of a new machine is one of the plain scheduler's, and so is a list of calls of a new executor of one owner.
 /// Where these are the same calls, with the same ends of polls and drops and the same refusals, both then stand where one plain
@@ -115,17 +115,17 @@ pub fn calls_show_alike<F, T, X>()
 {}
 
 /// And there is such a list of calls for each list of wishes that are the machine's acts, where the executor's owner may make each of these
-/// calls where those before it have led, and they queue no more tasks than a queue accepts in its life. Where memory is refused in it as in
-/// the acts, the machine's trace tells of what it shows.
+/// calls where those before it have led, they queue no more tasks than a queue accepts in its life, and nothing but memory refuses them: the
+/// machine's trace tells of what it shows.
 pub fn wished_calls_show_alike<F, T, X>()
     ensures { (future : F) (number : X → ℕ) (limit : ℕ) (kind : MachineKind) (solo_kind : Kind) (parties : ℕ) (acts : List Act)
         (xs : List (Wish T (SoloWaker X))) (first : Solo F T X) (before : Who → ℕ) → AreActs (start limit kind parties) acts
         → IsNew limit solo_kind first → counts solo_kind ≡ not (is_static_kind kind)
         → AreWishesOfSteps number (start limit kind parties) acts xs → queued_by limit xs ≤ most_accepted
         → MayGo by_number xs (new_owner before) first (new limit (is_static_kind kind))
+        → MayHeed by_number xs (new_owner before) first (new limit (is_static_kind kind))
         → (go : Goes by_number xs (new_owner before) first (new limit (is_static_kind kind)))
-        × (AreRefusedSo xs go.leads
-        → heard_in (left_of (start limit kind parties) acts).world.trace ≡ as_heard number go.shown) }
+        × (heard_in (left_of (start limit kind parties) acts).world.trace ≡ as_heard number go.shown) }
 {}
 
 /// And so to the end: from the executor's drop on, once no call is in progress any more, with the calls made in the drops of its futures

@@ -8,13 +8,11 @@ use Rattle.two_roads.proofs.Wished.{of_wishes}
 use Rattle.two_roads.proofs.together.wished_calls_show_alike.Goals as goal
 
 pub returns : goal.returns
-returns g c future number limit kind solo_kind parties acts xs first before they is_new counted wishes enough may =
+returns g c future number limit kind solo_kind parties acts xs first before they is_new counted wishes enough may heed =
     let go = lists_happen future limit solo_kind (is_static_kind kind) first before xs is_new counted enough may in (
       go,
-      λ refused.
-          (steps_together by_number number limit kind solo_kind parties acts go.calls first go.after go.shown before go.now they is_new
-          counted
+      (steps_together by_number number limit kind solo_kind parties acts go.calls first go.after go.shown before go.now they is_new counted
           go.leads
           (of_wishes by_number number acts (start limit kind parties) xs go.calls (new_owner before) go.now first go.after
-          (new limit (is_static_kind kind)) go.shown go.leads wishes go.wished refused)).1,
+          (new limit (is_static_kind kind)) go.shown go.leads wishes go.wished (go.heeds heed))).1,
     )

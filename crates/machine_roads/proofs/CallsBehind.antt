@@ -67,7 +67,9 @@ none_of w q follows none f = by (where_is (length w.tasks) f)
 pub of_tasks : Walks HasOfTasks IsAny
 of_tasks = record {
   easy = record { ends = λ w r held os fit. tt; outside = λ w x os fit. tt };
-  gives = of_top HasOfTasks IsAny (λ s p reached there any o is fit. has_unless s p reached there o (λ asks. absurd (never_open o fit asks)) is);
+  gives =
+      of_top HasOfTasks IsAny
+      (λ s p reached there any o is fit. has_unless s p reached there o (λ asks. absurd (never_open o fit asks)) is);
   back = λ ts s new reached made any. tt;
 }
 

@@ -247,7 +247,8 @@ module _ (s : Machine) (reached : Reached s) (p : ℕ) (there : p < length s.par
     loss_ends IsDone ts on rests made =
         let os = left_of g ++ left in
         let under = loss_rests gs (op.User (user_op.Drop f) ∷ left_to_close fs s.world) refl in
-        answer_leads_of (HasFirst HasOpen) IsAny of_calls p (Reaches (Answer p IsDone)) new tt IsDone (op.User (user_op.DropOutput g)) os ts s reached
+        answer_leads_of (HasFirst HasOpen) IsAny of_calls p (Reaches (Answer p IsDone)) new tt IsDone
+        (op.User (user_op.DropOutput g)) os ts s reached
         there next
         (λ hints has rests.
         let e = alone p hints (done s.world os) in
@@ -358,7 +359,8 @@ module _ (s : Machine) (reached : Reached s) (p : ℕ) (there : p < length s.par
           follows =
               stands_in inside (without_handles (g ∷ gs) s.world) q stops.losing.follows (sym (ap (λ codes. waking_in codes) stops.inside));
         } in
-        answer_leads_of (HasFirst HasOfTasks) IsAny of_tasks p (Reaches (Answer p IsDone)) new tt IsDone (op.User (user_op.DropOutput g)) os ts s
+        answer_leads_of (HasFirst HasOfTasks) IsAny of_tasks p (Reaches (Answer p IsDone)) new tt IsDone
+        (op.User (user_op.DropOutput g)) os ts s
         reached there stops.left
         (λ hints has rests.
         let e = alone p hints (done s.world os) in

@@ -206,7 +206,8 @@ module _ (Asked : World → Op → Type 0) (Fine : Machine → Type 0) (walks : 
           not_true (waits o)
           (passed (not (waits o)) WrongAnswer (unless (not (is_locked_out s.world.lock o)) Waits None) goes_on) in
           onward_of (Go p h) ts (done (act p h o s.world).world ((act p h o s.world).next ++ os)) (goes p s there o os is h)
-          (leads_on (HasFirst Asked) walks.easy p R h o s.world os free (walks.gives s p reached there open_still (o ∷ os) is) leads) may made
+          (leads_on (HasFirst Asked) walks.easy p R h o s.world os free (walks.gives s p reached there open_still (o ∷ os) is) leads) may
+          made
 
       by_answer : (e : UserEnd) → are_onward_of p ts ≡ true → run_all (Answer p e ∷ ts) s ≡ Ok new → refusal s (Answer p e) ≡ None
           → run_all ts (after s (Answer p e)) ≡ Ok new → Comes new ts
@@ -237,7 +238,8 @@ module _ (Asked : World → Op → Type 0) (Fine : Machine → Type 0) (walks : 
               Further (onward_of (Answer p e) ts (done s.world os)
               (subst (λ (d : Done). Goes p s (after s (Answer p e)) (done d.world (d.next ++ os)))
               (ap (λ x. react p x e s.world) same) (answers p s there o os is e))
-              (leads_outside (HasFirst Asked) walks.easy p R x s.world os (subst (λ x. LeadsSoOf Asked p (done s.world (x ∷ os)) R) same leads)) may
+              (leads_outside (HasFirst Asked) walks.easy p R x s.world os
+              (subst (λ x. LeadsSoOf Asked p (done s.world (x ∷ os)) R) same leads)) may
               made)
           by (op.User (user_op.Poll f)) same ok = in_here (op.User (user_op.Poll f)) same ok refl
           by (op.User (user_op.Drop f)) same ok = in_here (op.User (user_op.Drop f)) same ok refl

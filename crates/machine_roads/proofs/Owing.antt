@@ -287,7 +287,8 @@ module _ (f : ℕ) (awaiter : Option Waker) where
   copies_by w g held t so kept false =
       let os : List Op = op.End reply.Made held ∷ [] in
       let rest : World → World = λ v. record v { wakers = w.wakers ++ Some g ∷ [] } in
-      subst (λ x. Does (done (rest (put (without_run f w) g (raised x))) os) (done (rest (put w g (raised (world.task w g)))) os)) (sym so.is)
+      subst (λ x. Does (done (rest (put (without_run f w) g (raised x))) os) (done (rest (put w g (raised (world.task w g)))) os))
+      (sym so.is)
       (record { same = ap (λ v. done (rest v) os) so.same; kept = so.kept; fit = refl })
 
   copies_do : (h : Hint) (w : World) (g : ℕ) (held : Hold) → Kept w

@@ -136,7 +136,8 @@ module _ (start p : ℕ) (R : Done → Type 0) where
                 let lock = op.List (list_op.LockRead x) in
                 let named1 : h.start ≡ start =
                 ap (λ o. if reads_list (o ∷ os) then h.start else start_at p (after s (Go p h)) ts) (sym at) ∙ named in
-                walks.step_on (HasFirst Has) IsBefore before p R new later ts (walks.walked (HasFirst Has) IsBefore before p R new later ts) s reached there
+                walks.step_on (HasFirst Has) IsBefore before p R new later ts
+                (walks.walked (HasFirst Has) IsBefore before p R new later ts) s reached there
                 (Go p h) (done (act p h lock s.world).world ((act p h lock s.world).next ++ os))
                 (goes p s there lock os (is ∙ ap (λ o. o ∷ os) at) h)
                 (from_read h x s.world os named1 (subst (Has s.world) at has)

@@ -14,3 +14,4 @@ pub mod Vacant
 pub mod Free
 pub mod Wakers
 pub mod Lists
+pub mod LastCalls

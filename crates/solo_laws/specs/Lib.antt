@@ -30,6 +30,7 @@ pub mod RunCounting
 pub mod RunResting
 pub mod Led
 pub mod Making
+pub mod LastMaking
 pub mod Going
 pub mod Seen
 pub mod Done

@@ -1,5 +1,5 @@
 //! Each call that an owner may make happens: there is what the executor's owner does for it.
-ghost use Rattle.std.specs.Prelude.{◌≡◌, ◌≤◌, ℕ, Bool, List, not};
+ghost use Rattle.std.specs.Prelude.{◌≡◌, ◌≤◌, ℕ, Bool, List, ◌∷◌, not};
 ghost use Rattle.queue_steps.specs.ClosableQueue.{most_accepted};
 ghost use Rattle.solo.specs.Solo.{IsNew, counts};
 ghost use Rattle.solo.specs.declared.names.Kind.{Kind};
@@ -9,6 +9,7 @@ ghost use Rattle.solo.specs.declared.solo.Solo.{Solo};
 ghost use Rattle.plain_scheduler.specs.Calls.{new};
 ghost use Rattle.plain_scheduler.specs.State.{Plain, Who};
 ghost use Rattle.solo_laws.specs.Led.{IsLed};
+ghost use Rattle.solo_laws.specs.LastMaking.{HappenLast, MayDrop};
 ghost use Rattle.solo_laws.specs.Making.{Goes, Happens, MayCall, MayGo, NextIsFree, WakersAreKnown, Wish, by_number, queued_by};
 ghost use Rattle.solo_laws.specs.Owner.{Owner, new_owner};
 
@@ -27,4 +28,11 @@ pub fn lists_of_calls_happen<F, T, X>()
         (xs : List (Wish T (SoloWaker X))) → IsNew limit kind first → counts kind ≡ not is_static
         → queued_by limit xs ≤ most_accepted → MayGo by_number xs (new_owner number) first (new limit is_static)
         → Goes by_number xs (new_owner number) first (new limit is_static) }
+{}
+
+/// And so the last calls happen, from the executor's drop on, where it isn't static and no user's code has one of its futures in hand: the
+/// calls on tasks and the ends of outputs' drops while its futures are dropped, the end of each of these drops, and what is called then.
+pub fn last_calls_happen<F, T, X>()
+    ensures { (its : ℕ → Lent) (owner : Owner) (s : Solo F T X) (p : Plain T (SoloWaker X)) (x : Wish T (SoloWaker X))
+        (xs : List (Wish T (SoloWaker X))) → IsLed its owner s p → MayDrop its s p x xs → HappenLast its s p (x ∷ xs) }
 {}

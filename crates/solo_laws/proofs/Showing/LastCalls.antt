@@ -122,7 +122,7 @@ module _ {F T X : Type 0} (its : ℕ → Lent) where
     on_task_alike c s z p call shown r many on (ends_closed f by rest one stands_in life) = absurd cc
     on_task_alike c s z p call shown r many on (loses awaiter by rest one stands_in life) = absurd cc
 
-    meanwhile_alike : (c : Choice) (s z : Solo F T X) (p : Plain T (SoloWaker X)) (call : Call T (SoloWaker X))
+    pub meanwhile_alike : (c : Choice) (s z : Solo F T X) (p : Plain T (SoloWaker X)) (call : Call T (SoloWaker X))
         (shown : List (Event T (SoloWaker X))) → IsClosing its all gone left s p → length p.lying ≤ c.tells
         → Meanwhile its c s p call shown z → InClose c call p shown z
     meanwhile_alike c s z p call shown r many (on_task call' shown' z' on how) = on_task_alike c s z' p call' shown' r many on how
@@ -167,7 +167,7 @@ module _ {F T X : Type 0} (its : ℕ → Lent) where
   after_on_task c s z p call shown r many on (ends_closed f by rest one stands_in life) = absurd cc
   after_on_task c s z p call shown r many on (loses awaiter by rest one stands_in life) = absurd cc
 
-  after_alike : (c : Choice) (s z : Solo F T X) (p : Plain T (SoloWaker X)) (call : Call T (SoloWaker X))
+  pub after_alike : (c : Choice) (s z : Solo F T X) (p : Plain T (SoloWaker X)) (call : Call T (SoloWaker X))
       (shown : List (Event T (SoloWaker X))) → IsClosed its s p → length p.lying ≤ c.tells → Meanwhile its c s p call shown z
       → AfterClose c call p shown z
   after_alike c s z p call shown r many (on_task call' shown' z' on how) = after_on_task c s z' p call' shown' r many on how

@@ -17,7 +17,7 @@ use Rattle.machine_roads.specs.DropActs.{AreDropActs, left_by, plain_behind}
 use Rattle.machine_roads.specs.Seeing.{heard_in, shown as shown_alike}
 use Rattle.machine_roads.specs.View.{Output}
 use Rattle.machine_roads.specs.Within.{Act, AreActs, IsAct}
-use Rattle.machine_roads.proofs.ActsToEnd.{acts_to_the_end}
+use Rattle.machine_roads.proofs.ActsToEnd.{acts_to_the_end, nowhere_behind}
 use Rattle.solo_laws.specs.Closing.{IsClosed}
 use Rattle.solo_laws.specs.Courses.{Leads}
 use Rattle.solo_laws.specs.LastCalls.{LastCalls}
@@ -27,7 +27,7 @@ use Rattle.solo_laws.proofs.Showing.AllThere.{none_lost}
 use Rattle.solo_laws.proofs.Showing.Courses.{leads_alike, new_known}
 use Rattle.solo_laws.proofs.Showing.LastCalls.{last_calls_alike}
 use Rattle.two_roads.specs.Acting.{AreOfSteps, EndOfSteps, left_of}
-use Rattle.two_roads.specs.Renaming.{code_as, event_as, renamed}
+use Rattle.two_roads.specs.Renaming.{event_as, renamed}
 use Rattle.two_roads.specs.Together.{as_heard, nothing, numbered}
 use Rattle.two_roads.proofs.ActedToEnd.{ends_acted, last_aside}
 use Rattle.two_roads.proofs.Both.{course_of_both, map_twice}
@@ -43,13 +43,12 @@ module _ {F T X : Type 0} (its : ℕ → Lent) (number : X → ℕ) where
       → counts solo_kind ≡ not (is_static_kind kind)
       → (led : Leads its cs (new_owner before) first (new limit (is_static_kind kind)) shown after middle)
       → LastCalls its middle (course wakes cs (new limit (is_static_kind kind))) ends others last
-      → (course wakes cs (new limit (is_static_kind kind))).inside ≡ []
       → AreOfSteps number (start limit kind parties) acts led
       → EndOfSteps number a later (course wakes cs (new limit (is_static_kind kind))) ends
       → IsClosed its last (course wakes (cs ++ ends) (new limit (is_static_kind kind)))
       × (heard_in (left_of a.left later).world.trace ≡ as_heard number (shown ++ others))
   steps_end_together limit kind solo_kind parties acts a later cs ends first middle last shown others before after they quiet acts_so
-      begins they_too is_new counted led then_so nowhere are end_are =
+      begins they_too is_new counted led then_so are end_are =
       let s = start limit kind parties in
       let q : Plain Output Waker = new limit (is_static_kind kind) in
       let go = acts_to_the_end limit kind parties acts they quiet in
@@ -66,10 +65,9 @@ module _ {F T X : Type 0} (its : ℕ → Lent) (number : X → ℕ) where
       let comes : renamed nothing (numbered number) p ≡ r =
       steps_same its number limit kind solo_kind parties acts cs first middle shown before after they go.0 is_new counted led are
       ∙ acts_come acts s q go.0 in
-      let nowhere_there : r.inside ≡ [] =
-      ap (λ (z : Plain Output Waker). z.inside) (sym comes) ∙ ap (map (code_as nothing (numbered number))) nowhere in
+      let nowhere : r.inside ≡ [] = nowhere_behind limit kind parties acts they quiet go.0 in
       let seen = ends_acted number a later r p ends comes end_are (last_aside its middle p ends others last then_so)
-      (λ d. go.1 a later d nowhere_there acts_so begins they_too) in
+      (λ d. go.1 a later d nowhere acts_so begins they_too) in
       let events : z.events ≡ shown ++ others =
       ap (λ (z : Plain T (SoloWaker X)). z.events) together ∙ (it.1 ∙ ap (λ es. es ++ others) both.1) in (
         subst (λ z. IsClosed its last z) (sym together) it.0,

@@ -5,7 +5,7 @@ use Rattle.solo.specs.declared.names.SoloWaker.{SoloWaker}
 use Rattle.solo.specs.declared.owed.Lent.{Lent}
 use Rattle.solo.specs.declared.solo.Solo.{Solo}
 use Rattle.plain_scheduler.specs.State.{Choice, Event, Plain}
-use Rattle.plain_scheduler.specs.Calls.{Call}
+use Rattle.plain_scheduler.specs.Calls.{Call, does}
 use Rattle.machine_roads.specs.Within.{Act, IsMade, start_in}
 use Rattle.solo_laws.specs.Courses.{Leads, leads, stays}
 use Rattle.solo_laws.specs.Making.{Wish}
@@ -27,6 +27,13 @@ module _ {T X : Type 0} (number : X → ℕ) where
   AreWishesOfSteps s (a ∷ acts) (x ∷ xs) = IsWishOfStep s a x × AreWishesOfSteps a.left acts xs
   AreWishesOfSteps s acts xs = ⊥
 
+  -- and so from the executor's drop on, where no run searches
+  abbrev pub AreLastWishesOfSteps : Machine → List Act → List (Wish T (SoloWaker X)) → Type 0
+  AreLastWishesOfSteps s [] [] = Unit {0}
+  AreLastWishesOfSteps s (a ∷ acts) (x ∷ xs) =
+      IsMade s a.party a.first (call_as nothing (numbered number) x.call) × AreLastWishesOfSteps a.left acts xs
+  AreLastWishesOfSteps s acts xs = ⊥
+
 -- where a call asks for memory, this is refused to it as was wished
 module _ {F T X : Type 0} {its : ℕ → Lent} where
   abbrev pub AreRefusedSo : List (Wish T (SoloWaker X)) → {cs : List (Choice × Call T (SoloWaker X))} {before after : Owner}
@@ -36,3 +43,15 @@ module _ {F T X : Type 0} {its : ℕ → Lent} where
   AreRefusedSo (x ∷ xs) (stays owner y p) = Unit {0}
   AreRefusedSo (x ∷ xs) (leads c call rest before now after y m z p shown others many how on) =
       (asks_memory wakes c p call ≡ true → c.refusal ≡ x.refusal) × AreRefusedSo xs on
+
+-- and so from the executor's drop on: memory is refused as in the acts
+module _ {T X : Type 0} where
+  abbrev pub AreLastRefusedSo : Machine → List Act → Plain T (SoloWaker X) → List (Choice × Call T (SoloWaker X)) → Type 0
+  AreLastRefusedSo s (a ∷ acts) p (x ∷ xs) =
+      (asks_memory wakes x.0 p x.1 ≡ true → x.0.refusal ≡ refused_in s a)
+      × AreLastRefusedSo a.left acts (does wakes x.0 x.1 p) xs
+  AreLastRefusedSo s acts p xs = Unit {0}
+
+  abbrev pub EndRefusedSo : Act → List Act → Plain T (SoloWaker X) → List (Choice × Call T (SoloWaker X)) → Type 0
+  EndRefusedSo a acts p [] = Unit {0}
+  EndRefusedSo a acts p (x ∷ xs) = AreLastRefusedSo a.left acts (does wakes x.0 x.1 p) xs

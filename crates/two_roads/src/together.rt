@@ -21,6 +21,7 @@ ghost use Rattle.solo_laws.specs.Closing.{IsClosed};
 ghost use Rattle.solo_laws.specs.Courses.{Leads};
 ghost use Rattle.solo_laws.specs.LastCalls.{LastCalls};
 ghost use Rattle.queue_steps.specs.ClosableQueue.{most_accepted};
+ghost use Rattle.solo_laws.specs.LastMaking.{HappenLast, MayDrop};
 ghost use Rattle.solo_laws.specs.Making.{Goes, MayGo, Wish, by_number, queued_by};
 ghost use Rattle.solo_laws.specs.Owner.{Owner, new_owner};
 ghost use Rattle.solo_laws.specs.Road.{wakes};
@@ -28,7 +29,7 @@ ghost use Rattle.solo_laws.specs.Tabled.{Stands};
 ghost use Rattle.two_roads.specs.Acting.{AreOfSteps, EndOfSteps, acts_by, drop_acts_by, left_of};
 ghost use Rattle.two_roads.specs.Renaming.{AreSame};
 ghost use Rattle.two_roads.specs.Together.{TellsOf, as_heard, left_by, made_by, nothing, numbered};
-ghost use Rattle.two_roads.specs.Wishing.{AreRefusedSo, AreWishesOfSteps};
+ghost use Rattle.two_roads.specs.Wishing.{AreLastWishesOfSteps, AreRefusedSo, AreWishesOfSteps, EndRefusedSo};
 
 /// A list of lone calls of a new machine is one of the plain scheduler's, and so is a list of calls of a new executor of one owner.
 /// Where these are the same calls, with the same ends of polls and drops and the same refusals, both then stand where one plain
@@ -139,9 +140,28 @@ pub fn calls_end_alike<F, T, X>()
         → counts solo_kind ≡ not (is_static_kind kind)
         → (led : Leads its calls (new_owner before) first (new limit (is_static_kind kind)) shown after middle)
         → LastCalls its middle (course wakes calls (new limit (is_static_kind kind))) ends others last
-        → (course wakes calls (new limit (is_static_kind kind))).inside ≡ []
         → AreOfSteps number (start limit kind parties) acts led
         → EndOfSteps number a later (course wakes calls (new limit (is_static_kind kind))) ends
         → IsClosed its last (course wakes (calls ++ ends) (new limit (is_static_kind kind)))
         × (heard_in (left_of a.left later).world.trace ≡ as_heard number (shown ++ others)) }
+{}
+
+/// And there are such lists of calls for each list of wishes that are the machine's acts up to the executor's drop, and for each that are
+/// those behind its begin, where the owner may make each of the first, and may drop the executor and make each of the others, wherever those
+/// before them have led. Where memory is refused in them as in the acts, the machine's trace tells of what they show.
+pub fn wished_calls_end_alike<F, T, X>()
+    ensures { (future : F) (number : X → ℕ) (limit : ℕ) (kind : MachineKind) (solo_kind : Kind) (parties : ℕ) (acts : List Act)
+        (a : Act) (later : List Act) (xs ends : List (Wish T (SoloWaker X))) (x : Wish T (SoloWaker X)) (first : Solo F T X)
+        (before : Who → ℕ) → AreActs (start limit kind parties) acts
+        → IsQuiet (left_by_acts (start limit kind parties) acts).world.trace → IsAct (left_by_acts (start limit kind parties) acts) a
+        → a.first ≡ Begin a.party DropsExecutor → AreDropActs a.left later → IsNew limit solo_kind first
+        → counts solo_kind ≡ not (is_static_kind kind)
+        → AreWishesOfSteps number (start limit kind parties) acts xs → AreLastWishesOfSteps number a.left later ends
+        → queued_by limit xs ≤ most_accepted → MayGo by_number xs (new_owner before) first (new limit (is_static_kind kind))
+        → ((go : Goes by_number xs (new_owner before) first (new limit (is_static_kind kind)))
+        → MayDrop by_number go.after (course wakes go.calls (new limit (is_static_kind kind))) x ends)
+        → (go : Goes by_number xs (new_owner before) first (new limit (is_static_kind kind)))
+        × (last : HappenLast by_number go.after (course wakes go.calls (new limit (is_static_kind kind))) (x ∷ ends))
+        × (AreRefusedSo xs go.leads → EndRefusedSo a later (course wakes go.calls (new limit (is_static_kind kind))) last.calls
+        → heard_in (left_of a.left later).world.trace ≡ as_heard number (go.shown ++ last.shown)) }
 {}

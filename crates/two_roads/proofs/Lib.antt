@@ -27,4 +27,5 @@ pub mod Acted
 pub mod ActedToEnd
 pub mod InStep
 pub mod InStepToEnd
+pub mod RefusedAlike
 pub mod Wished

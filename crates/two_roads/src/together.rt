@@ -29,7 +29,7 @@ ghost use Rattle.solo_laws.specs.Tabled.{Stands};
 ghost use Rattle.two_roads.specs.Acting.{AreOfSteps, EndOfSteps, acts_by, drop_acts_by, left_of};
 ghost use Rattle.two_roads.specs.Renaming.{AreSame};
 ghost use Rattle.two_roads.specs.Together.{TellsOf, as_heard, left_by, made_by, nothing, numbered};
-ghost use Rattle.two_roads.specs.Wishing.{AreLastWishesOfSteps, AreRefusedSo, AreWishesOfSteps, EndRefusedSo};
+ghost use Rattle.two_roads.specs.Wishing.{AreLastWishesOfSteps, AreRefusedAlike, AreWishesOfSteps, EndRefusedSo};
 
 /// A list of lone calls of a new machine is one of the plain scheduler's, and so is a list of calls of a new executor of one owner.
 /// Where these are the same calls, with the same ends of polls and drops and the same refusals, both then stand where one plain
@@ -125,7 +125,7 @@ pub fn wished_calls_show_alike<F, T, X>()
         → AreWishesOfSteps number (start limit kind parties) acts xs → queued_by limit xs ≤ most_accepted
         → MayGo by_number xs (new_owner before) first (new limit (is_static_kind kind))
         → (go : Goes by_number xs (new_owner before) first (new limit (is_static_kind kind)))
-        × (AreRefusedSo xs go.leads
+        × (AreRefusedAlike (start limit kind parties) acts go.leads
         → heard_in (left_of (start limit kind parties) acts).world.trace ≡ as_heard number go.shown) }
 {}
 
@@ -162,6 +162,6 @@ pub fn wished_calls_end_alike<F, T, X>()
         → MayDrop by_number go.after (course wakes go.calls (new limit (is_static_kind kind))) x ends)
         → (go : Goes by_number xs (new_owner before) first (new limit (is_static_kind kind)))
         × (last : HappenLast by_number go.after (course wakes go.calls (new limit (is_static_kind kind))) (x ∷ ends))
-        × (AreRefusedSo xs go.leads → EndRefusedSo a later (course wakes go.calls (new limit (is_static_kind kind))) last.calls
+        × (AreRefusedAlike (start limit kind parties) acts go.leads → EndRefusedSo a later (course wakes go.calls (new limit (is_static_kind kind))) last.calls
         → heard_in (left_of a.left later).world.trace ≡ as_heard number (go.shown ++ last.shown)) }
 {}

@@ -1,4 +1,4 @@
-use Rattle.executor_model.specs.Steps.{is_static_kind, start}
+use Rattle.executor_model.specs.Steps.{is_static_kind}
 use Rattle.plain_scheduler.specs.Calls.{course, new}
 use Rattle.solo_laws.proofs.Happening.LastCalls.{last_calls_happen}
 use Rattle.solo_laws.proofs.Happening.Lists.{lists_happen}
@@ -29,7 +29,7 @@ returns g c future number limit kind solo_kind parties acts a later xs ends x fi
       λ refused last_refused.
           (steps_end_together by_number number limit kind solo_kind parties acts a later go.calls last.calls first go.after last.after
           go.shown last.shown before go.now they quiet acts_so begins they_too is_new counted go.leads last.last
-          (of_wishes by_number number acts (start limit kind parties) xs go.calls (new_owner before) go.now first go.after q go.shown
-          go.leads wishes go.wished refused)
+          (of_wishes by_number number limit kind parties acts xs go.calls (new_owner before) go.now first go.after q go.shown
+          go.leads they wishes go.wished refused)
           (end_of_wishes number a later p x ends last.calls (drop go).call last_wishes last.wished last_refused)).1,
     )

@@ -1,4 +1,4 @@
-use Rattle.executor_model.specs.Steps.{is_static_kind, start}
+use Rattle.executor_model.specs.Steps.{is_static_kind}
 use Rattle.plain_scheduler.specs.Calls.{new}
 use Rattle.solo_laws.proofs.Happening.Lists.{lists_happen}
 use Rattle.solo_laws.specs.Making.{by_number}
@@ -15,6 +15,6 @@ returns g c future number limit kind solo_kind parties acts xs first before they
           (steps_together by_number number limit kind solo_kind parties acts go.calls first go.after go.shown before go.now they is_new
           counted
           go.leads
-          (of_wishes by_number number acts (start limit kind parties) xs go.calls (new_owner before) go.now first go.after
-          (new limit (is_static_kind kind)) go.shown go.leads wishes go.wished refused)).1,
+          (of_wishes by_number number limit kind parties acts xs go.calls (new_owner before) go.now first go.after
+          (new limit (is_static_kind kind)) go.shown go.leads they wishes go.wished refused)).1,
     )

@@ -67,7 +67,7 @@ at_rest (a ∷ acts) s reached p q so are all quiet =
 module _ (limit : ℕ) (kind : Kind) (parties : ℕ) (acts : List Act) (are : AreActs (start limit kind parties) acts)
     (quiet : IsQuiet (left_by (start limit kind parties) acts).world.trace)
     (all : ActAlike (start limit kind parties) (new limit (is_static_kind kind)) acts) where
-  at_rest_behind : AtRest (left_by (start limit kind parties) acts)
+  pub at_rest_behind : AtRest (left_by (start limit kind parties) acts)
       (plain_behind acts (start limit kind parties) (new limit (is_static_kind kind)) all)
   at_rest_behind =
       let s = start limit kind parties in

@@ -29,3 +29,5 @@ pub mod InStep
 pub mod InStepToEnd
 pub mod RefusedAlike
 pub mod Wished
+pub mod LoneActs
+pub mod AtRest

@@ -5,7 +5,7 @@ ghost use Rattle.executor_model.specs.Steps.{is_static_kind, start};
 ghost use Rattle.executor_model.specs.declared.call.Call.TheVariants.{DropExecutor as DropsExecutor};
 ghost use Rattle.executor_model.specs.declared.step.Step.TheVariants.{Begin};
 ghost use Rattle.executor_model.specs.declared.kind.Kind.{Kind as MachineKind};
-ghost use Rattle.machine_roads.specs.Course.{GoAlike, Lone};
+ghost use Rattle.machine_roads.specs.Course.{AreLone, GoAlike, Lone};
 ghost use Rattle.machine_roads.specs.DropActs.{AreDropActs, DropActAlike, StandsDropping, left_by as left_by_acts, plain_behind};
 ghost use Rattle.machine_roads.specs.Seeing.{heard_in};
 ghost use Rattle.machine_roads.specs.View.{wakes as wakes_in};
@@ -27,6 +27,7 @@ ghost use Rattle.solo_laws.specs.Owner.{Owner, new_owner};
 ghost use Rattle.solo_laws.specs.Road.{wakes};
 ghost use Rattle.solo_laws.specs.Tabled.{Stands};
 ghost use Rattle.two_roads.specs.Acting.{AreOfSteps, EndOfSteps, acts_by, drop_acts_by, left_of};
+ghost use Rattle.two_roads.specs.LoneActs.{acts_of};
 ghost use Rattle.two_roads.specs.Renaming.{AreSame};
 ghost use Rattle.two_roads.specs.Together.{TellsOf, as_heard, left_by, made_by, nothing, numbered};
 ghost use Rattle.two_roads.specs.Wishing.{AreLastWishesOfSteps, AreRefusedAlike, AreWishesOfSteps, EndRefusedSo};
@@ -127,6 +128,31 @@ pub fn wished_calls_show_alike<F, T, X>()
         → (go : Goes by_number xs (new_owner before) first (new limit (is_static_kind kind)))
         × (AreRefusedAlike (start limit kind parties) acts go.leads
         → heard_in (left_of (start limit kind parties) acts).world.trace ≡ as_heard number go.shown) }
+{}
+
+/// Once no call is in progress any more the machine also stands where one plain scheduler does, and with it the executor.
+pub fn calls_rest_alike<F, T, X>()
+    ensures { (its : ℕ → Lent) (number : X → ℕ) (limit : ℕ) (kind : MachineKind) (solo_kind : Kind) (parties : ℕ) (acts : List Act)
+        (calls : List (Choice × Call T (SoloWaker X))) (first last : Solo F T X) (shown : List (Event T (SoloWaker X)))
+        (before : Who → ℕ) (after : Owner) → AreActs (start limit kind parties) acts
+        → IsQuiet (left_of (start limit kind parties) acts).world.trace
+        → IsNew limit solo_kind first → counts solo_kind ≡ not (is_static_kind kind)
+        → (led : Leads its calls (new_owner before) first (new limit (is_static_kind kind)) shown after last)
+        → AreOfSteps number (start limit kind parties) acts led
+        → let p = course wakes calls (new limit (is_static_kind kind)) in
+        Stands its last p × TellsOf number (left_of (start limit kind parties) acts) p shown }
+{}
+
+/// So it is for each list of lone calls, each with all the ends of user code that it comes to: these are acts.
+pub fn lone_calls_show_alike<F, T, X>()
+    ensures { (its : ℕ → Lent) (number : X → ℕ) (limit : ℕ) (kind : MachineKind) (solo_kind : Kind) (parties : ℕ) (ls : List Lone)
+        (calls : List (Choice × Call T (SoloWaker X))) (first last : Solo F T X) (shown : List (Event T (SoloWaker X)))
+        (before : Who → ℕ) (after : Owner) → AreLone (start limit kind parties) ls
+        → IsNew limit solo_kind first → counts solo_kind ≡ not (is_static_kind kind)
+        → (led : Leads its calls (new_owner before) first (new limit (is_static_kind kind)) shown after last)
+        → AreOfSteps number (start limit kind parties) (acts_of (start limit kind parties) ls) led
+        → let p = course wakes calls (new limit (is_static_kind kind)) in
+        Stands its last p × TellsOf number (left_by (start limit kind parties) ls) p shown }
 {}
 
 /// And so to the end: from the executor's drop on, once no call is in progress any more, with the calls made in the drops of its futures

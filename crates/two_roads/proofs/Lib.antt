@@ -31,3 +31,4 @@ pub mod RefusedAlike
 pub mod Wished
 pub mod LoneActs
 pub mod AtRest
+pub mod DropAtRest

@@ -228,3 +228,48 @@ lone_acts (l ∷ ls) s reached quiet lone made =
 pub left_same : (acts : List Act) (s : Machine) → left_by_acts s acts ≡ left_of s acts
 left_same [] s = refl
 left_same (a ∷ acts) s = left_same acts a.left
+
+-- from the executor's drop on whatever calls these are
+drops_in : (acts : List Act) (s : Machine) → AreActs s acts → AreDropActs s acts
+drops_in [] s are = tt
+drops_in (a ∷ acts) s are = (are.0, drops_in acts a.left are.2)
+
+drops_both : (xs ys : List Act) (s : Machine) → AreDropActs s xs → AreDropActs (left_of s xs) ys → AreDropActs s (xs ++ ys)
+drops_both [] ys s one two = two
+drops_both (x ∷ xs) ys s one two = (one.0, drops_both xs ys x.left one.1 two)
+
+pub record AreDropsOfLone (s t : Machine) (acts : List Act) (ls : List Lone) : Type 0 where
+  pub are : AreDropActs s acts
+  pub left : left_of s acts ≡ left_by t ls
+  pub quiet : IsQuiet (left_by t ls).world.trace
+
+-- behind the begin of the first
+behind_by : (l : Lone) (ls : List Lone) (s : Machine) → Reached s → IsQuiet s.world.trace → IsLoneCall l.party l.call l.steps s l.left
+    → AreDropsOfLone l.left l.left (acts_of l.left ls) ls
+    → AreDropsOfLone (cut_of s l).left l.left ((cut_of s l).later ++ acts_of l.left ls) ls
+behind_by l ls s reached quiet lone rest =
+    let c = is_cut s reached quiet l lone in
+    let later = (cut_of s l).later in
+    record {
+      are =
+          drops_both later (acts_of l.left ls) (cut_of s l).left (drops_in later (cut_of s l).left c.are)
+          (subst (λ m. AreDropActs m (acts_of l.left ls)) (sym c.behind) rest.are);
+      left =
+          left_of_both later (acts_of l.left ls) (cut_of s l).left
+          ∙ (ap (λ m. left_of m (acts_of l.left ls)) c.behind ∙ rest.left);
+      quiet = rest.quiet;
+    }
+
+lone_drop_acts : (ls : List Lone) (s : Machine) → Reached s → IsQuiet s.world.trace → AreLone s ls → AreDropsOfLone s s (acts_of s ls) ls
+lone_drop_acts [] s reached quiet lone = record { are = tt; left = refl; quiet = quiet }
+lone_drop_acts (l ∷ ls) s reached quiet lone =
+    let rest =
+    behind_by l ls s reached quiet lone.0
+    (lone_drop_acts ls l.left (reached_left s reached quiet l lone.0) lone.0.ended lone.1) in
+    record { are = (lone_act s reached quiet l lone.0, rest.are); left = rest.left; quiet = rest.quiet }
+
+pub lone_behind : (l : Lone) (ls : List Lone) (s : Machine) → Reached s → IsQuiet s.world.trace → AreLone s (l ∷ ls)
+    → AreDropsOfLone (cut_of s l).left l.left ((cut_of s l).later ++ acts_of l.left ls) ls
+lone_behind l ls s reached quiet lone =
+    behind_by l ls s reached quiet lone.0
+    (lone_drop_acts ls l.left (reached_left s reached quiet l lone.0) lone.0.ended lone.1)

@@ -5,7 +5,7 @@ ghost use Rattle.executor_model.specs.Steps.{is_static_kind, start};
 ghost use Rattle.executor_model.specs.declared.call.Call.TheVariants.{DropExecutor as DropsExecutor};
 ghost use Rattle.executor_model.specs.declared.step.Step.TheVariants.{Begin};
 ghost use Rattle.executor_model.specs.declared.kind.Kind.{Kind as MachineKind};
-ghost use Rattle.machine_roads.specs.Course.{AreLone, GoAlike, Lone};
+ghost use Rattle.machine_roads.specs.Course.{AreLone, Lone};
 ghost use Rattle.machine_roads.specs.DropActs.{AreDropActs, DropActAlike, StandsDropping, left_by as left_by_acts, plain_behind};
 ghost use Rattle.machine_roads.specs.Seeing.{heard_in};
 ghost use Rattle.machine_roads.specs.View.{wakes as wakes_in};
@@ -27,39 +27,41 @@ ghost use Rattle.solo_laws.specs.Owner.{Owner, new_owner};
 ghost use Rattle.solo_laws.specs.Road.{wakes};
 ghost use Rattle.solo_laws.specs.Tabled.{Stands};
 ghost use Rattle.two_roads.specs.Acting.{AreOfSteps, EndOfSteps, acts_by, drop_acts_by, left_of};
-ghost use Rattle.two_roads.specs.LoneActs.{acts_of};
+ghost use Rattle.two_roads.specs.LoneActs.{acts_of, cut_of, first_act};
 ghost use Rattle.two_roads.specs.Renaming.{AreSame};
-ghost use Rattle.two_roads.specs.Together.{TellsOf, as_heard, left_by, made_by, nothing, numbered};
+ghost use Rattle.two_roads.specs.Together.{TellsOf, as_heard, left_by, nothing, numbered};
 ghost use Rattle.two_roads.specs.Wishing.{AreLastWishesOfSteps, AreRefusedAlike, AreWishesOfSteps, EndRefusedSo};
 
-/// A list of lone calls of a new machine is one of the plain scheduler's, and so is a list of calls of a new executor of one owner.
-/// Where these are the same calls, with the same ends of polls and drops and the same refusals, both then stand where one plain
-/// scheduler does, and the machine's trace tells of the polls, drops, calls of wakers and answers that the executor shows, in order.
+/// A list of lone calls of a new machine is one of acts, each up to where user code has to answer: where these are a list of calls of a new
+/// executor of one owner, both then stand where one plain scheduler does, and the machine's trace tells of the polls, drops, calls of wakers
+/// and answers that the executor shows, in order. So each call is to be what the machine's step begins or answers, memory refused to it as
+/// in the act, and a run that robs another to look for whom from the same word on; nothing is asked of what else they choose.
 pub fn both_show_alike<F, T, X>()
     ensures { (its : ℕ → Lent) (number : X → ℕ) (limit : ℕ) (kind : MachineKind) (solo_kind : Kind) (parties : ℕ) (ls : List Lone)
-        (go : GoAlike (start limit kind parties) (new limit (is_static_kind kind)) ls) (calls : List (Choice × Call T (SoloWaker X)))
-        (first last : Solo F T X) (shown : List (Event T (SoloWaker X))) (before : Who → ℕ) (after : Owner) → IsNew limit solo_kind first
-        → counts solo_kind ≡ not (is_static_kind kind)
-        → Leads its calls (new_owner before) first (new limit (is_static_kind kind)) shown after last
-        → AreSame nothing (numbered number) wakes calls (new limit (is_static_kind kind))
-        (made_by (start limit kind parties) (new limit (is_static_kind kind)) ls go)
+        (calls : List (Choice × Call T (SoloWaker X))) (first last : Solo F T X) (shown : List (Event T (SoloWaker X)))
+        (before : Who → ℕ) (after : Owner) → AreLone (start limit kind parties) ls
+        → IsNew limit solo_kind first → counts solo_kind ≡ not (is_static_kind kind)
+        → (led : Leads its calls (new_owner before) first (new limit (is_static_kind kind)) shown after last)
+        → AreOfSteps number (start limit kind parties) (acts_of (start limit kind parties) ls) led
         → let p = course wakes calls (new limit (is_static_kind kind)) in
         Stands its last p × TellsOf number (left_by (start limit kind parties) ls) p shown }
 {}
 
 /// And so it is where these lists end with the executor's drop, with what is called while its futures are dropped and behind that.
 pub fn both_end_alike<F, T, X>()
-    ensures { (its : ℕ → Lent) (number : X → ℕ) (limit : ℕ) (kind : MachineKind) (solo_kind : Kind) (parties : ℕ) (ls : List Lone)
-        (go : GoAlike (start limit kind parties) (new limit (is_static_kind kind)) ls)
-        (calls ends : List (Choice × Call T (SoloWaker X))) (first middle last : Solo F T X)
-        (shown others : List (Event T (SoloWaker X))) (before : Who → ℕ) (after : Owner) → IsNew limit solo_kind first
-        → counts solo_kind ≡ not (is_static_kind kind)
-        → Leads its calls (new_owner before) first (new limit (is_static_kind kind)) shown after middle
+    ensures { (its : ℕ → Lent) (number : X → ℕ) (limit : ℕ) (kind : MachineKind) (solo_kind : Kind) (parties : ℕ) (ls more : List Lone)
+        (drop : Lone) (calls ends : List (Choice × Call T (SoloWaker X))) (first middle last : Solo F T X)
+        (shown others : List (Event T (SoloWaker X))) (before : Who → ℕ) (after : Owner)
+        → AreLone (start limit kind parties) ls → drop.call ≡ DropsExecutor → AreLone (left_by (start limit kind parties) ls) (drop ∷ more)
+        → IsNew limit solo_kind first → counts solo_kind ≡ not (is_static_kind kind)
+        → (led : Leads its calls (new_owner before) first (new limit (is_static_kind kind)) shown after middle)
         → LastCalls its middle (course wakes calls (new limit (is_static_kind kind))) ends others last
-        → AreSame nothing (numbered number) wakes (calls ++ ends) (new limit (is_static_kind kind))
-        (made_by (start limit kind parties) (new limit (is_static_kind kind)) ls go)
+        → AreOfSteps number (start limit kind parties) (acts_of (start limit kind parties) ls) led
+        → let s = left_by (start limit kind parties) ls in
+        EndOfSteps number (first_act s drop) ((cut_of s drop).later ++ acts_of drop.left more)
+        (course wakes calls (new limit (is_static_kind kind))) ends
         → let p = course wakes (calls ++ ends) (new limit (is_static_kind kind)) in
-        IsClosed its last p × TellsOf number (left_by (start limit kind parties) ls) p (shown ++ others) }
+        IsClosed its last p × TellsOf number (left_by drop.left more) p (shown ++ others) }
 {}
 
 /// So it is with calls one inside another, as a poll makes them: where the calls that the machine's parties begin, and the answers of
@@ -141,18 +143,6 @@ pub fn calls_rest_alike<F, T, X>()
         → AreOfSteps number (start limit kind parties) acts led
         → let p = course wakes calls (new limit (is_static_kind kind)) in
         Stands its last p × TellsOf number (left_of (start limit kind parties) acts) p shown }
-{}
-
-/// So it is for each list of lone calls, each with all the ends of user code that it comes to: these are acts.
-pub fn lone_calls_show_alike<F, T, X>()
-    ensures { (its : ℕ → Lent) (number : X → ℕ) (limit : ℕ) (kind : MachineKind) (solo_kind : Kind) (parties : ℕ) (ls : List Lone)
-        (calls : List (Choice × Call T (SoloWaker X))) (first last : Solo F T X) (shown : List (Event T (SoloWaker X)))
-        (before : Who → ℕ) (after : Owner) → AreLone (start limit kind parties) ls
-        → IsNew limit solo_kind first → counts solo_kind ≡ not (is_static_kind kind)
-        → (led : Leads its calls (new_owner before) first (new limit (is_static_kind kind)) shown after last)
-        → AreOfSteps number (start limit kind parties) (acts_of (start limit kind parties) ls) led
-        → let p = course wakes calls (new limit (is_static_kind kind)) in
-        Stands its last p × TellsOf number (left_by (start limit kind parties) ls) p shown }
 {}
 
 /// And so to the end: from the executor's drop on, once no call is in progress any more, with the calls made in the drops of its futures

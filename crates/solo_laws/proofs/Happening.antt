@@ -13,5 +13,7 @@ pub mod Lasting
 pub mod Vacant
 pub mod Free
 pub mod Wakers
-pub mod Lists
 pub mod LastCalls
+pub mod Heeding
+pub mod Refused
+pub mod Lists

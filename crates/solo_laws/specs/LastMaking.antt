@@ -13,15 +13,9 @@ use Rattle.plain_scheduler.specs.Calls.{does, living_from}
 use Rattle.solo_laws.specs.Closing.{Drains}
 use Rattle.solo_laws.specs.Dropping.{ends_one}
 use Rattle.solo_laws.specs.LastCalls.{LastCalls, Meanwhile}
-use Rattle.solo_laws.specs.Making.{Wish, copy_refusal}
+use Rattle.solo_laws.specs.Making.{AreWished, Wish, copy_refusal}
 use Rattle.solo_laws.specs.Road.{HasLife, IsNamed, drops, lents, wakes}
 use Rattle.solo_laws.specs.Tabled.{named}
-
--- each call is the one that was wished, and memory is refused as was decided
-abbrev pub AreWished : {T A : Type 0} → List (Wish T A) → List (Choice × Call T A) → Type 0
-AreWished [] [] = Unit {0}
-AreWished (x ∷ xs) (c ∷ cs) = (c.1 ≡ x.call) × (c.0.refusal ≡ x.refusal) × AreWished xs cs
-AreWished xs cs = ⊥
 
 module _ {F T X : Type 0} (its : ℕ → Lent) (s : Solo F T X) (p : Plain T (SoloWaker X)) where
   -- a call is on the task of a future that came, or the drop of an output ends

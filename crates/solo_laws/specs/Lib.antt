@@ -29,6 +29,7 @@ pub mod RunGoing
 pub mod RunCounting
 pub mod RunResting
 pub mod Led
+pub mod Heeding
 pub mod Making
 pub mod LastMaking
 pub mod Going

@@ -19,8 +19,8 @@ use Rattle.plain_scheduler.specs.Calls.{Leak, NewRun, NewTick, Pends, PollHandle
 use Rattle.plain_scheduler.specs.Calls.{does, is_granted}
 use Rattle.solo_laws.specs.Busy.{busy_in}
 use Rattle.solo_laws.specs.Courses.{Acts, Leads, Makes, copies, makes, makes_tick, polls, run_goes_on, run_looks, tick_lies_refused}
-use Rattle.solo_laws.specs.Courses.{tick_refused}
-use Rattle.solo_laws.specs.Courses.{leads, stays, tick_rests}
+use Rattle.solo_laws.specs.Courses.{leads, spawns, stays, tick_refused, tick_rests}
+use Rattle.solo_laws.specs.Heeding.{Fits}
 use Rattle.solo_laws.specs.Numbered.{ticker_of}
 use Rattle.solo_laws.specs.Owner.{Owner, has_tick}
 use Rattle.solo_laws.specs.Road.{HasLife, IsNamed, is_in, wakes}
@@ -139,6 +139,17 @@ module _ {F T X : Type 0} (its : ℕ → Lent) (c : Choice) (s : Solo F T X) (p 
   NamesTick name owner call shown now z (makes_tick t new granted) = t ≡ name
   NamesTick name owner call shown now z how = Unit {0}
 
+  -- a future that comes takes the last room in the table
+  abbrev pub Enters : (call : Call T (SoloWaker X)) (shown : List (Event T (SoloWaker X))) (z : Solo F T X)
+      → Makes its c s p call shown z → Type 0
+  Enters call shown z (spawns mark future spawned z' so is granted life few) = z'.table.has_room ≡ false
+  Enters call shown z how = Unit {0}
+
+  abbrev pub TakesRoom : (owner : Owner) (call : Call T (SoloWaker X)) (shown : List (Event T (SoloWaker X))) (now : Owner)
+      (z : Solo F T X) → Acts its owner c s p call shown now z → Type 0
+  TakesRoom owner call shown now z (makes call' shown' z' how) = Enters call' shown' z' how
+  TakesRoom owner call shown now z how = Unit {0}
+
 -- this is so of the waker by which a run is polled, in each user's code
 module _ {A : Type 0} (Is : A → Type 0) where
   abbrev pub PolledBy : Taker A → Type 0
@@ -183,7 +194,7 @@ module _ {F T X : Type 0} (its : ℕ → Lent) (owner : Owner) (s : Solo F T X) 
   MayEnd (DropOwn r answer ∷ rest) = Unit {0}
   MayEnd codes = ⊥
 
-  -- one more future takes memory
+  -- one more future takes memory, and so may be refused it
   abbrev pub HasNoRoom : Type 0
   HasNoRoom = s.table.has_room ≡ true → HasRoomFor s.cells.slab 1 → ⊥
 
@@ -241,6 +252,7 @@ module _ {F T X : Type 0} (its : ℕ → Lent) (owner : Owner) (s : Solo F T X) 
     pub refused : choice.refusal ≡ acted_as its choice s p owner x.call shown now after x.refusal acts
     pub starts : ActsFrom its choice s p x.first x.second owner x.call shown now after acts
     pub named_so : NamesTick its choice s p x.name owner x.call shown now after acts
+    pub room : TakesRoom its choice s p owner x.call shown now after acts
 
   -- the next future's name is free: no task has its key, and no entry that of its place
   pub record NextIsFree : Type 0 where
@@ -257,6 +269,12 @@ abbrev pub queued_by : {T A : Type 0} → ℕ → List (Wish T A) → ℕ
 queued_by limit [] = 0
 queued_by limit (x ∷ xs) = 6 * limit + 20 + queued_by limit xs
 
+-- each call is the one that was wished, and memory is refused as was decided
+abbrev pub AreWished : {T A : Type 0} → List (Wish T A) → List (Choice × Call T A) → Type 0
+AreWished [] [] = Unit {0}
+AreWished (x ∷ xs) (c ∷ cs) = (c.1 ≡ x.call) × (c.0.refusal ≡ x.refusal) × AreWished xs cs
+AreWished xs cs = ⊥
+
 module _ {F T X : Type 0} (its : ℕ → Lent) where
   -- each of these calls may be made where those before it have led, whatever was chosen in them
   abbrev pub MayGo : List (Wish T (SoloWaker X)) → Owner → Solo F T X → Plain T (SoloWaker X) → Type 0
@@ -264,6 +282,13 @@ module _ {F T X : Type 0} (its : ℕ → Lent) where
   MayGo (x ∷ xs) owner s p =
       Allows its owner s p x.refusal x.name x.call
       × ((it : Happens its owner s p x) → MayGo xs it.now it.after (does wakes it.choice x.call p))
+
+  -- and nothing but memory refuses them
+  abbrev pub MayHeed : List (Wish T (SoloWaker X)) → Owner → Solo F T X → Plain T (SoloWaker X) → Type 0
+  MayHeed [] owner s p = Unit {0}
+  MayHeed (x ∷ xs) owner s p =
+      (it : Happens its owner s p x)
+      → Fits its it.choice p x.refusal x.call × MayHeed xs it.now it.after (does wakes it.choice x.call p)
 
   -- a list of calls is of those, each as it is decided
   abbrev pub AsWished : List (Wish T (SoloWaker X)) → (calls : List (Choice × Call T (SoloWaker X))) (owner : Owner) (s : Solo F T X)
@@ -283,3 +308,4 @@ module _ {F T X : Type 0} (its : ℕ → Lent) where
     pub after : Solo F T X
     pub leads : Leads its calls owner s p shown now after
     pub wished : AsWished xs calls owner s p shown now after leads
+    pub heeds : MayHeed xs owner s p → AreWished xs calls

@@ -9,6 +9,7 @@ ghost use Rattle.solo.specs.declared.solo.Solo.{Solo};
 ghost use Rattle.plain_scheduler.specs.Calls.{new};
 ghost use Rattle.plain_scheduler.specs.State.{Plain, Who};
 ghost use Rattle.solo_laws.specs.Led.{IsLed};
+ghost use Rattle.solo_laws.specs.Heeding.{Fits};
 ghost use Rattle.solo_laws.specs.LastMaking.{HappenLast, MayDrop};
 ghost use Rattle.solo_laws.specs.Making.{Goes, Happens, MayCall, MayGo, NextIsFree, WakersAreKnown, Wish, by_number, queued_by};
 ghost use Rattle.solo_laws.specs.Owner.{Owner, new_owner};
@@ -19,6 +20,14 @@ pub fn each_call_happens<F, T, X>()
     ensures { (its : ℕ → Lent) (future : F) (owner : Owner) (s : Solo F T X) (p : Plain T (SoloWaker X)) (x : Wish T (SoloWaker X))
         → IsLed its owner s p → NextIsFree its owner s p → WakersAreKnown its owner s p → MayCall its owner s p x
         → Happens its owner s p x }
+{}
+
+/// Memory is then refused just as was wished, where each waker that the call copies is of a task that somebody has a waker of, with two
+/// references fewer than it may have, and where a copy for a second look is refused to none but who lies down anew.
+pub fn refusals_are_heeded<F, T, X>()
+    ensures { (its : ℕ → Lent) (owner : Owner) (s : Solo F T X) (p : Plain T (SoloWaker X)) (x : Wish T (SoloWaker X))
+        → IsLed its owner s p → (it : Happens its owner s p x) → Fits its it.choice p x.refusal x.call
+        → it.choice.refusal ≡ x.refusal }
 {}
 
 /// So, from new ones on, each list of calls of which each may be made where those before it have led, and which queue no more tasks than a

@@ -2,6 +2,7 @@ pub mod Words
 pub mod WaitingTasks
 pub mod HandedOut
 pub mod OnlyBegun
+pub mod IdleActs
 pub mod TakenInActs
 pub mod PollsShown
 pub mod Tasks

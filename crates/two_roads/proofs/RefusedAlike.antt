@@ -1,44 +1,44 @@
 -- A call that is refused memory as was wished is so as in the act that it is, where copies of tasks' wakers are.
-use Rattle.std.proofs.Common.{◌≡◌, ℕ, nat_lt, cond, Bool, true, false, List, [], ◌∷◌, ◌++◌, length, map, Some, refl, sym, ap, subst, ◌∙◌}
+use Rattle.std.proofs.Common.{◌≡◌, ℕ, ◌<◌, ◌≤◌, ◌^◌, nat_lt, cond, Bool, true, false, List, length, map, slice_get, Option, Some, None, refl}
+use Rattle.std.proofs.Common.{sym, ap, subst, ◌∙◌, arith}
 use Rattle.executor_model.specs.declared.op.Waker.{Waker}
 use Rattle.executor_model.specs.Steps.{Machine}
 use Rattle.task_moves.specs.AbstractTask as abstract
+use Rattle.task_moves.specs.AbstractTask.{AbstractTask}
+use Rattle.task_moves.specs.LocalTask.{references_of, token_by}
 use Rattle.solo.specs.declared.names.SoloWaker.{SoloWaker}
 use Rattle.solo.specs.declared.names.SoloWaker.TheVariants.{Task as OfTask, Outside}
 use Rattle.solo.specs.declared.owed.Lent.{Lent}
-use Rattle.solo.specs.declared.runs.Runner.{Runner}
 use Rattle.solo.specs.declared.solo.Solo.{Solo}
+use Rattle.solo.specs.Cells as cells
+use Rattle.solo.specs.Cells.{Kept}
 use Rattle.solo.specs.Solo as solo
 use Rattle.plain_scheduler.specs.Lists.{on}
-use Rattle.plain_scheduler.specs.State.{Answers, AtOnce, Cancelled, Choice, Code, Event, Gives, Granted, Later, Made, NoMemory, Pending, Plain}
-use Rattle.plain_scheduler.specs.State.{ARun, ATick, Drop, Lose, Poll, PollOwn, Refusal, Run}
-use Rattle.plain_scheduler.specs.Moves.{answers, copied, put, task, tell}
+use Rattle.plain_scheduler.specs.State.{Answers, AtOnce, Cancelled, Choice, Event, Future, Gives, Granted, Made, NoMemory, Pending, Plain}
+use Rattle.plain_scheduler.specs.State.{Refusal}
+use Rattle.plain_scheduler.specs.Moves.{answers, copied as copied_once, put, task, tell}
 use Rattle.plain_scheduler.specs.Moves as moves
 use Rattle.plain_scheduler.specs.Calls as calls
-use Rattle.plain_scheduler.specs.Calls.{Call, Ends, Pends, does, is_granted}
-use Rattle.machine_roads.specs.Refused.{in_vain}
+use Rattle.plain_scheduler.specs.Calls.{Call, does, is_granted}
 use Rattle.machine_roads.specs.Road.{uncalled}
 use Rattle.machine_roads.specs.Seeing.{heard_in, shown as shown_alike}
 use Rattle.machine_roads.specs.View.{Output, wakes as wakes_in}
 use Rattle.machine_roads.specs.Within.{Act, ActsBy, IsMade, start_in}
 use Rattle.solo_laws.specs.Courses.{Acts, Makes, cancels, copies, detaches, drops_handle, ends_closed, ends_given, gives, leaks, looks, loses}
-use Rattle.solo_laws.specs.Courses.{makes, makes_no_run, makes_no_tick, makes_run, makes_tick, over_dropped, over_polled, own_ready, pends, polls, refuses, releases}
-use Rattle.solo_laws.specs.Courses.{run_dropped, run_drops, run_leaves, run_polled, tick_leaves}
-use Rattle.solo_laws.specs.Courses.{run_goes_on, run_looks, run_loses, spawns, takes, tick_lies_refused, tick_refused, tick_rests, tick_takes}
-use Rattle.solo_laws.specs.Courses.{uses, wakes}
-use Rattle.solo_laws.specs.Making.{PolledIn, acted_as, behind, copy_refusal, made_as, may_copy, ran_as, rest_refusal, run_refusal, searched_as}
-use Rattle.solo_laws.specs.Making.{tick_refusal}
-use Rattle.solo_laws.specs.Numbered.{ticker_of}
+use Rattle.solo_laws.specs.Courses.{makes, pends, polls, refuses, releases, run_drops, run_goes_on, run_loses, spawns, takes, uses, wakes}
+use Rattle.solo_laws.specs.Heeding.{Fits}
+use Rattle.solo_laws.specs.Making.{acted_as, copy_refusal, made_as}
 use Rattle.solo_laws.specs.Owner.{Owner}
-use Rattle.solo_laws.specs.Road.{wakes as wakes_of}
-use Rattle.solo_laws.specs.RunGoing.{IsEnding, RunsOn, Searches, Stage, code_at, gives_way, is_refused, lies_refused, looks_on, rests}
-use Rattle.solo_laws.specs.RunGoing.{Dropping, Losing, Polling, robs_another, takes_common, takes_own}
+use Rattle.solo_laws.specs.Road.{Follows, IsOver, TaskIs, wakes as wakes_of}
 use Rattle.solo_laws.specs.RunGoing.{drop_ends, loss_ends, poll_ends}
-use Rattle.solo_laws.specs.RunResting.{sleep_answer, slept_from}
 use Rattle.solo_laws.specs.Tabled.{named}
-use Rattle.solo_laws.specs.Ticking.{looks_again, slept_answer, slept_once}
-use Rattle.two_roads.specs.Refusing.{asks_memory, ends_refused, has_to_wait, refused_in, refused_so}
-use Rattle.two_roads.specs.Wishing.{RefusesAlike, RunWaitsAlike, WaitsAlike}
+use Rattle.solo_laws.proofs.Following.Cells.{asks_found, found, of_found}
+use Rattle.solo_laws.proofs.Following.Changing.{task_is}
+use Rattle.solo_laws.proofs.Following.Lists.{get_below}
+use Rattle.solo_laws.proofs.Happening.Refused.{acts_heed}
+use Rattle.solo_laws.proofs.Showing.Courses.{Known}
+use Rattle.two_roads.specs.Refusing.{asks_memory, ends_refused, refused_in, refused_so}
+use Rattle.two_roads.specs.Wishing.{RefusesAlike}
 use Rattle.two_roads.proofs.Acted.{seen_so}
 use Rattle.two_roads.proofs.Meant.{one_made}
 use Rattle.two_roads.proofs.Refusing.{Lie, last_is, same_test}
@@ -82,10 +82,10 @@ module _ (d : Choice) (q : Plain Output Waker) where
       (last_is (put f (abstract.poll w (task f q)).task q).events (Answers (Gives v)))
   polled_once f w abstract.Polled.Cancelled = granted_once (answers Cancelled q) (last_is q.events (Answers Cancelled))
   polled_once f w abstract.Polled.Waits =
-      either (calls.registered wakes_in d f w (copied wakes_in w q))
+      either (calls.registered wakes_in d f w (copied_once wakes_in w q))
       (last_is
-      (on (abstract.poll w (task f (copied wakes_in w q))).let_go (moves.let_go wakes_in (tell wakes_in d))
-      (put f (abstract.poll w (task f (copied wakes_in w q))).task (copied wakes_in w q))).events
+      (on (abstract.poll w (task f (copied_once wakes_in w q))).let_go (moves.let_go wakes_in (tell wakes_in d))
+      (put f (abstract.poll w (task f (copied_once wakes_in w q))).task (copied_once wakes_in w q))).events
       (Answers Pending)) (is_granted d.refusal)
 
   once : (made : Call Output Waker) → copies_waker made ≡ true → IsOnce (seen (does wakes_in d made q))
@@ -105,138 +105,103 @@ once_in s a q r by lie_there sees lie_then made is asked =
     (subst (λ (z : Plain Output Waker). IsOnce (seen by.choice q z)) (ap (λ m. does wakes_in by.choice m q) (sym same) ∙ by.so)
     (once by.choice q made asked))
 
--- who waits by a waker from outside is refused as was wished but where it doesn't look again
-waits_so : (again : Bool) (x r c : Refusal) → c ≡ rest_refusal true again true x → x ≡ r → (r ≡ Later → c ≡ Later) → c ≡ r
-waits_so true Granted r c is same later = is ∙ same
-waits_so true AtOnce r c is same later = is ∙ same
-waits_so true Later r c is same later = is ∙ same
-waits_so false Granted r c is same later = is ∙ same
-waits_so false AtOnce r c is same later = is ∙ same
-waits_so false Later r c is same later = later (sym same) ∙ same
-
-module _ {X : Type 0} (s : Machine) (a : Act) (c : Choice) (x : Refusal) (same : x ≡ refused_in s a) where
-  -- by the waker
-  waits_alike : (w : SoloWaker X) (one two again : Bool) → ((v : X) → w ≡ Outside v → (one ≡ true) × (two ≡ true))
-      → c.refusal ≡ rest_refusal one again two x → WaitsAlike s a c w → c.refusal ≡ refused_in s a
-  waits_alike (OfTask t) one two again may is alike = alike
-  waits_alike (Outside v) one two again may is alike =
-      let both = may v refl in
-      waits_so again x (refused_in s a) c.refusal
-      (is ∙ (ap (λ b. rest_refusal b again two x) both.0 ∙ ap (λ b. rest_refusal true again b x) both.1)) same alike
-
 copied_alike : (s : Machine) (a : Act) (c : Choice) (b : Bool) → c.refusal ≡ copy_refusal b → is_granted (refused_in s a) ≡ b
     → IsOnce (refused_in s a) → c.refusal ≡ refused_in s a
 copied_alike s a c b is alike once = is ∙ sym (once ∙ ap (λ b. copy_refusal b) alike)
 
--- a waker from outside may always be copied
-outside_may : {F T X : Type 0} (w : SoloWaker X) (one two : Solo F T X) (v : X) → w ≡ Outside v
-    → (may_copy w one ≡ true) × (may_copy w two ≡ true)
-outside_may (OfTask t) one two v is = absurd cc
-outside_may (Outside u) one two v is = (refl, refl)
+-- a task that has references is there, and has as many in the executor as in the plain scheduler
+module _ {F T X : Type 0} (its : ℕ → Lent) (y : Solo F T X) (p : Plain T (SoloWaker X)) (r : Follows (named its) y p) where
+  held_so : (f : ℕ) → f < length p.futures → 0 < references_of (task f p)
+      → solo.may_hold (named its f) y ≡ nat_lt (references_of (task f p)) (2 ^ 40)
+  held_so f at held =
+      let x = get_below p.futures f at in
+      by x.0 x.1 (found (named its f) y.cells) refl (subst (TaskIs (found (named its f) y.cells)) x.1 (r.tasks f at))
+    where
+      none_left : (t : AbstractTask T (SoloWaker X)) → IsOver t → 0 < references_of t → ⊥
+      none_left t over held =
+          let none = over.wakers in
+          let idle : token_by t.phase ≡ 0 = ap (λ phase. token_by phase) over.phase in
+          absurd (omega (arith, none, idle, held))
 
-module _ {F T X : Type 0} (its : ℕ → Lent) (s : Machine) (a : Act) (c : Choice) (x : Refusal) (same : x ≡ refused_in s a) where
-  module _ (owner : Owner) (y : Solo F T X) (p : Plain T (SoloWaker X)) (runner : Runner) (w : SoloWaker X)
-      (alike : WaitsAlike s a c w) where
-    -- a run that lies, or is refused memory
-    run_waits : (start : ℕ) → c.refusal ≡ run_refusal its owner c y p runner w start x → c.refusal ≡ refused_in s a
-    run_waits start is =
-        let ticker = ticker_of owner.number (ARun runner.number) p.lying in
-        let slept = slept_from runner.number start ticker w y in
-        waits_alike s a c x same w (may_copy w y) (may_copy w slept)
-        (looks_again (sleep_answer runner.number start ticker w y).look) (outside_may w y slept) is alike
+      by : (x : Future T (SoloWaker X)) → slice_get p.futures f ≡ Some x → (o : Option (Kept T X)) → found (named its f) y.cells ≡ o
+          → TaskIs o (Some x) → solo.may_hold (named its f) y ≡ nat_lt (references_of (task f p)) (2 ^ 40)
+      by x is None none over =
+          absurd (none_left x.task over (subst (λ (t : AbstractTask T (SoloWaker X)). 0 < references_of t) (task_is f p x is) held))
+      by x is (Some v) some of =
+          asks_found cells.may_hold false (named its f) y.cells
+          ∙ (ap (of_found cells.may_hold false) some
+          ∙ ap (λ (t : AbstractTask T (SoloWaker X)). nat_lt (references_of t) (2 ^ 40)) (of.task ∙ sym (task_is f p x is)))
 
-    searched_alike : (shown : List (Event T (SoloWaker X))) (now : Owner) (z : Solo F T X)
-        (how : Searches its owner c runner w y p shown now z) → c.refusal ≡ searched_as its owner c y p runner w shown now z x how
-        → c.refusal ≡ refused_in s a
-    searched_alike shown now z (takes_own start found first keeps life) is = is ∙ same
-    searched_alike shown now z (takes_common start found none first turn keeps life) is = is ∙ same
-    searched_alike shown now z (robs_another start found none nothing turn walks robs moves keeps life) is = is ∙ same
-    searched_alike shown now z (rests first second none turn granted names more life) is = run_waits first is
-    searched_alike shown now z (is_refused start none turn refused) is = run_waits start is
-    searched_alike shown now z (lies_refused first second none turn refused names again more life) is = run_waits first is
+module _ {F T X : Type 0} (its : ℕ → Lent) (s : Machine) (a : Act) (c : Choice) (x : Refusal) (same : x ≡ refused_in s a) (owner : Owner)
+    (y : Solo F T X) (p : Plain T (SoloWaker X)) (known : Known its owner y p) (many : length p.lying ≤ c.tells) where
+  made_alike : (call : Call T (SoloWaker X)) (shown : List (Event T (SoloWaker X))) (z : Solo F T X)
+      (how : Makes its c y p call shown z) → c.refusal ≡ made_as its owner c y p call shown z x how → RefusesAlike its s a c p call
+      → (copies_waker call ≡ true → IsOnce (refused_in s a)) → asks_memory wakes_of c p call ≡ true → c.refusal ≡ refused_in s a
+  made_alike call shown z (spawns mark future spawned z' so name granted life few) is alike once asks = is ∙ same
+  made_alike call shown z (refuses mark future refused z' so want) is alike once asks = is ∙ same
+  made_alike call shown z (takes first life) is alike once asks = is ∙ same
+  made_alike call shown z looks is alike once asks = is ∙ same
+  made_alike call shown z (wakes f at life) is alike once asks = is ∙ same
+  made_alike call shown z (uses f at life) is alike once asks = is ∙ same
+  made_alike call shown z (releases f at life) is alike once asks = is ∙ same
+  made_alike call shown z (copies f at so) is alike once asks =
+      copied_alike s a c (solo.may_hold (named its f) y) is (alike.1 ∙ sym (held_so its y p known.stands.0 f at alike.0)) (once refl)
+  made_alike call shown z (polls f (OfTask t) at handle names life) is alike once asks =
+      let of = (names t refl).0 in
+      let both = alike asks in
+      let held : solo.may_hold t y ≡ nat_lt (references_of (task t.number p)) (2 ^ 40) =
+      ap (λ u. solo.may_hold u y) (sym of.1) ∙ held_so its y p known.stands.0 t.number of.0 both.0 in
+      copied_alike s a c (solo.may_hold t y) is (both.1 ∙ sym held) (once refl)
+  made_alike call shown z (polls f (Outside v) at handle names life) is alike once asks = is ∙ same
+  made_alike call shown z (cancels f at life) is alike once asks = is ∙ same
+  made_alike call shown z (detaches f at life) is alike once asks = is ∙ same
+  made_alike call shown z (drops_handle f at life) is alike once asks = is ∙ same
+  made_alike call shown z (leaks owned life) is alike once asks = is ∙ same
+  made_alike call shown z (pends f by rest future one inside life) is alike once asks = is ∙ same
+  made_alike call shown z (gives f by rest v inside) is alike once asks = is ∙ same
+  made_alike call shown z (ends_given f v by rest one inside life) is alike once asks = is ∙ same
+  made_alike call shown z (ends_closed f by rest one inside life) is alike once asks = is ∙ same
+  made_alike call shown z (loses awaiter by rest one inside life) is alike once asks = is ∙ same
 
-    ran_alike : (shown : List (Event T (SoloWaker X))) (now : Owner) (z : Solo F T X)
-        (how : RunsOn its owner c runner w y p shown now z) → c.refusal ≡ ran_as its owner c y p runner w shown now z x how
-        → c.refusal ≡ refused_in s a
-    ran_alike shown now z (looks_on shown' now' z' less how) is = searched_alike shown' now' z' how is
-    ran_alike shown now z (gives_way enough names life) is = is ∙ same
+  -- where nothing but memory refuses it
+  fits_alike : (call : Call T (SoloWaker X)) (shown : List (Event T (SoloWaker X))) (now : Owner) (z : Solo F T X)
+      (how : Acts its owner c y p call shown now z) → c.refusal ≡ acted_as its c y p owner call shown now z x how
+      → Fits its c p (refused_in s a) call → c.refusal ≡ refused_in s a
+  fits_alike call shown now z how is fits =
+      acts_heed its owner c y p known many x call shown now z how is (subst (λ r. Fits its c p r call) (sym same) fits) ∙ same
 
-  module _ (y : Solo F T X) (p : Plain T (SoloWaker X)) where
-    made_alike : (owner : Owner) (call : Call T (SoloWaker X)) (shown : List (Event T (SoloWaker X))) (z : Solo F T X)
-        (how : Makes its c y p call shown z) → c.refusal ≡ made_as its owner c y p call shown z x how → RefusesAlike its s a c y p call
-        → (copies_waker call ≡ true → IsOnce (refused_in s a)) → asks_memory wakes_of c p call ≡ true → c.refusal ≡ refused_in s a
-    made_alike owner call shown z (spawns mark future spawned z' so name granted life few) is alike once asks = is ∙ same
-    made_alike owner call shown z (refuses mark future refused z' so want) is alike once asks = is ∙ same
-    made_alike owner call shown z (takes first life) is alike once asks = is ∙ same
-    made_alike owner call shown z looks is alike once asks = is ∙ same
-    made_alike owner call shown z (wakes f at life) is alike once asks = is ∙ same
-    made_alike owner call shown z (uses f at life) is alike once asks = is ∙ same
-    made_alike owner call shown z (releases f at life) is alike once asks = is ∙ same
-    made_alike owner call shown z (copies f at so) is alike once asks =
-        copied_alike s a c (solo.may_hold (named its f) y) is alike (once refl)
-    made_alike owner call shown z (polls f (OfTask t) at handle names life) is alike once asks =
-        copied_alike s a c (solo.may_hold t y) is (alike asks) (once refl)
-    made_alike owner call shown z (polls f (Outside v) at handle names life) is alike once asks = is ∙ same
-    made_alike owner call shown z (cancels f at life) is alike once asks = is ∙ same
-    made_alike owner call shown z (detaches f at life) is alike once asks = is ∙ same
-    made_alike owner call shown z (drops_handle f at life) is alike once asks = is ∙ same
-    made_alike owner call shown z (leaks owned life) is alike once asks = is ∙ same
-    made_alike owner call shown z (pends f by rest future one inside life) is alike once asks = is ∙ same
-    made_alike owner call shown z (gives f by rest v inside) is alike once asks = is ∙ same
-    made_alike owner call shown z (ends_given f v by rest one inside life) is alike once asks = is ∙ same
-    made_alike owner call shown z (ends_closed f by rest one inside life) is alike once asks = is ∙ same
-    made_alike owner call shown z (loses awaiter by rest one inside life) is alike once asks = is ∙ same
+  by_call : (call : Call T (SoloWaker X)) (shown : List (Event T (SoloWaker X))) (now : Owner) (z : Solo F T X)
+      (how : Acts its owner c y p call shown now z) → c.refusal ≡ acted_as its c y p owner call shown now z x how
+      → RefusesAlike its s a c p call → asks_memory wakes_of c p call ≡ true → copies_waker call ≡ false → c.refusal ≡ refused_in s a
+  by_call (calls.Copy f) shown now z how is alike asks aside = absurd cc
+  by_call (calls.PollHandle f w) shown now z how is alike asks aside = absurd cc
+  by_call call shown now z how is alike asks aside = fits_alike call shown now z how is alike
 
-    tick_waits : (owner : Owner) (t : ℕ) (w : SoloWaker X) → c.refusal ≡ tick_refusal its owner c y p t w x → WaitsAlike s a c w
-        → c.refusal ≡ refused_in s a
-    tick_waits owner t w is alike =
-        let ticker = ticker_of owner.number (ATick t) p.lying in
-        waits_alike s a c x same w (may_copy w y) (may_copy w (slept_once ticker w y)) (looks_again (slept_answer ticker w y).look)
-        (outside_may w y (slept_once ticker w y)) is alike
+  -- a call that copies a waker is made so, and no run goes on in it
+  copied : (call : Call T (SoloWaker X)) (shown : List (Event T (SoloWaker X))) (now : Owner) (z : Solo F T X)
+      (how : Acts its owner c y p call shown now z) → c.refusal ≡ acted_as its c y p owner call shown now z x how
+      → RefusesAlike its s a c p call → (copies_waker call ≡ true → IsOnce (refused_in s a)) → asks_memory wakes_of c p call ≡ true
+      → copies_waker call ≡ true → c.refusal ≡ refused_in s a
+  copied call shown now z (makes call' shown' z' how) is alike once asks on = made_alike call' shown' z' how is alike once asks
+  copied call shown now z (run_goes_on stage runner w rest call' before others now' y' z' its_runner inside (poll_ends f) made more) is
+      alike once asks on =
+      absurd cc
+  copied call shown now z (run_goes_on stage runner w rest call' before others now' y' z' its_runner inside (drop_ends f end) made more)
+      is alike once asks on =
+      absurd cc
+  copied call shown now z (run_goes_on stage runner w rest call' before others now' y' z' its_runner inside (loss_ends awaiter) made more)
+      is alike once asks on =
+      absurd cc
+  copied call shown now z (run_drops stage r w rest call' before f z' inside ending made) is alike once asks on = is ∙ same
+  copied call shown now z (run_loses stage r w rest call' before v z' inside ending made) is alike once asks on = is ∙ same
+  copied call shown now z how is alike once asks on = absurd cc
 
-    in_code : (code : Code T (SoloWaker X)) (rest : List (Code T (SoloWaker X))) → p.inside ≡ code ∷ rest
-        → RunWaitsAlike its s a c y p p.inside → PolledIn (WaitsAlike s a c) code
-    in_code code rest is alike = subst (λ codes. RunWaitsAlike its s a c y p codes) is alike
-
-    pub refused_alike : (owner : Owner) (call : Call T (SoloWaker X)) (shown : List (Event T (SoloWaker X))) (now : Owner) (z : Solo F T X)
-        (how : Acts its owner c y p call shown now z) → c.refusal ≡ acted_as its c y p owner call shown now z x how
-        → RefusesAlike its s a c y p call → (copies_waker call ≡ true → IsOnce (refused_in s a)) → asks_memory wakes_of c p call ≡ true
-        → c.refusal ≡ refused_in s a
-    refused_alike owner call shown now z (makes call' shown' z' how) is alike once asks =
-        made_alike owner call' shown' z' how is alike once asks
-    refused_alike owner call shown now z (makes_tick t new granted) is alike once asks = is ∙ same
-    refused_alike owner call shown now z (tick_takes t w found lives sought first life) is alike once asks = is ∙ same
-    refused_alike owner call shown now z (tick_rests t w lives none first granted names more life) is alike once asks =
-        tick_waits owner t w is (alike none)
-    refused_alike owner call shown now z (makes_run granted few) is alike once asks = is ∙ same
-    refused_alike owner call shown now z (makes_no_run refused) is alike once asks = is ∙ same
-    refused_alike owner call shown now z (run_polled runner w goes free) is alike once asks = is ∙ same
-    refused_alike owner call shown now z (over_polled r w gone) is alike once asks = is ∙ same
-    refused_alike owner call shown now z (own_ready r w v rest inside) is alike once asks = is ∙ same
-    refused_alike owner call shown now z (run_looks runner w rest shown' now' z' its_runner inside how) is alike once asks =
-        searched_alike owner y (record p { inside = rest }) runner w (in_code (PollOwn runner.number w) rest inside (alike asks))
-        shown' now' z' how is
-    refused_alike owner call shown now z
-        (run_goes_on stage runner w rest call' before others now' y' z' its_runner inside (poll_ends f) made on) is alike once asks =
-        ran_alike owner y' (behind its c y p (Polling f) rest Pends before) runner w
-        (in_code (Poll f (Run runner.number w)) rest inside (alike asks)) others now' z' on is
-    refused_alike owner call shown now z
-        (run_goes_on stage runner w rest call' before others now' y' z' its_runner inside (drop_ends f end) made on) is alike once
-        asks =
-        ran_alike owner y' (behind its c y p (Dropping f end) rest Ends before) runner w
-        (in_code (Drop f end (Run runner.number w)) rest inside (alike asks)) others now' z' on is
-    refused_alike owner call shown now z
-        (run_goes_on stage runner w rest call' before others now' y' z' its_runner inside (loss_ends awaiter) made on) is alike
-        once asks =
-        ran_alike owner y' (behind its c y p (Losing awaiter) rest Ends before) runner w
-        (in_code (Lose awaiter (Some (Run runner.number w))) rest inside (alike asks)) others now' z' on is
-    refused_alike owner call shown now z (run_drops stage r w rest call' before f z' inside ending made) is alike once asks = is ∙ same
-    refused_alike owner call shown now z (run_loses stage r w rest call' before v z' inside ending made) is alike once asks = is ∙ same
-    refused_alike owner call shown now z (run_dropped r goes free) is alike once asks = is ∙ same
-    refused_alike owner call shown now z (over_dropped r gone) is alike once asks = is ∙ same
-    refused_alike owner call shown now z (run_leaves runner answer rest inside life) is alike once asks = is ∙ same
-    refused_alike owner call shown now z (makes_no_tick refused) is alike once asks = is ∙ same
-    refused_alike owner call shown now z (tick_refused t w lives none first refused) is alike once asks = tick_waits owner t w is (alike none)
-    refused_alike owner call shown now z (tick_lies_refused t w lives none first refused names again more life) is alike once asks =
-        tick_waits owner t w is (alike none)
-    refused_alike owner call shown now z (tick_leaves t lives life) is alike once asks = is ∙ same
+  pub refused_alike : (call : Call T (SoloWaker X)) (shown : List (Event T (SoloWaker X))) (now : Owner) (z : Solo F T X)
+      (how : Acts its owner c y p call shown now z) → c.refusal ≡ acted_as its c y p owner call shown now z x how
+      → RefusesAlike its s a c p call → (copies_waker call ≡ true → IsOnce (refused_in s a)) → asks_memory wakes_of c p call ≡ true
+      → c.refusal ≡ refused_in s a
+  refused_alike call shown now z how is alike once asks = by (copies_waker call) refl
+    where
+      by : (b : Bool) → copies_waker call ≡ b → c.refusal ≡ refused_in s a
+      by true on = copied call shown now z how is alike once asks on
+      by false aside = by_call call shown now z how is alike asks aside

@@ -1,5 +1,5 @@
 -- A list of calls that is as was wished is of the machine's steps, where the wishes are.
-use Rattle.std.proofs.Common.{◌≡◌, ℕ, List, [], ◌∷◌, sym, subst, ◌∙◌}
+use Rattle.std.proofs.Common.{◌≡◌, ℕ, ◌++◌, List, [], ◌∷◌, sym, subst, ◌∙◌}
 use Rattle.std.proofs.Common.{◌==◌, refl, true}
 use Rattle.std.specs.Prelude.{reverse}
 use Rattle.executor_model.specs.declared.kind.Kind.{Kind as MachineKind}
@@ -19,10 +19,10 @@ use Rattle.machine_roads.specs.Within.{Act, ActAlike, AreActs, IsMade, StandsAli
 use Rattle.machine_roads.proofs.Acts.{acts_alike, goes_rest, taken_over}
 use Rattle.machine_roads.proofs.Calling.{begin_alike}
 use Rattle.solo_laws.specs.Courses.{Leads, leads, stays}
-use Rattle.solo_laws.specs.LastMaking.{AreWished}
-use Rattle.solo_laws.specs.Making.{ActsFrom, AsWished, Wish}
+use Rattle.solo_laws.specs.Making.{ActsFrom, AreWished, AsWished, Wish}
 use Rattle.solo_laws.specs.Owner.{Owner}
 use Rattle.solo_laws.specs.Road.{wakes}
+use Rattle.solo_laws.proofs.Showing.Courses.{Known, leads_alike}
 use Rattle.two_roads.specs.Acting.{AreEndsOfSteps, AreOfSteps, EndOfSteps}
 use Rattle.two_roads.specs.Renaming.{call_as}
 use Rattle.two_roads.specs.Together.{nothing, numbered}
@@ -75,26 +75,28 @@ module _ {F T X : Type 0} (its : ℕ → Lent) (number : X → ℕ) where
   wishes_so : (acts : List Act) (s : Machine) (xs : List (Wish T (SoloWaker X))) (cs : List (Choice × Call T (SoloWaker X)))
       (owner last : Owner) (y z : Solo F T X) (p : Plain T (SoloWaker X)) (shown : List (Event T (SoloWaker X)))
       (led : Leads its cs owner y p shown last z) → AreWishesOfSteps number s acts xs → AsWished its xs cs owner y p shown last z led
-      → AreRefusedAlike s acts led → AreOnce s acts → AreOfSteps number s acts led
-  wishes_so [] s [] cs owner last y z p shown (stays owner' y' p') wishes wished refused once = tt
-  wishes_so [] s [] cs owner last y z p shown (leads c call rest b now e t m v r first more many acts_so on) wishes wished refused once =
+      → AreRefusedAlike s acts led → AreOnce s acts → Known its owner y p → AreOfSteps number s acts led
+  wishes_so [] s [] cs owner last y z p shown (stays owner' y' p') wishes wished refused once known = tt
+  wishes_so [] s [] cs owner last y z p shown (leads c call rest b now e t m v r first more many acts_so on) wishes wished refused once known =
       absurd wished
-  wishes_so [] s (x ∷ xs) cs owner last y z p shown led wishes wished refused once = absurd wishes
-  wishes_so (a ∷ acts) s [] cs owner last y z p shown led wishes wished refused once = absurd wishes
-  wishes_so (a ∷ acts) s (x ∷ xs) cs owner last y z p shown (stays owner' y' p') wishes wished refused once = absurd wished
+  wishes_so [] s (x ∷ xs) cs owner last y z p shown led wishes wished refused once known = absurd wishes
+  wishes_so (a ∷ acts) s [] cs owner last y z p shown led wishes wished refused once known = absurd wishes
+  wishes_so (a ∷ acts) s (x ∷ xs) cs owner last y z p shown (stays owner' y' p') wishes wished refused once known = absurd wished
   wishes_so (a ∷ acts) s (x ∷ xs) cs owner last y z p shown (leads c call rest b now e t m v r first more many acts_so on) wishes wished
-      refused once =
+      refused once known =
       let made : IsMade s a.party a.first (call_as nothing (numbered number) call) =
       subst (λ o. IsMade s a.party a.first (call_as nothing (numbered number) o)) (sym wished.0) wishes.0.made in (
         record {
           made = made;
           refused =
-              refused_alike its s a c x.refusal wishes.0.refusal t r b call first now m acts_so wished.1 refused.0
+              refused_alike its s a c x.refusal wishes.0.refusal b t r known many call first now m acts_so wished.1 refused.0
               (λ copied. once.0 (call_as nothing (numbered number) call) made (copies_there number call copied));
         },
         λ y is found kept. (x.second, subst (λ n. ActsFrom its c t r n x.second b call first now m acts_so) wishes.0.first wished.2),
         wishes_so acts a.left xs rest now last m z (does wakes c call r) more on
-            wishes.1 wished.4 refused.1 once.1,
+            wishes.1 wished.4 refused.1 once.1
+            (leads_alike its ((c, call) ∷ []) b now t m r (first ++ []) known
+            (leads c call [] b now now t m m r first [] many acts_so (stays now m (does wakes c call r)))).0,
       )
 
   -- from new ones on
@@ -102,10 +104,11 @@ module _ {F T X : Type 0} (its : ℕ → Lent) (number : X → ℕ) where
       (cs : List (Choice × Call T (SoloWaker X))) (owner last : Owner) (y z : Solo F T X) (p : Plain T (SoloWaker X))
       (shown : List (Event T (SoloWaker X))) (led : Leads its cs owner y p shown last z) → AreActs (start limit kind parties) acts
       → AreWishesOfSteps number (start limit kind parties) acts xs → AsWished its xs cs owner y p shown last z led
-      → AreRefusedAlike (start limit kind parties) acts led → AreOfSteps number (start limit kind parties) acts led
-  of_wishes limit kind parties acts xs cs owner last y z p shown led are wishes wished refused =
+      → AreRefusedAlike (start limit kind parties) acts led → Known its owner y p
+      → AreOfSteps number (start limit kind parties) acts led
+  of_wishes limit kind parties acts xs cs owner last y z p shown led are wishes wished refused known =
       wishes_so acts (start limit kind parties) xs cs owner last y z p shown led wishes wished refused
-      (once_from limit kind parties acts are)
+      (once_from limit kind parties acts are) known
 
 module _ {T X : Type 0} (number : X → ℕ) where
   last_of_wishes : (acts : List Act) (s : Machine) (p : Plain T (SoloWaker X)) (xs : List (Wish T (SoloWaker X)))

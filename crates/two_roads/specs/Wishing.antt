@@ -1,22 +1,21 @@
 -- Calls that an executor's owner may wish to make, as the machine's acts are.
-use Rattle.std.specs.Prelude.{◌≡◌, ℕ, true, List, [], ◌∷◌, None}
+use Rattle.std.specs.Prelude.{◌≡◌, ℕ, ◌<◌, ◌^◌, nat_lt, true, List, [], ◌∷◌}
 use Rattle.task_moves.specs.AbstractTask as abstract
 use Rattle.executor_model.specs.Steps.{Machine}
 use Rattle.solo.specs.declared.names.SoloWaker.{SoloWaker}
 use Rattle.solo.specs.declared.names.SoloWaker.TheVariants.{Task as OfTask, Outside}
 use Rattle.solo.specs.declared.owed.Lent.{Lent}
 use Rattle.solo.specs.declared.solo.Solo.{Solo}
-use Rattle.solo.specs.Solo as solo
-use Rattle.plain_scheduler.specs.State.{Choice, Code, Event, Later, Plain}
+use Rattle.task_moves.specs.LocalTask.{references_of}
+use Rattle.plain_scheduler.specs.State.{Choice, Event, Plain}
 use Rattle.plain_scheduler.specs.Moves.{task}
-use Rattle.plain_scheduler.specs.Calls.{Call, Copy, Ends, Pends, PollHandle, PollTick, does, is_granted}
-use Rattle.machine_roads.specs.Refused.{in_vain}
+use Rattle.plain_scheduler.specs.Calls.{Call, Copy, PollHandle, does, is_granted}
 use Rattle.machine_roads.specs.Within.{Act, IsMade, start_in}
 use Rattle.solo_laws.specs.Courses.{Leads, leads, stays}
-use Rattle.solo_laws.specs.Making.{PolledIn, Wish}
+use Rattle.solo_laws.specs.Heeding.{Fits}
+use Rattle.solo_laws.specs.Making.{Wish}
 use Rattle.solo_laws.specs.Owner.{Owner}
 use Rattle.solo_laws.specs.Road.{wakes}
-use Rattle.solo_laws.specs.Tabled.{named}
 use Rattle.two_roads.specs.Refusing.{asks_memory, has_to_wait, refused_in}
 use Rattle.two_roads.specs.Renaming.{call_as}
 use Rattle.two_roads.specs.Together.{nothing, numbered}
@@ -40,36 +39,23 @@ module _ {T X : Type 0} (number : X → ℕ) where
       IsMade s a.party a.first (call_as nothing (numbered number) x.call) × AreLastWishesOfSteps a.left acts xs
   AreLastWishesOfSteps s acts xs = ⊥
 
--- a copy of a task's waker is refused in the act just where the executor's task has as many references as it may
-abbrev pub CopiesAlike : {F T X : Type 0} → Machine → Act → Solo F T X → SoloWaker X → Type 0
-CopiesAlike s a y (OfTask t) = is_granted (refused_in s a) ≡ solo.may_hold t y
-CopiesAlike s a y (Outside x) = Unit {0}
+module _ {T X : Type 0} (its : ℕ → Lent) (s : Machine) (a : Act) (c : Choice) (p : Plain T (SoloWaker X)) where
+  -- of a task that has references a copy of its waker is refused in the act just where it has as many as it may
+  abbrev pub CopiesAlike : ℕ → Type 0
+  CopiesAlike f = (0 < references_of (task f p)) × (is_granted (refused_in s a) ≡ nat_lt (references_of (task f p)) (2 ^ 40))
 
--- one that finds nothing is refused a copy of a task's waker as in the act; by a waker from outside, once it lies, where it is so there
-abbrev pub WaitsAlike : {X : Type 0} → Machine → Act → Choice → SoloWaker X → Type 0
-WaitsAlike s a c (OfTask t) = c.refusal ≡ refused_in s a
-WaitsAlike s a c (Outside x) = refused_in s a ≡ Later → c.refusal ≡ Later
-
-module _ {F T X : Type 0} (its : ℕ → Lent) (s : Machine) (a : Act) (c : Choice) (y : Solo F T X) (p : Plain T (SoloWaker X)) where
-  -- so is the run that is polled where the innermost code ends
-  abbrev pub RunWaitsAlike : List (Code T (SoloWaker X)) → Type 0
-  RunWaitsAlike [] = Unit {0}
-  RunWaitsAlike (code ∷ codes) = PolledIn (WaitsAlike s a c) code
-
-  -- nothing else is asked of what is refused in a call
+  -- nothing else is asked of what is refused in a call, but that nothing but memory refuses one that finds nothing
   abbrev pub RefusesAlike : Call T (SoloWaker X) → Type 0
-  RefusesAlike (Copy f) = CopiesAlike s a y (OfTask (named its f))
-  RefusesAlike (PollHandle f w) = has_to_wait (abstract.polled (task f p)) ≡ true → CopiesAlike s a y w
-  RefusesAlike (PollTick t w) = solo.sought y ≡ None → WaitsAlike s a c w
-  RefusesAlike Pends = in_vain wakes c Pends p ≡ true → RunWaitsAlike p.inside
-  RefusesAlike Ends = in_vain wakes c Ends p ≡ true → RunWaitsAlike p.inside
-  RefusesAlike call = Unit {0}
+  RefusesAlike (Copy f) = CopiesAlike f
+  RefusesAlike (PollHandle f (OfTask t)) = has_to_wait (abstract.polled (task f p)) ≡ true → CopiesAlike t.number
+  RefusesAlike (PollHandle f (Outside x)) = Unit {0}
+  RefusesAlike call = Fits its c p (refused_in s a) call
 
 module _ {F T X : Type 0} {its : ℕ → Lent} where
   abbrev pub AreRefusedAlike : Machine → List Act → {cs : List (Choice × Call T (SoloWaker X))} {before after : Owner} {y z : Solo F T X}
       {p : Plain T (SoloWaker X)} {shown : List (Event T (SoloWaker X))} → Leads its cs before y p shown after z → Type 0
   AreRefusedAlike s (a ∷ acts) (leads c call rest before now after y m z p shown others many how on) =
-      RefusesAlike its s a c y p call × AreRefusedAlike a.left acts on
+      RefusesAlike its s a c p call × AreRefusedAlike a.left acts on
   AreRefusedAlike s acts led = Unit {0}
 
 -- and so from the executor's drop on: memory is refused as in the acts

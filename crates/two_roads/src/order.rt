@@ -7,8 +7,8 @@ ghost use Rattle.executor_model.specs.declared.kind.Kind.{Kind as MachineKind};
 ghost use Rattle.machine_roads.specs.DropActs.{plain_behind};
 ghost use Rattle.machine_roads.specs.Road.{Follows};
 ghost use Rattle.machine_roads.specs.View.{wakes as wakes_in};
-ghost use Rattle.machine_roads.specs.Within.{Act, ActAlike};
-ghost use Rattle.plain_laws.specs.Order.{IsOnlyBegun, all_go_idle, is_urgent, of_mark, takes_alone};
+ghost use Rattle.machine_roads.specs.Within.{Act, ActAlike, AreActs};
+ghost use Rattle.plain_laws.specs.Order.{IsOnlyBegun, is_urgent, of_mark, takes_alone};
 ghost use Rattle.plain_scheduler.specs.Calls.{Call, course, new};
 ghost use Rattle.plain_scheduler.specs.Lists.{any};
 ghost use Rattle.plain_scheduler.specs.State.{Choice, Event, Who};
@@ -98,15 +98,13 @@ pub fn plain_futures_are_taken_in_order()
         ≡ all_wait_in r s.world ++ come_in r (λ q fs. fs) (line_of_all r) s q acts on }
 {}
 
-/// Nothing stands in the own queue of another run of the machine where r is the only one that was polled and isn't over, and no run's drop
-/// ended while it was polled.
+/// Nothing stands in the own queue of another run of the machine where r is the only one that was polled and isn't over.
 pub fn only_begun_runs_have_futures()
     ensures { (limit : ℕ) (kind : MachineKind) (parties : ℕ) (before : List Act)
         (go : ActAlike (start limit kind parties) (new limit (is_static_kind kind)) before) (r : ℕ)
         → let s = left_of (start limit kind parties) before in
         let calls = acts_by (start limit kind parties) (new limit (is_static_kind kind)) before go in
-        all_go_idle wakes_in calls (new limit (is_static_kind kind)) ≡ true
-        → IsOnlyBegun wakes_in r calls (new limit (is_static_kind kind))
+        AreActs (start limit kind parties) before → IsOnlyBegun wakes_in r calls (new limit (is_static_kind kind))
         → Follows s.world (plain_behind before (start limit kind parties) (new limit (is_static_kind kind)) go)
         → (k : ℕ) → (r == k) ≡ false → own_of s.world k ≡ [] }
 {}

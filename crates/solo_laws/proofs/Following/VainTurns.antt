@@ -59,7 +59,7 @@ module _ {F T X : Type 0} (its : ℕ → Lent) (number : Who → ℕ) (s : Solo 
   ticker = ticker_of number who p.lying
 
   -- it searches again where it isn't with a waker
-  again : looks_again (slept_answer ticker w s).look ≡ not (lies_uncalled who p.lying)
+  pub again : looks_again (slept_answer ticker w s).look ≡ not (lies_uncalled who p.lying)
   again = by (find (lies who) p.lying) refl
     where
       by : (o : Option (Lying (SoloWaker X))) → find (lies who) p.lying ≡ o

@@ -25,10 +25,11 @@ use Rattle.plain_scheduler.specs.Calls as plain
 use Rattle.plain_scheduler.specs.Calls.{Call, is_granted}
 use Rattle.solo_laws.specs.Courses.{Makes, cancels, copies, detaches, drops_handle, leaks, looks, makes, polls, refuses, releases, spawns}
 use Rattle.solo_laws.specs.Courses.{takes, uses, wakes}
-use Rattle.solo_laws.specs.Making.{Happens, HasNoRoom, IsKnown, NextIsFree, Wish, copy_refusal, made_as}
+use Rattle.solo_laws.specs.Making.{Enters, Happens, HasNoRoom, IsKnown, NextIsFree, Wish, copy_refusal, made_as}
 use Rattle.solo_laws.specs.Owner.{Owner}
 use Rattle.solo_laws.specs.Road.{HasLife, IsNamed}
 use Rattle.solo_laws.specs.Tabled.{Stands, named}
+use Rattle.solo_laws.proofs.Frames.{scheduled_of}
 
 -- fewer more tasks may come too
 pub fewer : (few many : ℕ) (l : LinesValue) → few ≤ many → HasLife many l → HasLife few l
@@ -75,8 +76,8 @@ module _ {F T X : Type 0} (its : ℕ → Lent) (future : F) (owner : Owner) (s :
   -- so it is made
   pub is_made : (given : Refusal) (call : Call T (SoloWaker X)) (shown : List (Event T (SoloWaker X))) (z : Solo F T X)
       (how : Makes its (choosing given) s p call shown z) → given ≡ made_as its owner (choosing given) s p call shown z refusal how
-      → Happens its owner s p (wish call)
-  is_made given call shown z how heeds = record {
+      → Enters its (choosing given) s p call shown z how → Happens its owner s p (wish call)
+  is_made given call shown z how heeds enters = record {
     choice = choosing given;
     shown = shown;
     now = owner;
@@ -86,6 +87,7 @@ module _ {F T X : Type 0} (its : ℕ → Lent) (future : F) (owner : Owner) (s :
     refused = heeds;
     starts = tt;
     named_so = tt;
+    room = enters;
   }
 
   abbrev next : Lent
@@ -97,7 +99,11 @@ module _ {F T X : Type 0} (its : ℕ → Lent) (future : F) (owner : Owner) (s :
     held = solo.counts s.kind
 
     abbrev table : TableValue F
-    table = record s.table { entries = s.table.entries ++ new_entry next.place future (counted_waker held next.task) ∷ [] }
+    table =
+        record s.table {
+          entries = s.table.entries ++ new_entry next.place future (counted_waker held next.task) ∷ [];
+          has_room = false;
+        }
 
     abbrev cell : Cell T X
     cell = record { number = s.accepted; task = cells.new_task next.place held mark }
@@ -145,7 +151,7 @@ module _ {F T X : Type 0} (its : ℕ → Lent) (future : F) (owner : Owner) (s :
           (refuses mark future (NoMemory future) s (
             (refl, below_limit (length s.table.entries) s.table.limit is, full refused, record { table = refl; slots = refl; key = refl }),
             refl,
-          ) (λ memory. refused)) refl
+          ) (λ memory. refused)) refl tt
 
       by : (b : Bool) → nat_lt (length s.table.entries) s.table.limit ≡ b → (r : Refusal) → refusal ≡ r
           → Happens its owner s p (wish (plain.Spawn mark))
@@ -153,18 +159,21 @@ module _ {F T X : Type 0} (its : ℕ → Lent) (future : F) (owner : Owner) (s :
           is_made refusal (plain.Spawn mark) _ s
           (refuses mark future (Full future) s
           ((refl, at_limit (length s.table.entries) s.table.limit is, record { table = refl; slots = refl; key = refl }), refl)
-          (λ memory. absurd cc)) refl
+          (λ memory. absurd cc)) refl tt
       by true is Granted same =
           let under = below_limit (length s.table.entries) s.table.limit is in
           is_made refusal (plain.Spawn mark) _ (turns.scheduled next.task (entered mark free under))
           (spawns mark future (spawned mark free under) (turns.scheduled next.task (entered mark free under)) (spawned_so mark free under)
           refl same (fewer 3 14 s.lines (omega arith) life) few) refl
+          (scheduled_of (λ accepted (table : TableValue F) (going : TableValue F). table.has_room ≡ false) next.task
+          (entered mark free under)
+          refl)
       by true is AtOnce same = no_memory is (ap (λ r. is_granted r) same)
       by true is Later same = no_memory is (ap (λ r. is_granted r) same)
 
   pub copy_happens : (f : ℕ) → f < length p.futures → Happens its owner s p (wish (plain.Copy f))
   copy_happens f at =
-      is_made (copy_refusal (solo.may_hold (named its f) s)) (plain.Copy f) _ (solo.held (named its f) s) (copies f at refl) refl
+      is_made (copy_refusal (solo.may_hold (named its f) s)) (plain.Copy f) _ (solo.held (named its f) s) (copies f at refl) refl tt
 
   poll_granted : (b : Bool) → is_granted (copy_refusal b) ≡ b
   poll_granted true = refl
@@ -174,41 +183,41 @@ module _ {F T X : Type 0} (its : ℕ → Lent) (future : F) (owner : Owner) (s :
       → HasLife 14 s.lines → Happens its owner s p (wish (plain.PollHandle f w))
   poll_happens f (Outside w) at handle known life =
       is_made refusal (plain.PollHandle f (Outside w)) _ _ (polls f (Outside w) at handle (λ t is. absurd cc)
-      (fewer 2 14 s.lines (omega arith) life)) refl
+      (fewer 2 14 s.lines (omega arith) life)) refl tt
   poll_happens f (OfTask u) at handle known life =
       is_made (copy_refusal (solo.may_hold u s)) (plain.PollHandle f (OfTask u)) _ _
       (polls f (OfTask u) at handle
       (λ t is. subst (λ t. IsNamed (named its) (length p.futures) t
       × (is_granted (copy_refusal (solo.may_hold u s)) ≡ solo.may_hold t s)) (ap task_in is) (known, poll_granted (solo.may_hold u s)))
-      (fewer 2 14 s.lines (omega arith) life)) refl
+      (fewer 2 14 s.lines (omega arith) life)) refl tt
     where
       task_in : SoloWaker X → Task
       task_in (OfTask t) = t
       task_in (Outside w) = u
 
   pub wake_happens : (f : ℕ) → f < length p.futures → HasLife 14 s.lines → Happens its owner s p (wish (plain.Wake f))
-  wake_happens f at life = is_made refusal (plain.Wake f) _ _ (wakes f at (fewer 2 14 s.lines (omega arith) life)) refl
+  wake_happens f at life = is_made refusal (plain.Wake f) _ _ (wakes f at (fewer 2 14 s.lines (omega arith) life)) refl tt
 
   pub use_happens : (f : ℕ) → f < length p.futures → HasLife 14 s.lines → Happens its owner s p (wish (plain.Use f))
-  use_happens f at life = is_made refusal (plain.Use f) _ _ (uses f at (fewer 2 14 s.lines (omega arith) life)) refl
+  use_happens f at life = is_made refusal (plain.Use f) _ _ (uses f at (fewer 2 14 s.lines (omega arith) life)) refl tt
 
   pub release_happens : (f : ℕ) → f < length p.futures → HasLife 14 s.lines → Happens its owner s p (wish (plain.Release f))
-  release_happens f at life = is_made refusal (plain.Release f) _ _ (releases f at (fewer 2 14 s.lines (omega arith) life)) refl
+  release_happens f at life = is_made refusal (plain.Release f) _ _ (releases f at (fewer 2 14 s.lines (omega arith) life)) refl tt
 
   pub cancel_happens : (f : ℕ) → f < length p.futures → HasLife 14 s.lines → Happens its owner s p (wish (plain.Cancel f))
-  cancel_happens f at life = is_made refusal (plain.Cancel f) _ _ (cancels f at (fewer 5 14 s.lines (omega arith) life)) refl
+  cancel_happens f at life = is_made refusal (plain.Cancel f) _ _ (cancels f at (fewer 5 14 s.lines (omega arith) life)) refl tt
 
   pub detach_happens : (f : ℕ) → f < length p.futures → HasLife 14 s.lines → Happens its owner s p (wish (plain.Detach f))
-  detach_happens f at life = is_made refusal (plain.Detach f) _ _ (detaches f at (fewer 2 14 s.lines (omega arith) life)) refl
+  detach_happens f at life = is_made refusal (plain.Detach f) _ _ (detaches f at (fewer 2 14 s.lines (omega arith) life)) refl tt
 
   pub drop_happens : (f : ℕ) → f < length p.futures → HasLife 14 s.lines → Happens its owner s p (wish (plain.DropHandle f))
-  drop_happens f at life = is_made refusal (plain.DropHandle f) _ _ (drops_handle f at (fewer 8 14 s.lines (omega arith) life)) refl
+  drop_happens f at life = is_made refusal (plain.DropHandle f) _ _ (drops_handle f at (fewer 8 14 s.lines (omega arith) life)) refl tt
 
   pub try_happens : HasLife 14 s.lines → Happens its owner s p (wish plain.TryTick)
-  try_happens life = is_made refusal plain.TryTick _ _ (takes refl (fewer 1 14 s.lines (omega arith) life)) refl
+  try_happens life = is_made refusal plain.TryTick _ _ (takes refl (fewer 1 14 s.lines (omega arith) life)) refl tt
 
   pub look_happens : Happens its owner s p (wish plain.IsEmpty)
-  look_happens = is_made refusal plain.IsEmpty _ s looks refl
+  look_happens = is_made refusal plain.IsEmpty _ s looks refl tt
 
   pub leak_happens : p.is_static ≡ false → HasLife (6 * length s.table.entries) s.lines → Happens its owner s p (wish plain.Leak)
-  leak_happens static life = is_made refusal plain.Leak _ _ (leaks static life) refl
+  leak_happens static life = is_made refusal plain.Leak _ _ (leaks static life) refl tt

@@ -64,10 +64,10 @@ module _ {F T X : Type 0} (its : ℕ → Lent) (future : F) (owner : Owner) (s :
       → PolledBy (IsKnown its owner s p) by → HasLife 14 s.lines → wished plain.Pends
   pend_happens f Try rest is w_known life =
       is_made its future owner s p known.stands refusal first second name refusal plain.Pends _ _
-      (pends f Try rest future refl is (fewer 2 14 s.lines (omega arith) life)) refl
+      (pends f Try rest future refl is (fewer 2 14 s.lines (omega arith) life)) refl tt
   pend_happens f (Tick t w) rest is w_known life =
       is_made its future owner s p known.stands refusal first second name refusal plain.Pends _ _
-      (pends f (Tick t w) rest future refl is (fewer 2 14 s.lines (omega arith) life)) refl
+      (pends f (Tick t w) rest future refl is (fewer 2 14 s.lines (omega arith) life)) refl tt
   pend_happens f (Run r w) rest is w_known life = by out.rest refl
     where
       out : Owed F T X
@@ -114,6 +114,7 @@ module _ {F T X : Type 0} (its : ℕ → Lent) (future : F) (owner : Owner) (s :
         refused = it.so.heeds;
         starts = it.so.starts;
         named_so = tt;
+        room = tt;
       }
 
   -- the innermost one has a waker that is known
@@ -139,12 +140,13 @@ module _ {F T X : Type 0} (its : ℕ → Lent) (future : F) (owner : Owner) (s :
       by : (cs : List (Code T (SoloWaker X))) → p.inside ≡ cs → MayPend its owner s p cs → wished (plain.EndsWith v)
       by [] is may = absurd may
       by (Poll f taker ∷ rest) is may =
-          is_made its future owner s p known.stands refusal first second name refusal (plain.EndsWith v) _ s (gives f taker rest v is) refl
+          is_made its future owner s p known.stands refusal first second name refusal (plain.EndsWith v) _ s (gives f taker rest v is)
+          refl tt
       by (Drop f end taker ∷ rest) is may = absurd may
       by (Lose awaiter taker ∷ rest) is may = absurd may
       by (PollOwn r w ∷ rest) is may =
           is_acted its future owner s p known.stands refusal first second name refusal (plain.EndsWith v) _ owner s
-          (own_ready r w v rest is) refl tt tt
+          (own_ready r w v rest is) refl tt tt tt
       by (DropOwn r answer ∷ rest) is may = absurd may
       by (Close fs all ∷ rest) is may = absurd may
 
@@ -187,19 +189,19 @@ module _ {F T X : Type 0} (its : ℕ → Lent) (future : F) (owner : Owner) (s :
         → wished plain.Ends
     drop_happens Closed Try is w_known =
         is_made its future owner s p known.stands refusal first second name refusal plain.Ends _ _
-        (ends_closed f Try rest refl is (fewer 8 14 s.lines (omega arith) life)) refl
+        (ends_closed f Try rest refl is (fewer 8 14 s.lines (omega arith) life)) refl tt
     drop_happens Closed (Tick t w) is w_known =
         is_made its future owner s p known.stands refusal first second name refusal plain.Ends _ _
-        (ends_closed f (Tick t w) rest refl is (fewer 8 14 s.lines (omega arith) life)) refl
+        (ends_closed f (Tick t w) rest refl is (fewer 8 14 s.lines (omega arith) life)) refl tt
     drop_happens Closed (Run r w) is w_known =
         run_drop_happens Closed (solo.finish_answer (its f) s) (solo.finished (its f) s) (left_lives 11 (its f).place s life)
         (λ c. ends_closed f Try rest refl refl (fewer 8 14 s.lines (omega arith) life)) r w is w_known
     drop_happens (Gave v) Try is w_known =
         is_made its future owner s p known.stands refusal first second name refusal plain.Ends _ _
-        (ends_given f v Try rest refl is (fewer 8 14 s.lines (omega arith) life)) refl
+        (ends_given f v Try rest refl is (fewer 8 14 s.lines (omega arith) life)) refl tt
     drop_happens (Gave v) (Tick t w) is w_known =
         is_made its future owner s p known.stands refusal first second name refusal plain.Ends _ _
-        (ends_given f v (Tick t w) rest refl is (fewer 8 14 s.lines (omega arith) life)) refl
+        (ends_given f v (Tick t w) rest refl is (fewer 8 14 s.lines (omega arith) life)) refl tt
     drop_happens (Gave v) (Run r w) is w_known =
         run_drop_happens (Gave v) (solo.settle_ready_answer (its f) v s) (solo.settled_ready (its f) v s)
         (left_lives 11 (its f).place s life)
@@ -210,13 +212,13 @@ module _ {F T X : Type 0} (its : ℕ → Lent) (future : F) (owner : Owner) (s :
       → p.inside ≡ Lose awaiter by ∷ rest → PolledIf (IsKnown its owner s p) by → HasLife 14 s.lines → wished plain.Ends
   loss_happens awaiter None rest is w_known life =
       is_made its future owner s p known.stands refusal first second name refusal plain.Ends _ _
-      (loses awaiter None rest refl is (fewer 2 14 s.lines (omega arith) life)) refl
+      (loses awaiter None rest refl is (fewer 2 14 s.lines (omega arith) life)) refl tt
   loss_happens awaiter (Some Try) rest is w_known life =
       is_made its future owner s p known.stands refusal first second name refusal plain.Ends _ _
-      (loses awaiter (Some Try) rest refl is (fewer 2 14 s.lines (omega arith) life)) refl
+      (loses awaiter (Some Try) rest refl is (fewer 2 14 s.lines (omega arith) life)) refl tt
   loss_happens awaiter (Some (Tick t w)) rest is w_known life =
       is_made its future owner s p known.stands refusal first second name refusal plain.Ends _ _
-      (loses awaiter (Some (Tick t w)) rest refl is (fewer 2 14 s.lines (omega arith) life)) refl
+      (loses awaiter (Some (Tick t w)) rest refl is (fewer 2 14 s.lines (omega arith) life)) refl tt
   loss_happens awaiter (Some (Run r w)) rest is w_known life =
       goes (Losing awaiter) r w rest is plain.Ends (loss_ends awaiter) (calls awaiter s)
       (calls_lives 5 awaiter s (fewer 8 14 s.lines (omega arith) life)) w_known (rings_of awaiter s)
@@ -229,7 +231,7 @@ module _ {F T X : Type 0} (its : ℕ → Lent) (future : F) (owner : Owner) (s :
       is_acted its future owner s p known.stands refusal first second name refusal plain.Ends _ owner _
       (run_leaves runner answer rest (is ∙ ap (λ k. DropOwn k answer ∷ rest) (sym (known.tallied.number r)))
       (subst (λ k. HasLife (3 * count_of_own k s.runs + 5) s.lines) (sym (known.tallied.number r))
-      (fewer (3 * count_of_own r s.runs + 5) (3 * count_of_own r s.runs + 14) s.lines (omega arith) life))) refl tt tt
+      (fewer (3 * count_of_own r s.runs + 5) (3 * count_of_own r s.runs + 14) s.lines (omega arith) life))) refl tt tt tt
 
   pub ends_happen : WakersAreKnown its owner s p → MayEnd its owner s p p.inside → HasLife (3 * left_in its owner s p p.inside + 14)
       s.lines → wished plain.Ends
@@ -255,13 +257,13 @@ module _ {F T X : Type 0} (its : ℕ → Lent) (future : F) (owner : Owner) (s :
     where
       no_run : is_granted refusal ≡ false → wished plain.NewRun
       no_run refused =
-          is_acted its future owner s p known.stands refusal first second name refusal plain.NewRun _ owner s (makes_no_run refused) refl
+          is_acted its future owner s p known.stands refusal first second name refusal plain.NewRun _ owner s (makes_no_run refused) refl tt
           tt tt
 
       by : (r : Refusal) → refusal ≡ r → wished plain.NewRun
       by Granted is =
           is_acted its future owner s p known.stands refusal first second name refusal plain.NewRun _ owner (runs.made s)
-          (makes_run is few) refl tt tt
+          (makes_run is few) refl tt tt tt
       by AtOnce is = no_run (ap (λ r. is_granted r) is)
       by Later is = no_run (ap (λ r. is_granted r) is)
 
@@ -271,10 +273,10 @@ module _ {F T X : Type 0} (its : ℕ → Lent) (future : F) (owner : Owner) (s :
       by : (b : Bool) → goes_on r p ≡ b → wished (plain.PollRun r w)
       by true going =
           is_acted its future owner s p known.stands refusal first second name refusal (plain.PollRun r w) _ owner _
-          (run_polled (runs.new_runner r) w going free) refl tt tt
+          (run_polled (runs.new_runner r) w going free) refl tt tt tt
       by false over =
           is_acted its future owner s p known.stands refusal first second name refusal (plain.PollRun r w) _ owner s
-          (over_polled r w over) refl tt tt
+          (over_polled r w over) refl tt tt tt
 
   pub drop_run_happens : (r : ℕ) → is_in r (busy_in p.inside) ≡ false → wished (plain.DropRun r)
   drop_run_happens r free = by (goes_on r p) refl
@@ -282,7 +284,7 @@ module _ {F T X : Type 0} (its : ℕ → Lent) (future : F) (owner : Owner) (s :
       by : (b : Bool) → goes_on r p ≡ b → wished (plain.DropRun r)
       by true going =
           is_acted its future owner s p known.stands refusal first second name refusal (plain.DropRun r) _ owner s
-          (run_dropped r going free) refl tt tt
+          (run_dropped r going free) refl tt tt tt
       by false over =
           is_acted its future owner s p known.stands refusal first second name refusal (plain.DropRun r) _ owner s
-          (over_dropped r over) refl tt tt
+          (over_dropped r over) refl tt tt tt

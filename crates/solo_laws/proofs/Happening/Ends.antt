@@ -139,6 +139,7 @@ module _ {F T X : Type 0} (its : ℕ → Lent) (future : F) (owner : Owner) (s :
           refused = so.heeds;
           starts = so.starts;
           named_so = tt;
+          room = tt;
         }
       where
         few : (n : ℕ) → n ≡ length p.lying → suc n ≤ most
@@ -147,9 +148,9 @@ module _ {F T X : Type 0} (its : ℕ → Lent) (future : F) (owner : Owner) (s :
     pub run_drops_it : (shown : List (Event T (SoloWaker X))) (f : ℕ) → Tried (shown ++ Drops f ∷ []) → wished call
     run_drops_it shown f how =
         is_acted its future owner s p known.stands refusal first second name refusal call (shown ++ Drops f ∷ []) owner y
-        (run_drops stage r w rest call shown f y is ends (how base)) refl tt tt
+        (run_drops stage r w rest call shown f y is ends (how base)) refl tt tt tt
 
     pub run_loses_it : (shown : List (Event T (SoloWaker X))) (v : T) → Tried (shown ++ Loses v ∷ []) → wished call
     run_loses_it shown v how =
         is_acted its future owner s p known.stands refusal first second name refusal call (shown ++ Loses v ∷ []) owner y
-        (run_loses stage r w rest call shown v y is ends (how base)) refl tt tt
+        (run_loses stage r w rest call shown v y is ends (how base)) refl tt tt tt

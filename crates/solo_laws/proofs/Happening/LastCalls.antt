@@ -18,9 +18,9 @@ use Rattle.solo_laws.specs.Courses.{Makes, cancels, copies, detaches, drops_hand
 use Rattle.solo_laws.specs.LastCalls.{After, Closes, IsDropped, Meanwhile, and_then, drops_output, first_drop, last_drop}
 use Rattle.solo_laws.specs.LastCalls.{meanwhile, next_drop}
 use Rattle.solo_laws.specs.LastCalls.{is_on_task, no_drop, on_task, over}
-use Rattle.solo_laws.specs.LastMaking.{AllowsMeanwhile, AreWished, HappensMeanwhile, IsLosing, MayClose, MayDrop, MayGoAfter, MayGoOn}
+use Rattle.solo_laws.specs.LastMaking.{AllowsMeanwhile, HappensMeanwhile, IsLosing, MayClose, MayDrop, MayGoAfter, MayGoOn}
 use Rattle.solo_laws.specs.LastMaking.{HappenLast, MayMeanwhile, calls_meanwhile, drops_last, drops_next, fits}
-use Rattle.solo_laws.specs.Making.{Wish, copy_refusal}
+use Rattle.solo_laws.specs.Making.{AreWished, Wish, copy_refusal}
 use Rattle.solo_laws.specs.NoneLost.{NoneIsLost}
 use Rattle.solo_laws.specs.Road.{HasLife, IsNamed, wakes as wakes_of}
 use Rattle.solo_laws.specs.Tabled.{Stands, named}

@@ -17,7 +17,9 @@ use Rattle.solo.specs.Solo.{IsNew, counts}
 use Rattle.plain_scheduler.specs.State.{Choice, Close, Code, Drop, DropOwn, Lose, Plain, Poll, PollOwn, Who}
 use Rattle.plain_scheduler.specs.Calls.{Call, Ends, Leak, PollRun, does, living_from, new}
 use Rattle.solo_laws.specs.Courses.{Leads, leads, stays}
-use Rattle.solo_laws.specs.Making.{Allows, Goes, IsKnown, MayCall, MayGo, NextIsFree, WakersAreKnown, Wish, by_number, left_in, queued_by}
+use Rattle.solo_laws.specs.Heeding.{Fits}
+use Rattle.solo_laws.specs.Making.{Allows, Goes, Happens, IsKnown, MayCall, MayGo, NextIsFree, WakersAreKnown, Wish, by_number, left_in}
+use Rattle.solo_laws.specs.Making.{queued_by}
 use Rattle.solo_laws.specs.Making.{queues_with}
 use Rattle.solo_laws.specs.Owner.{Owner, new_owner}
 use Rattle.solo_laws.specs.Road.{HasLife, count_of, is_in, wakes}
@@ -31,6 +33,7 @@ use Rattle.solo_laws.proofs.Happening.Lasting.{acts_live, few_entries, few_kept}
 use Rattle.solo_laws.proofs.Happening.Each.{happens}
 use Rattle.solo_laws.proofs.Happening.Free.{acts_vacant}
 use Rattle.solo_laws.proofs.Happening.Growing.{call_grows}
+use Rattle.solo_laws.proofs.Happening.Refused.{acts_heed}
 use Rattle.solo_laws.proofs.Happening.Vacant.{IsVacant}
 use Rattle.solo_laws.proofs.Happening.Wakers.{PollsBy, call_all, more_all}
 
@@ -132,6 +135,13 @@ module _ {F T X : Type 0} where
           left (Close fs ns ∷ cs) = omega (arith, is)
       enough call = omega (arith, is)
 
+  -- memory is refused as was wished, where nothing else refuses a call
+  heeds_so : (owner : Owner) (s : Solo F T X) (p : Plain T (SoloWaker X)) → Known by_number owner s p → (x : Wish T (SoloWaker X))
+      (it : Happens by_number owner s p x) → length p.lying ≤ it.choice.tells → Fits by_number it.choice p x.refusal x.call
+      → it.choice.refusal ≡ x.refusal
+  heeds_so owner s p known x it many fit =
+      acts_heed by_number owner it.choice s p known many x.refusal x.call it.shown it.now it.after it.acts it.refused fit
+
   go : (limit : ℕ) (future : F) (xs : List (Wish T (SoloWaker X))) (owner : Owner) (s : Solo F T X) (p : Plain T (SoloWaker X))
       → Known by_number owner s p → IsVacant (length p.futures) s.cells → WakersAreKnown by_number owner s p
       → p.limit ≡ limit → HasLife (queued_by limit xs) s.lines → length p.futures + queued_by limit xs ≤ most_accepted
@@ -143,6 +153,7 @@ module _ {F T X : Type 0} where
     after = s;
     leads = stays owner s p;
     wished = tt;
+    heeds = λ fits. tt;
   }
   go limit future (x ∷ xs) owner s p known vacant all same life futures runs may =
       let it = happens by_number future owner s p known (next_free owner s p known vacant) all x
@@ -171,6 +182,8 @@ module _ {F T X : Type 0} where
         leads =
             leads it.choice x.call rest.calls owner it.now rest.now s it.after rest.after p it.shown rest.shown many it.acts rest.leads;
         wished = (refl, it.refused, it.starts, it.named_so, rest.wished);
+        heeds = λ fits.
+            (refl, heeds_so owner s p known x it many (fits it).0, rest.heeds (fits it).1);
       }
 
   pub lists_happen : (future : F) (limit : ℕ) (kind : Kind) (is_static : Bool) (first : Solo F T X) (number : Who → ℕ)

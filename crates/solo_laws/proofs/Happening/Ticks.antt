@@ -12,7 +12,7 @@ use Rattle.plain_scheduler.specs.State.{ATick, AtOnce, Choice, Event, Granted, L
 use Rattle.plain_scheduler.specs.Calls as plain
 use Rattle.plain_scheduler.specs.Calls.{Call, is_granted}
 use Rattle.solo_laws.specs.Courses.{Acts, makes_no_tick, makes_tick, tick_leaves, tick_lies_refused, tick_refused, tick_rests, tick_takes}
-use Rattle.solo_laws.specs.Making.{ActsFrom, NamesTick, Happens, IsKnown, acted_as, may_copy, rest_refusal}
+use Rattle.solo_laws.specs.Making.{ActsFrom, TakesRoom, NamesTick, Happens, IsKnown, acted_as, may_copy, rest_refusal}
 use Rattle.solo_laws.specs.Numbered.{ticker_of}
 use Rattle.solo_laws.specs.Owner.{Owner, has_tick, with_tick}
 use Rattle.solo_laws.specs.Road.{HasLife, IsNamed}
@@ -69,8 +69,9 @@ module _ {F T X : Type 0} (its : ℕ → Lent) (future : F) (owner : Owner) (s :
       (how : Acts its owner (given_so given) s p call shown now z)
       → given ≡ acted_as its (given_so given) s p owner call shown now z refusal how
       → ActsFrom its (given_so given) s p first second owner call shown now z how
-      → NamesTick its (given_so given) s p name owner call shown now z how → wished call
-  is_acted given call shown now z how heeds starts names_it = record {
+      → NamesTick its (given_so given) s p name owner call shown now z how
+      → TakesRoom its (given_so given) s p owner call shown now z how → wished call
+  is_acted given call shown now z how heeds starts names_it room = record {
     choice = given_so given;
     shown = shown;
     now = now;
@@ -80,22 +81,23 @@ module _ {F T X : Type 0} (its : ℕ → Lent) (future : F) (owner : Owner) (s :
     refused = heeds;
     starts = starts;
     named_so = names_it;
+    room = room;
   }
 
   pub new_tick_happens : has_tick name owner ≡ false → wished plain.NewTick
   new_tick_happens new = by refusal refl
     where
       no_tick : is_granted refusal ≡ false → wished plain.NewTick
-      no_tick refused = is_acted refusal plain.NewTick _ owner s (makes_no_tick refused) refl tt tt
+      no_tick refused = is_acted refusal plain.NewTick _ owner s (makes_no_tick refused) refl tt tt tt
 
       by : (r : Refusal) → refusal ≡ r → wished plain.NewTick
-      by Granted is = is_acted refusal plain.NewTick _ (with_tick name owner) (ticks.roomy s) (makes_tick name new is) refl tt refl
+      by Granted is = is_acted refusal plain.NewTick _ (with_tick name owner) (ticks.roomy s) (makes_tick name new is) refl tt refl tt
       by AtOnce is = no_tick (ap (λ r. is_granted r) is)
       by Later is = no_tick (ap (λ r. is_granted r) is)
 
   pub drop_tick_happens : (t : ℕ) → has_tick t owner ≡ true → HasLife 14 s.lines → wished (plain.DropTick t)
   drop_tick_happens t lives life =
-      is_acted refusal (plain.DropTick t) _ _ _ (tick_leaves t lives (fewer 5 14 s.lines (omega arith) life)) refl tt tt
+      is_acted refusal (plain.DropTick t) _ _ _ (tick_leaves t lives (fewer 5 14 s.lines (omega arith) life)) refl tt tt tt
 
   pub poll_tick_happens : (t : ℕ) (w : SoloWaker X) → has_tick t owner ≡ true → IsKnown its owner s p w → HasLife 14 s.lines
       → wished (plain.PollTick t w)
@@ -117,19 +119,19 @@ module _ {F T X : Type 0} (its : ℕ → Lent) (future : F) (owner : Owner) (s :
           is_acted (rest_refusal one again two refusal) (plain.PollTick t w) _ _ _
           (tick_rests t w lives none refl is
           (λ u of. (let it = can_copy its owner s (slept_once ticker w s) p again w known can.0 can.1 u of in (it.0, (it.1, it.2))))
-          (omega arith) (fewer 2 14 s.lines (omega arith) life)) refl tt tt
+          (omega arith) (fewer 2 14 s.lines (omega arith) life)) refl tt tt tt
       none_found none AtOnce is =
-          is_acted (rest_refusal one again two refusal) (plain.PollTick t w) _ owner _ (tick_refused t w lives none refl is) refl tt tt
+          is_acted (rest_refusal one again two refusal) (plain.PollTick t w) _ owner _ (tick_refused t w lives none refl is) refl tt tt tt
       none_found none Later is =
           let ticker = ticker_of owner.number (ATick t) p.lying in
           let can = later_so one again two refusal is in
           is_acted (rest_refusal one again two refusal) (plain.PollTick t w) _ _ _
           (tick_lies_refused t w lives none refl is
           (λ u of. (let it = can_copy its owner s s p false w known can.0 (λ no. absurd cc) u of in (it.0, it.1)))
-          can.1 (omega arith) (fewer 2 14 s.lines (omega arith) life)) refl tt tt
+          can.1 (omega arith) (fewer 2 14 s.lines (omega arith) life)) refl tt tt tt
 
       by : (o : Option Task) → solo.sought s ≡ o → wished (plain.PollTick t w)
       by (Some task) found =
           is_acted refusal (plain.PollTick t w) _ owner _
-          (tick_takes t w task lives found refl (fewer 5 14 s.lines (omega arith) life)) refl tt tt
+          (tick_takes t w task lives found refl (fewer 5 14 s.lines (omega arith) life)) refl tt tt tt
       by None none = none_found none (rest_refusal one again two refusal) refl

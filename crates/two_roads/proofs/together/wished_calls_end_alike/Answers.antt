@@ -30,6 +30,7 @@ returns g c future number limit kind solo_kind parties acts a later xs ends x fi
           (steps_end_together by_number number limit kind solo_kind parties acts a later go.calls last.calls first go.after last.after
           go.shown last.shown before go.now they quiet acts_so begins they_too is_new counted go.leads last.last
           (of_wishes by_number number limit kind parties acts xs go.calls (new_owner before) go.now first go.after q go.shown
-          go.leads they wishes go.wished refused)
+          go.leads they wishes go.wished refused
+          (new_known by_number before limit solo_kind (is_static_kind kind) first is_new counted))
           (end_of_wishes number a later p x ends last.calls (drop go).call last_wishes last.wished last_refused)).1,
     )

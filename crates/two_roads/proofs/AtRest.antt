@@ -29,7 +29,7 @@ use Rattle.solo_laws.specs.Road.{wakes}
 use Rattle.solo_laws.specs.Tabled.{Stands}
 use Rattle.two_roads.specs.Acting.{AreOfSteps, EndOfSteps, left_of}
 use Rattle.two_roads.specs.LoneActs.{acts_of, cut_of, first_act}
-use Rattle.two_roads.specs.Renaming.{call_as, renamed}
+use Rattle.two_roads.specs.Renaming.{call_as}
 use Rattle.two_roads.specs.Together.{TellsOf, as_machines, left_by, nothing, numbered}
 use Rattle.two_roads.proofs.InDrop.{acts_come}
 use Rattle.two_roads.proofs.InStep.{steps_same, steps_together}

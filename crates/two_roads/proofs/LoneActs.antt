@@ -1,5 +1,5 @@
 -- A list of lone calls is one of acts.
-use Rattle.std.proofs.Common.{◌≡◌, ℕ, ◌&&◌, ◌==◌, not, Bool, true, false, List, [], ◌∷◌, ◌++◌, Option, Some, None, Ok, refl, sym, ap, subst, ◌∙◌}
+use Rattle.std.proofs.Common.{◌≡◌, ℕ, ◌&&◌, not, Bool, true, false, List, [], ◌∷◌, ◌++◌, Option, None, Ok, refl, sym, ap, subst, ◌∙◌}
 use Rattle.std.specs.Prelude.{reverse}
 use Rattle.executor_model.specs.declared.call.Call.{Call}
 use Rattle.executor_model.specs.declared.op.Op.{Op}
@@ -12,7 +12,7 @@ use Rattle.executor_model.specs.declared.step.StepError.TheVariants.{NoSuch, Wro
 use Rattle.executor_model.specs.declared.step.UserEnd.{UserEnd}
 use Rattle.executor_model.specs.Executions.{run_all}
 use Rattle.executor_model.specs.Quiet.{IsQuiet}
-use Rattle.executor_model.specs.Steps.{Machine, accepts, after, answer_refusal, part_refusal, party_of, refusal, stack, top, unless, waits}
+use Rattle.executor_model.specs.Steps.{Machine, accepts, after, answer_refusal, part_refusal, party_of, refusal, stack, top, waits}
 use Rattle.executor_model.specs.World.{World}
 use Rattle.executor_model.proofs.Quiet.Resting.{rests}
 use Rattle.executor_model.proofs.Steps.Reached.{Reached, deep-here, reached-more, run-first, run-then}
@@ -25,12 +25,12 @@ use Rattle.machine_roads.specs.DropActs.{AreDropActs, left_by as left_by_acts}
 use Rattle.machine_roads.specs.View.{Output}
 use Rattle.machine_roads.specs.Within.{Act, AreActs, IsAct, IsCallIn, IsMade, begins, calls_outside, goes_on, is_on_way, may_stand_in, rests_after}
 use Rattle.machine_roads.specs.Within as within
-use Rattle.machine_roads.proofs.Lists.{clash, same_of}
+use Rattle.machine_roads.proofs.Lists.{same_of}
 use Rattle.machine_roads.proofs.LoneRuns.{both_true, made_is, passed}
 use Rattle.machine_roads.proofs.LoneTicks.{unrefused}
 use Rattle.machine_roads.proofs.Tying.{top_of}
 use Rattle.two_roads.specs.Acting.{left_of}
-use Rattle.two_roads.specs.LoneActs.{Cut, act_of, acts_of, cut, cut_by, cut_of, first_act}
+use Rattle.two_roads.specs.LoneActs.{Cut, acts_of, cut, cut_by, cut_of, first_act}
 use Rattle.two_roads.specs.Together.{left_by}
 
 -- the step is of this party, and no call begins in it

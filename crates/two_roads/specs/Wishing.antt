@@ -11,7 +11,7 @@ use Rattle.plain_scheduler.specs.State.{Choice, Event, Plain}
 use Rattle.plain_scheduler.specs.Moves.{task}
 use Rattle.plain_scheduler.specs.Calls.{Call, Copy, PollHandle, does, is_granted}
 use Rattle.machine_roads.specs.Within.{Act, IsMade, start_in}
-use Rattle.solo_laws.specs.Courses.{Leads, leads, stays}
+use Rattle.solo_laws.specs.Courses.{Leads, leads}
 use Rattle.solo_laws.specs.Heeding.{Fits}
 use Rattle.solo_laws.specs.Making.{Wish}
 use Rattle.solo_laws.specs.Owner.{Owner}

@@ -162,6 +162,23 @@ pub fn calls_end_alike<F, T, X>()
         × (heard_in (left_of a.left later).world.trace ≡ as_heard number (shown ++ others)) }
 {}
 
+/// Once no call is in progress there any more the machine also stands where the plain scheduler does, behind that drop.
+pub fn calls_rest_at_the_end<F, T, X>()
+    ensures { (its : ℕ → Lent) (number : X → ℕ) (limit : ℕ) (kind : MachineKind) (solo_kind : Kind) (parties : ℕ) (acts : List Act)
+        (a : Act) (later : List Act) (calls ends : List (Choice × Call T (SoloWaker X))) (first middle last : Solo F T X)
+        (shown others : List (Event T (SoloWaker X))) (before : Who → ℕ) (after : Owner) → AreActs (start limit kind parties) acts
+        → IsQuiet (left_by_acts (start limit kind parties) acts).world.trace → IsAct (left_by_acts (start limit kind parties) acts) a
+        → a.first ≡ Begin a.party DropsExecutor → AreDropActs a.left later → IsNew limit solo_kind first
+        → counts solo_kind ≡ not (is_static_kind kind)
+        → (led : Leads its calls (new_owner before) first (new limit (is_static_kind kind)) shown after middle)
+        → LastCalls its middle (course wakes calls (new limit (is_static_kind kind))) ends others last
+        → AreOfSteps number (start limit kind parties) acts led
+        → EndOfSteps number a later (course wakes calls (new limit (is_static_kind kind))) ends
+        → IsQuiet (left_of a.left later).world.trace
+        → let p = course wakes (calls ++ ends) (new limit (is_static_kind kind)) in
+        IsClosed its last p × TellsOf number (left_of a.left later) p (shown ++ others) }
+{}
+
 /// And there are such lists of calls for each list of wishes that are the machine's acts up to the executor's drop, and for each that are
 /// those behind its begin, where the owner may make each of the first, and may drop the executor and make each of the others, wherever those
 /// before them have led. Where memory is refused in them as in the acts, the machine's trace tells of what they show.

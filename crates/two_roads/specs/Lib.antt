@@ -7,3 +7,4 @@ pub mod Refusing
 pub mod Acting
 pub mod Turns
 pub mod Wishing
+pub mod LoneActs

@@ -4,6 +4,8 @@ pub mod StandsHere
 pub mod Rescheduling
 pub mod BehindTake
 pub mod Enlisting
+pub mod TicksLiving
+pub mod TicksBehind
 pub mod Still
 pub mod Counted
 pub mod Seeking

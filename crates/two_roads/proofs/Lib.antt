@@ -34,3 +34,4 @@ pub mod Wished
 pub mod LoneActs
 pub mod AtRest
 pub mod DropAtRest
+pub mod Meeting

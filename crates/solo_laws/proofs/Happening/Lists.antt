@@ -67,7 +67,7 @@ none_has {F} n (e ∷ es) held home (f ∷ fs) rows below =
     by false other rest = rest
 
 -- new queues have accepted none
-none_yet : (limit n : ℕ) → n ≤ most_accepted → (mark : Mark) → count_of (line_of mark (new_lines limit)).accepted + n ≤ most_accepted
+pub none_yet : (limit n : ℕ) → n ≤ most_accepted → (mark : Mark) → count_of (line_of mark (new_lines limit)).accepted + n ≤ most_accepted
 none_yet limit n most mark = which mark (by (limit == 1))
   where
     by : (b : Bool) → count_of (if b then None else Some 0) + n ≤ most_accepted
@@ -80,7 +80,7 @@ none_yet limit n most mark = which mark (by (limit == 1))
     which Urgent is = is
 
 module _ {F T X : Type 0} where
-  next_free : (owner : Owner) (s : Solo F T X) (p : Plain T (SoloWaker X)) → Known by_number owner s p → IsVacant (length p.futures) s.cells
+  pub next_free : (owner : Owner) (s : Solo F T X) (p : Plain T (SoloWaker X)) → Known by_number owner s p → IsVacant (length p.futures) s.cells
       → NextIsFree by_number owner s p
   next_free owner s p known vacant = record {
     number = refl;
@@ -91,7 +91,7 @@ module _ {F T X : Type 0} where
   }
 
   -- runs are polled by known wakers still
-  still_known : (owner : Owner) (s : Solo F T X) (p : Plain T (SoloWaker X)) (now : Owner) (z : Solo F T X) (c : Choice)
+  pub still_known : (owner : Owner) (s : Solo F T X) (p : Plain T (SoloWaker X)) (now : Owner) (z : Solo F T X) (c : Choice)
       (x : Wish T (SoloWaker X)) → Allows by_number owner s p x.refusal x.name x.call → WakersAreKnown by_number owner s p
       → WakersAreKnown by_number now z (does wakes c x.call p)
   still_known owner s p now z c x may all =
@@ -110,16 +110,10 @@ module _ {F T X : Type 0} where
       polls call its = tt
 
   -- what a call may queue may come, where so many more may
-  may_call : (limit n k : ℕ) (owner : Owner) (s : Solo F T X) (p : Plain T (SoloWaker X)) → Known by_number owner s p
-      → p.limit ≡ limit → (x : Wish T (SoloWaker X)) → Allows by_number owner s p x.refusal x.name x.call
-      → k ≡ 6 * limit + 20 + n → HasLife k s.lines → length p.futures + k ≤ most_accepted → length p.runs + k ≤ most_accepted
-      → MayCall by_number owner s p x
-  may_call limit n k owner s p known same x may is life futures runs = record {
-    allowed = may;
-    life = fewer (queues_with by_number owner s p x.call) k s.lines (enough x.call) life;
-    futures = omega (arith, futures, is);
-    runs = omega (arith, runs, is);
-  }
+  pub has_life : (limit n k : ℕ) (owner : Owner) (s : Solo F T X) (p : Plain T (SoloWaker X)) → Known by_number owner s p
+      → p.limit ≡ limit → k ≡ 6 * limit + 20 + n → HasLife k s.lines → (call : Call T (SoloWaker X))
+      → HasLife (queues_with by_number owner s p call) s.lines
+  has_life limit n k owner s p known same is life call = fewer (queues_with by_number owner s p call) k s.lines (enough call) life
     where
       enough : (call : Call T (SoloWaker X)) → queues_with by_number owner s p call ≤ k
       enough Leak = (let few = few_entries by_number s p known.stands in omega (arith, few, same, is))
@@ -134,6 +128,17 @@ module _ {F T X : Type 0} where
           left (DropOwn r answer ∷ cs) = (let few = few_kept by_number s p known.stands r in omega (arith, few, same, is))
           left (Close fs ns ∷ cs) = omega (arith, is)
       enough call = omega (arith, is)
+
+  may_call : (limit n k : ℕ) (owner : Owner) (s : Solo F T X) (p : Plain T (SoloWaker X)) → Known by_number owner s p
+      → p.limit ≡ limit → (x : Wish T (SoloWaker X)) → Allows by_number owner s p x.refusal x.name x.call
+      → k ≡ 6 * limit + 20 + n → HasLife k s.lines → length p.futures + k ≤ most_accepted → length p.runs + k ≤ most_accepted
+      → MayCall by_number owner s p x
+  may_call limit n k owner s p known same x may is life futures runs = record {
+    allowed = may;
+    life = has_life limit n k owner s p known same is life x.call;
+    futures = omega (arith, futures, is);
+    runs = omega (arith, runs, is);
+  }
 
   -- memory is refused as was wished, where nothing else refuses a call
   heeds_so : (owner : Owner) (s : Solo F T X) (p : Plain T (SoloWaker X)) → Known by_number owner s p → (x : Wish T (SoloWaker X))

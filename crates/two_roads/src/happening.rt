@@ -17,10 +17,12 @@ ghost use Rattle.solo_laws.specs.Road.{wakes};
 ghost use Rattle.two_roads.specs.Acting.{AreOfSteps, left_of};
 ghost use Rattle.two_roads.specs.Happening.{AreActed, IsActed, MayAct, MemoryFits, NamesAlike, queued_in};
 
-/// Wherever a list of acts of a new machine and a list of such calls of a new executor of one owner have come to that is of these steps,
-/// and both name alike, each further act of the machine is a call that the owner makes, as refused and by the same words, as long as the
-/// executor has what it takes: its queues may accept as many tasks, and so many futures and runs; a copy of a task's waker is refused
-/// where the task has as many references as it may, and not else, and memory for a future only where there is no room for it.
+/// Wherever a list of acts of a new machine and a list of calls of a new executor of one owner that is of these steps have led, and both
+/// name alike, each further act of the machine is a call that the owner makes, refused memory as the act and from the same words on; and
+/// both name alike behind it. The executor has to have what the call takes: its queues may accept as many tasks more, and fewer futures
+/// and runs came than may. And as to memory: for a future it is refused in the act only where the executor has no room for one; a copy of
+/// a task's waker, that of a kept one or for a handle that waits, is refused in it where the task has as many references as it may, and
+/// nowhere else; and where a tick or a run searches in vain in a poll by a task's waker, that task has two references fewer.
 pub fn each_act_happens<F, T, X>()
     ensures { (number : X → ℕ) (outside : ℕ → X) (numbers : (n : ℕ) → number (outside n) ≡ n) (value : T) (future : F)
         (limit : ℕ) (kind : MachineKind) (solo_kind : Kind) (parties : ℕ) (acts : List Act) (calls : List (Choice × Call T (SoloWaker X)))
@@ -35,9 +37,9 @@ pub fn each_act_happens<F, T, X>()
         → IsActed number s a owner y p }
 {}
 
-/// So, from a new machine and a new executor on, each list of acts that queue no more tasks than a queue accepts in its life is a list of
-/// calls that the executor's owner makes, and the machine's trace tells of what these show: as long as memory, wherever they have led, is
-/// as the next act has it.
+/// So, from a new machine and a new executor on, each list of acts is a list of calls that the executor's owner makes, and the machine's
+/// trace tells of what these show: where six times the limit and 20 for each of them are together no more than a queue accepts in its
+/// life, and memory, wherever those before it have led, is for each act as said above.
 pub fn acts_happen<F, T, X>()
     ensures { (number : X → ℕ) (outside : ℕ → X) (numbers : (n : ℕ) → number (outside n) ≡ n) (value : T) (future : F)
         (limit : ℕ) (kind : MachineKind) (solo_kind : Kind) (parties : ℕ) (acts : List Act) (first : Solo F T X) (before : Who → ℕ)

@@ -1,5 +1,5 @@
 -- Who lies with a waker, and lies again with another: no more lie uncalled than before.
-use Rattle.std.proofs.Common.{◌≡◌, ℕ, zero, suc, ◌≤◌, ◌<◌, ◌-◌, cond, if◌then◌else◌, Bool, true, false, not, List, [], ◌∷◌, length, map}
+use Rattle.std.proofs.Common.{◌≡◌, ℕ, zero, suc, ◌≤◌, ◌<◌, ◌-◌, cond, if◌then◌else◌, Bool, true, false, List, [], ◌∷◌, length, map}
 use Rattle.std.proofs.Common.{min}
 use Rattle.std.proofs.Common.{filter, find, is_some, Option, Some, None, slice_get, slice_set, refl, sym, ap, subst, arith}
 use Rattle.task_moves.specs.AbstractTask as abstract
@@ -9,7 +9,7 @@ use Rattle.executor_model.specs.declared.op.Waker.{Waker}
 use Rattle.executor_model.specs.declared.op.Waker.TheVariants.{Task, Outside}
 use Rattle.plain_scheduler.specs.State.{Choice, Later, Lying, Plain, Who}
 use Rattle.plain_scheduler.specs.Lists.{any, on, or}
-use Rattle.plain_scheduler.specs.Moves.{appended, becomes, called, copied, is_called, let_go, lies, put, release, task, tell, told_at}
+use Rattle.plain_scheduler.specs.Moves.{appended, becomes, called, copied, is_called, let_go, lies, put, task, tell, told_at}
 use Rattle.plain_scheduler.specs.Takes as takes
 use Rattle.plain_scheduler.specs.Usual.{lies_uncalled}
 use Rattle.machine_roads.specs.Refused.{OneMoreLies}

@@ -26,7 +26,7 @@ use Rattle.machine_roads.proofs.TicksBehind.{act_ticks}
 use Rattle.solo_laws.specs.Courses.{Leads, leads, stays}
 use Rattle.solo_laws.specs.Making.{Allows, Happens, Wish, by_number}
 use Rattle.solo_laws.specs.Owner.{Owner, new_owner}
-use Rattle.solo_laws.specs.Road.{apart, wakes}
+use Rattle.solo_laws.specs.Road.{wakes}
 use Rattle.solo_laws.proofs.Happening.Each.{happens}
 use Rattle.solo_laws.proofs.Happening.Free.{acts_vacant}
 use Rattle.solo_laws.proofs.Happening.Lists.{next_free, still_known}

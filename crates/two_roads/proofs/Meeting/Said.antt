@@ -1,5 +1,5 @@
 -- What the machine's act says of its refusal: copies are refused at once, and who lies and wasn't called isn't refused memory later.
-use Rattle.std.proofs.Common.{◌≡◌, ℕ, ◌≤◌, ◌<◌, nat_lt, cond, Bool, true, false, not, List, [], length, map, Option, Some, None}
+use Rattle.std.proofs.Common.{◌≡◌, ℕ, ◌≤◌, ◌<◌, nat_lt, cond, Bool, true, false, List, [], length, map, Option, Some, None}
 use Rattle.std.proofs.Common.{filter, find, is_some, refl, sym, ap, subst, ◌∙◌, arith}
 use Rattle.std.proofs.lemmas.Bool.Decides.{nat_tests}
 use Rattle.std.specs.Option.{option_map}

@@ -29,5 +29,9 @@ pub mod Acted
 pub mod ActedToEnd
 pub mod InStep
 pub mod InStepToEnd
+pub mod RefusedAlike
 pub mod Wished
+pub mod LoneActs
+pub mod AtRest
+pub mod DropAtRest
 pub mod Meeting

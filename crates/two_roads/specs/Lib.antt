@@ -8,3 +8,4 @@ pub mod Acting
 pub mod Happening
 pub mod Turns
 pub mod Wishing
+pub mod LoneActs

@@ -38,7 +38,7 @@ use Rattle.plain_scheduler.specs.Calls as plain
 use Rattle.machine_roads.specs.View.{Output}
 use Rattle.machine_roads.specs.Within as within
 use Rattle.machine_roads.specs.Within.{IsCallIn, IsMade, StandsAlike, standing}
-use Rattle.machine_roads.proofs.ActLosses.{spares_all}
+use Rattle.machine_roads.proofs.LossActs.{spares_all}
 use Rattle.machine_roads.proofs.Inmost.{whole}
 use Rattle.machine_roads.proofs.LoneRuns.{both_true, passed}
 use Rattle.machine_roads.proofs.LoneTicks.{may_begin, owned_by, there_all}

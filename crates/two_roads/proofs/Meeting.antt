@@ -1,5 +1,6 @@
 -- That each act of the machine is a call that the owner makes: the laws of `src/happening.rt`.
 pub mod Came
+pub mod Counted
 pub mod Near
 pub mod Ending
 pub mod Allowed

@@ -2,6 +2,7 @@
 pub mod Came
 pub mod Counted
 pub mod Near
+pub mod Granted
 pub mod Ending
 pub mod Allowed
 pub mod Lain

@@ -37,7 +37,7 @@ pub record IsLess (t u : State) : Type 0 where
 pub less_self : (t : State) → IsLess t t
 less_self t = record { references = omega arith; answers = refl }
 
-less_both : (t u v : State) → IsLess t u → IsLess u v → IsLess t v
+pub less_both : (t u v : State) → IsLess t u → IsLess u v → IsLess t v
 less_both t u v one two = (let a = one.references in let b = two.references in record {
   references = omega (arith, a, b);
   answers = one.answers ∙ two.answers;
@@ -58,7 +58,7 @@ put_less w f g new less = by (g == f) refl
     by false apart =
         subst (λ t. IsLess t (task_of w g)) (sym (get_or-set_other w.tasks f g new blank (apart_of g f apart))) (less_self (task_of w g))
 
-handles_less : (fs : List ℕ) (w : World) (g : ℕ) → IsLess (task_of (without_handles fs w) g) (task_of w g)
+pub handles_less : (fs : List ℕ) (w : World) (g : ℕ) → IsLess (task_of (without_handles fs w) g) (task_of w g)
 handles_less [] w g = less_self (task_of w g)
 handles_less (f ∷ fs) w g =
     let v = without_handles fs w in
@@ -68,7 +68,7 @@ handles_less (f ∷ fs) w g =
     (put_less v f g t (record { references = omega arith; answers = answer_by s.closed (moves.is_going s) s.completed t s }))
     (handles_less fs w g)
 
-run_less : (f : ℕ) (w : World) (g : ℕ) → IsLess (task_of (without_run f w) g) (task_of w g)
+pub run_less : (f : ℕ) (w : World) (g : ℕ) → IsLess (task_of (without_run f w) g) (task_of w g)
 run_less f w g =
     let s = task_of w f in
     let t : State = record s { references = s.references - 1; awaiter = false } in
@@ -77,7 +77,7 @@ run_less f w g =
     minus : (n : ℕ) → n - 1 ≤ n
     minus n = omega arith
 
-awaiter_less : (f : ℕ) (w : World) (g : ℕ) → IsLess (task_of (without_awaiter f w) g) (task_of w g)
+pub awaiter_less : (f : ℕ) (w : World) (g : ℕ) → IsLess (task_of (without_awaiter f w) g) (task_of w g)
 awaiter_less f w g =
     let s = task_of w f in
     let t : State = record s { awaiter = false } in

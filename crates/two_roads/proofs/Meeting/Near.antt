@@ -2,7 +2,9 @@
 use Rattle.std.proofs.Common.{◌≡◌, ℕ, zero, suc, ◌-◌, ◌++◌, is_some, ◌==◌, not, Bool, true, false, List, [], ◌∷◌, length, Option, Some}
 use Rattle.std.proofs.Common.{None, slice_get, slice_set}
 use Rattle.std.proofs.Common.{get_or, set, get_or-set_other, refl, sym, ap, subst, ◌∙◌}
+use Rattle.task_moves.specs.AbstractTask as abstract
 use Rattle.task_moves.specs.AbstractTask.{AbstractTask}
+use Rattle.task_moves.specs.LocalTask.{references_of}
 use Rattle.task_moves.specs.declared.moves.state.State.{State}
 use Rattle.executor_model.specs.declared.op.Op.{Op}
 use Rattle.executor_model.specs.declared.op.Op.TheVariants as op
@@ -20,6 +22,7 @@ use Rattle.machine_roads.specs.InLoss.{loss_ops, without_handles}
 use Rattle.machine_roads.specs.Road.{Follows}
 use Rattle.machine_roads.specs.View.{Output}
 use Rattle.machine_roads.specs.Within.{StandsAlike, alike, dropping, forgetting, forgotten, going, losing, untaken}
+use Rattle.two_roads.proofs.Meeting.Counted.{IsLess, awaiter_less, handles_less, less_both, less_self, run_less}
 use Rattle.machine_roads.proofs.InLoss.{many_through}
 use Rattle.machine_roads.proofs.Lists.{apart_of, length_set, same_of}
 use Rattle.machine_roads.proofs.Puts.{put_asks, put_at, put_by, put_lying, with_task}
@@ -37,6 +40,9 @@ pub record Near (e : Done) (q : Plain Output Waker) : Type 0 where
   pub lying : plain.lying ≡ q.lying
   pub handles : (g : ℕ) → not (among g gone) ≡ true → (task_of world g).handle ≡ (task_of e.world g).handle
   pub asks : (g : ℕ) → (task g plain).handle ≡ (task g q).handle
+  pub counts : (g : ℕ) → references_of (task g plain) ≡ references_of (task g q)
+  pub polls : (g : ℕ) → abstract.polled (task g plain) ≡ abstract.polled (task g q)
+  pub less : (g : ℕ) → IsLess (task_of world g) (task_of e.world g)
   pub static : (world.is_static ≡ e.world.is_static) × (plain.is_static ≡ q.is_static)
 
 -- a task of which something else is another
@@ -115,6 +121,14 @@ few_unawaited f q = by (slice_get q.futures f)
 asks_unawaited : (f g : ℕ) (q : Plain Output Waker) → (task g (unawaited f q)).handle ≡ (task g q).handle
 asks_unawaited f g q = put_asks (λ (t : AbstractTask Output Waker). t.handle) g f (record (task f q) { awaiter = None }) q refl
 
+counts_unawaited : (f g : ℕ) (q : Plain Output Waker) → references_of (task g (unawaited f q)) ≡ references_of (task g q)
+counts_unawaited f g q =
+    put_asks (λ (t : AbstractTask Output Waker). references_of t) g f (record (task f q) { awaiter = None }) q refl
+
+polls_unawaited : (f g : ℕ) (q : Plain Output Waker) → abstract.polled (task g (unawaited f q)) ≡ abstract.polled (task g q)
+polls_unawaited f g q =
+    put_asks (λ (t : AbstractTask Output Waker). abstract.polled t) g f (record (task f q) { awaiter = None }) q refl
+
 pub near : (e : Done) (q : Plain Output Waker) → StandsAlike e q → Near e q
 near e q (alike nested follows) = record {
   world = e.world;
@@ -128,6 +142,9 @@ near e q (alike nested follows) = record {
   lying = refl;
   handles = λ g spared. refl;
   asks = λ g. refl;
+  counts = λ g. refl;
+  polls = λ g. refl;
+  less = λ g. less_self (task_of e.world g);
   static = (refl, refl);
 }
 near e q (losing f fs below codes nested stops) = record {
@@ -142,6 +159,9 @@ near e q (losing f fs below codes nested stops) = record {
   lying = refl;
   handles = through (f ∷ fs) e.world;
   asks = λ g. refl;
+  counts = λ g. refl;
+  polls = λ g. refl;
+  less = handles_less (f ∷ fs) e.world;
   static = (static_through (f ∷ fs) e.world, refl);
 }
 near e q (going r fs below codes nested stops) =
@@ -158,6 +178,9 @@ near e q (going r fs below codes nested stops) =
       lying = runs_by (λ p. p.lying) (λ q rs. refl) over r q;
       handles = through fs e.world;
       asks = λ g. runs_by (λ p. (task g p).handle) (λ q rs. refl) over r q;
+      counts = λ g. runs_by (λ p. references_of (task g p)) (λ q rs. refl) over r q;
+      polls = λ g. runs_by (λ p. abstract.polled (task g p)) (λ q rs. refl) over r q;
+      less = handles_less fs e.world;
       static = (static_through fs e.world, runs_by (λ p. p.is_static) (λ q rs. refl) over r q);
     }
 near e q (dropping taker final below f b it nested (answered next inside follows)) = record {
@@ -172,6 +195,9 @@ near e q (dropping taker final below f b it nested (answered next inside follows
   lying = refl;
   handles = λ g spared. refl;
   asks = λ g. refl;
+  counts = λ g. refl;
+  polls = λ g. refl;
+  less = λ g. less_self (task_of e.world g);
   static = (refl, refl);
 }
 near e q (dropping taker final below f b it nested (loses awaiter next inside ending)) = record {
@@ -186,6 +212,9 @@ near e q (dropping taker final below f b it nested (loses awaiter next inside en
   lying = refl;
   handles = λ g spared. of_run f e.world g;
   asks = λ g. refl;
+  counts = λ g. refl;
+  polls = λ g. refl;
+  less = run_less f e.world;
   static = (refl, refl);
 }
 near e q (untaken taker final below f awaiter g gs codes it nested stops) =
@@ -202,6 +231,10 @@ near e q (untaken taker final below f awaiter g gs codes it nested stops) =
       lying = refl;
       handles = λ k spared. through (g ∷ gs) v k spared ∙ of_run f e.world k;
       asks = λ g. refl;
+      counts = λ g. refl;
+      polls = λ g. refl;
+      less = λ k. less_both (task_of (without_handles (g ∷ gs) v) k) (task_of v k) (task_of e.world k) (handles_less (g ∷ gs) v k)
+          (run_less f e.world k);
       static = (static_through (g ∷ gs) v, refl);
     }
 near e q (forgetting taker final below f b it nested stops) = record {
@@ -216,6 +249,9 @@ near e q (forgetting taker final below f b it nested stops) = record {
   lying = put_lying f (record (task f q) { awaiter = None }) q;
   handles = λ g spared. of_awaiter f e.world g;
   asks = λ g. asks_unawaited f g q;
+  counts = λ g. counts_unawaited f g q;
+  polls = λ g. polls_unawaited f g q;
+  less = awaiter_less f e.world;
   static = (refl, put_by (λ p. p.is_static) f (record (task f q) { awaiter = None }) q (λ fs. refl));
 }
 near e q (forgotten taker final below f g gs codes it nested stops) =
@@ -232,6 +268,10 @@ near e q (forgotten taker final below f g gs codes it nested stops) =
       lying = put_lying f (record (task f q) { awaiter = None }) q;
       handles = λ k spared. through (g ∷ gs) v k spared ∙ of_awaiter f e.world k;
       asks = λ k. asks_unawaited f k q;
+      counts = λ k. counts_unawaited f k q;
+      polls = λ k. polls_unawaited f k q;
+      less = λ k. less_both (task_of (without_handles (g ∷ gs) v) k) (task_of v k) (task_of e.world k) (handles_less (g ∷ gs) v k)
+          (awaiter_less f e.world k);
       static = (static_through (g ∷ gs) v, put_by (λ p. p.is_static) f (record (task f q) { awaiter = None }) q (λ fs. refl));
     }
 

@@ -1,5 +1,5 @@
 -- Acts of the machine, as calls that the owner of an executor makes.
-use Rattle.std.specs.Prelude.{◌≡◌, ℕ, nat_lt, ◌+◌, ◌*◌, ◌^◌, ◌<◌, true, false, List, [], ◌∷◌, length, Some, None}
+use Rattle.std.specs.Prelude.{◌≡◌, ℕ, ◌+◌, ◌*◌, ◌^◌, ◌<◌, ◌≤◌, true, false, List, [], ◌∷◌, length, Some, None}
 use Rattle.queue_steps.specs.ClosableQueue.{most_accepted}
 use Rattle.executor_model.specs.declared.op.Waker.{Waker}
 use Rattle.executor_model.specs.declared.op.Waker.TheVariants.{Task as TaskWaker, Outside as OutsideWaker}
@@ -50,10 +50,10 @@ module _ {T X : Type 0} where
   MayBeCopied (OfTask t) q = (0 < references_of (task t.number q)) × (references_of (task t.number q) + 1 < 2 ^ 40)
   MayBeCopied (Outside x) q = Unit {0}
 
-  -- a copy of a task's waker is refused where the task has as many references as it may, and only there
+  -- somebody has a waker of a task, or it is queued or polled; and a copy of that is refused only where it has as many references as it may
   abbrev pub IsRefusedIfMany : Refusal → SoloWaker X → Plain T (SoloWaker X) → Type 0
   IsRefusedIfMany refusal (OfTask t) q =
-      (0 < references_of (task t.number q)) × (is_granted refusal ≡ nat_lt (references_of (task t.number q)) (2 ^ 40))
+      (0 < references_of (task t.number q)) × (is_granted refusal ≡ false → 2 ^ 40 ≤ references_of (task t.number q))
   IsRefusedIfMany refusal (Outside x) q = Unit {0}
 
 module _ {F T X : Type 0} (number : X → ℕ) (s : Machine) (a : Act) (owner : Owner) (y : Solo F T X) (p : Plain T (SoloWaker X)) where

@@ -21,8 +21,8 @@ ghost use Rattle.two_roads.specs.Happening.{AreActed, IsActed, MayAct, MemoryFit
 /// name alike, each further act of the machine is a call that the owner makes, refused memory as the act and from the same words on; and
 /// both name alike behind it. The executor has to have what the call takes: its queues may accept as many tasks more, and fewer futures
 /// and runs came than may. And as to memory: for a future it is refused in the act only where the executor has no room for one; a copy of
-/// a task's waker, that of a kept one or for a handle that waits, is refused in it where the task has as many references as it may, and
-/// nowhere else; and where a tick or a run searches in vain in a poll by a task's waker, that task has two references fewer.
+/// a task's waker, that of a kept one or for a handle that waits, only where that task has as many references as it may, and it has one
+/// at all; and where a tick or a run searches in vain in a poll by a task's waker, that task has two references fewer than it may.
 pub fn each_act_happens<F, T, X>()
     ensures { (number : X → ℕ) (outside : ℕ → X) (numbers : (n : ℕ) → number (outside n) ≡ n) (value : T) (future : F)
         (limit : ℕ) (kind : MachineKind) (solo_kind : Kind) (parties : ℕ) (acts : List Act) (calls : List (Choice × Call T (SoloWaker X)))

@@ -123,6 +123,12 @@ module _ (s : Machine) (reached : Reached s) (p : ℕ) (there : p < length s.par
   abbrev o : Option Op
   o = top (stack s p)
 
+  pub came_all : (t : Step) (x : plain.Call Output Waker) → IsMade s p t x → refusal s t ≡ None → Came (length s.world.tasks) x
+  came_all t x (within.begins c y made) may = came s reached p there c y made (there_all s.world s.parties o c (may_begin s p c may))
+  came_all t x within.pends may = tt
+  came_all t x within.gives may = tt
+  came_all t x within.ends may = tt
+
   handled : (f : ℕ) (b : By) → has_all s.world s.parties o (call.PollHandle f b) ≡ true → (task f q).handle ≡ true
   handled f b has =
       let it = near (standing s p) q stands in

@@ -22,6 +22,7 @@ use Rattle.machine_roads.specs.Within.{start_in}
 use Rattle.machine_roads.proofs.Acts.{acts_alike, goes_rest, taken_over}
 use Rattle.machine_roads.proofs.Calling.{begin_alike}
 use Rattle.machine_roads.proofs.LoneRuns.{passed, within}
+use Rattle.machine_roads.proofs.CopiesBehind.{act_copies}
 use Rattle.machine_roads.proofs.TicksBehind.{act_ticks}
 use Rattle.solo_laws.specs.Courses.{Leads, leads, stays}
 use Rattle.solo_laws.specs.Making.{Allows, Happens, Wish, by_number}
@@ -40,7 +41,7 @@ use Rattle.two_roads.specs.Together.{nothing, numbered}
 use Rattle.two_roads.proofs.Acted.{seen_so, tells_at}
 use Rattle.two_roads.proofs.Inner.{seen_in}
 use Rattle.two_roads.proofs.InStep.{OthersRest, rest_still, steps_same}
-use Rattle.two_roads.proofs.Meeting.Allowed.{FitsSpawn, allowed}
+use Rattle.two_roads.proofs.Meeting.Allowed.{FitsSpawn, allowed, came_all}
 use Rattle.two_roads.proofs.Meeting.Refused.{KnowsOf, refusal_same}
 use Rattle.two_roads.proofs.Meeting.TicksMet.{behind, of_ticks}
 use Rattle.two_roads.proofs.Meeting.Said as said
@@ -199,6 +200,7 @@ module _ {F T X : Type 0} (number : X → ℕ) (outside : ℕ → X) (numbers : 
         let lie_then = lie_in (standing a.left a.party) r there in
         let says_so =
         says number value outside numbers s a owner y p known e.choice many q is stands d few by.made
+        (came_all s reached a.party within_it q stands a.first by.made by.is may_be) (act_copies s reached q a by.made stands it by.is)
         (subst (λ z. refused_in s a ≡ said.seen_in q z) (sym by.so) (seen_so s a q r lie seen lie_then)) in
         record {
           call = its;

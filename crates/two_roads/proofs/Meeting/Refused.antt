@@ -1,7 +1,10 @@
 -- Memory is refused to the owner's call as to the act.
 use Rattle.std.proofs.Common.{◌≡◌, ℕ, ◌≤◌, ◌<◌, nat_lt, if◌then◌else◌, Bool, true, false, not, List, [], ◌∷◌, ◌++◌, length, Option}
-use Rattle.std.proofs.Common.{Some, None, slice_get, refl, sym, ap, subst, ◌∙◌}
+use Rattle.std.proofs.Common.{◌^◌, Some, None, slice_get, refl, sym, ap, subst, ◌∙◌, arith}
 use Rattle.executor_model.specs.Steps.{Machine}
+use Rattle.std.proofs.lemmas.Bool.Decides.{nat_tests}
+use Rattle.task_moves.specs.AbstractTask as abstract
+use Rattle.task_moves.specs.LocalTask.{references_of}
 use Rattle.solo.specs.declared.names.SoloWaker.{SoloWaker}
 use Rattle.solo.specs.declared.names.SoloWaker.TheVariants.{Task as OfTask, Outside}
 use Rattle.solo.specs.declared.names.Task.{Task}
@@ -10,6 +13,7 @@ use Rattle.solo.specs.Solo as solo
 use Rattle.plain_scheduler.specs.State.{ARun, ATick, Choice, Code, Drop, Event, Later, Lose, Plain, Poll, PollOwn, Refusal, Run}
 use Rattle.plain_scheduler.specs.State.{Taker, Tick, Try}
 use Rattle.plain_scheduler.specs.Lists.{or}
+use Rattle.plain_scheduler.specs.Moves.{task}
 use Rattle.plain_scheduler.specs.Calls as calls
 use Rattle.plain_scheduler.specs.Calls.{Call, does, is_granted}
 use Rattle.plain_scheduler.specs.Searches.{Search, finds, searches, searches_inside, searches_of}
@@ -30,11 +34,22 @@ use Rattle.solo_laws.proofs.Happening.Refused.{acts_heed}
 use Rattle.solo_laws.proofs.Showing.Courses.{Known}
 use Rattle.solo_laws.specs.Heeding.{FitsSearch, IsCopied}
 use Rattle.two_roads.specs.Happening.{FitsMemory, IsRefusedIfMany, MayBeCopied, VainCanCopy}
-use Rattle.two_roads.specs.Refusing.{asks_memory, refused_in}
+use Rattle.two_roads.specs.Refusing.{asks_memory, has_to_wait, refused_in}
 
 -- never once it lies
 abbrev pub IsOnce : Refusal → Type 0
 IsOnce r = r ≡ copy_refusal (is_granted r)
+
+-- fewer references than a task may have
+abbrev pub IsFew : {T X : Type 0} → Plain T (SoloWaker X) → ℕ → Type 0
+IsFew p f = nat_lt (references_of (task f p)) (2 ^ 40) ≡ true
+
+not_below : (n m : ℕ) → m ≤ n → nat_lt n m ≡ false
+not_below n m is = grind (arith, nat_tests)
+
+same_test : (b : Bool) (n : ℕ) → (b ≡ false → 2 ^ 40 ≤ n) → (b ≡ true → nat_lt n (2 ^ 40) ≡ true) → b ≡ nat_lt n (2 ^ 40)
+same_test true n many few = sym (few refl)
+same_test false n many few = sym (not_below n (2 ^ 40) (many refl))
 
 -- a run searches in its poll by a waker of which this is so, where it is of those of each user's code
 module _ {T A : Type 0} (wakes : A → Option ℕ) (c : Choice) (Is : A → Type 0) where
@@ -71,8 +86,9 @@ module _ {F T X : Type 0} (number : X → ℕ) (s : Machine) (a : Act) (owner : 
 
   -- what the machine's act says of its refusal
   abbrev pub SaysOf : Call T (SoloWaker X) → Type 0
-  SaysOf (calls.Copy f) = IsOnce r
-  SaysOf (calls.PollHandle f w) = IsOnce r
+  SaysOf (calls.Copy f) = IsOnce r × (is_granted r ≡ true → IsFew p f)
+  SaysOf (calls.PollHandle f (OfTask t)) =
+      IsOnce r × (has_to_wait (abstract.polled (task f p)) ≡ true → is_granted r ≡ true → IsFew p t.number)
   SaysOf (calls.PollTick t w) = solo.sought y ≡ None → r ≡ Later → lies_uncalled (ATick t) p.lying ≡ false
   SaysOf calls.Pends =
       (x : Search T (SoloWaker X)) → searches wakes c calls.Pends p ≡ Some x → finds x ≡ false → r ≡ Later
@@ -84,20 +100,21 @@ module _ {F T X : Type 0} (number : X → ℕ) (s : Machine) (a : Act) (owner : 
 
   -- a copy of a task's waker
   copy_same : (t : Task) → IsNamed (named by_number) (length p.futures) t → IsRefusedIfMany r (OfTask t) p → IsOnce r
-      → c.refusal ≡ copy_refusal (solo.may_hold t y) → c.refusal ≡ r
-  copy_same t its fits once is =
+      → (is_granted r ≡ true → IsFew p t.number) → c.refusal ≡ copy_refusal (solo.may_hold t y) → c.refusal ≡ r
+  copy_same t its fits once grants is =
       is
       ∙ (ap (λ b. copy_refusal b)
-      (ap (λ t. solo.may_hold t y) (sym its.1) ∙ (may_hold_by by_number y p known.stands.0 t.number its.0 fits.0 ∙ sym fits.1))
+      (ap (λ t. solo.may_hold t y) (sym its.1) ∙ (may_hold_by by_number y p known.stands.0 t.number its.0 fits.0
+      ∙ sym (same_test (is_granted r) (references_of (task t.number p)) fits.1 grants)))
       ∙ sym once)
 
   made_same : (call : Call T (SoloWaker X)) (shown : List (Event T (SoloWaker X))) (z : Solo F T X)
       (how : Makes by_number c y p call shown z) → FitsMemory number s a owner y p call → SaysOf call
       → asks_memory wakes c p call ≡ true
       → c.refusal ≡ made_as by_number owner c y p call shown z r how → c.refusal ≡ r
-  made_same call shown z (courses.copies f at so) fits says asks is = copy_same (named by_number f) (at, refl) fits says is
+  made_same call shown z (courses.copies f at so) fits says asks is = copy_same (named by_number f) (at, refl) fits says.0 says.1 is
   made_same call shown z (courses.polls f (OfTask t) at handle names life) fits says asks is =
-      copy_same t (names t refl).0 (fits asks) says is
+      copy_same t (names t refl).0 (fits asks) says.0 (says.1 asks) is
   made_same call shown z (courses.polls f (Outside x) at handle names life) fits says asks is = is
   made_same call shown z how fits says asks is = is
 

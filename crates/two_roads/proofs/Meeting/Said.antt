@@ -44,6 +44,9 @@ use Rattle.two_roads.specs.Renaming.{call_as, lying_as, renamed}
 use Rattle.two_roads.specs.Together.{nothing, numbered}
 use Rattle.two_roads.proofs.Both.{wakes_so}
 use Rattle.two_roads.proofs.Calling.{setting}
+use Rattle.machine_roads.proofs.CopiesBehind.{CopiesBy}
+use Rattle.two_roads.proofs.Meeting.Came.{Came}
+use Rattle.two_roads.proofs.Meeting.Granted.{copy_granted, poll_granted}
 use Rattle.two_roads.proofs.Meeting.Lain.{lay_not}
 use Rattle.two_roads.proofs.Meeting.Near.{near}
 use Rattle.two_roads.proofs.Meeting.Refused.{IsOnce, SaysOf}
@@ -232,10 +235,16 @@ module _ {T X : Type 0} (number : X → ℕ) where
               (λ due. takes.takes wakes_in c (Run r w) due (record q { due = without (chosen (looks c (Run r w)) q.due) q.due }))
               (takes.rests wakes_in c c.refusal (ARun r) w q)) none
 
-      pub says : (x : Call Output Waker) → r ≡ seen_in q (does wakes_in d x q) → Says x
-      says (calls.Copy f) seen = subst IsOnce (sym seen) (once_copy d q f)
-      says (calls.PollHandle f w) seen = subst IsOnce (sym seen) (once_poll d q f w (abstract.polled (task f q)))
-      says (calls.PollTick t w) seen = tick_says t w seen
-      says calls.Pends seen = run_says calls.Pends calls.Pends refl seen
-      says calls.Ends seen = run_says calls.Ends calls.Ends refl seen
-      says x seen = tt
+      pub says : (x : Call Output Waker) → Came (length s.world.tasks) x → CopiesBy x s.world a.left.world
+          → r ≡ seen_in q (does wakes_in d x q) → Says x
+      says (calls.Copy f) came copies seen =
+          (subst IsOnce (sym seen) (once_copy d q f), copy_granted number s a q stands p is f came copies)
+      says (calls.PollHandle f (TaskWaker g)) came copies seen = (
+        subst IsOnce (sym seen) (once_poll d q f (TaskWaker g) (abstract.polled (task f q))),
+        poll_granted number s a q stands p is f g came.0 came.1 copies,
+      )
+      says (calls.PollHandle f (OutsideWaker x)) came copies seen = tt
+      says (calls.PollTick t w) came copies seen = tick_says t w seen
+      says calls.Pends came copies seen = run_says calls.Pends calls.Pends refl seen
+      says calls.Ends came copies seen = run_says calls.Ends calls.Ends refl seen
+      says x came copies seen = tt

@@ -35,7 +35,7 @@ pub fn refusals_are_heeded<F, T, X>()
 pub fn lists_of_calls_happen<F, T, X>()
     ensures { (future : F) (limit : ℕ) (kind : Kind) (is_static : Bool) (first : Solo F T X) (number : Who → ℕ)
         (xs : List (Wish T (SoloWaker X))) → IsNew limit kind first → counts kind ≡ not is_static
-        → queued_by limit xs ≤ most_accepted → MayGo by_number xs (new_owner number) first (new limit is_static)
+        → queued_by 0 xs ≤ most_accepted → MayGo by_number xs (new_owner number) first (new limit is_static)
         → Goes by_number xs (new_owner number) first (new limit is_static) }
 {}
 

@@ -121,7 +121,7 @@ pub fn wished_calls_show_alike<F, T, X>()
     ensures { (future : F) (number : X → ℕ) (limit : ℕ) (kind : MachineKind) (solo_kind : Kind) (parties : ℕ) (acts : List Act)
         (xs : List (Wish T (SoloWaker X))) (first : Solo F T X) (before : Who → ℕ) → AreActs (start limit kind parties) acts
         → IsNew limit solo_kind first → counts solo_kind ≡ not (is_static_kind kind)
-        → AreWishesOfSteps number (start limit kind parties) acts xs → queued_by limit xs ≤ most_accepted
+        → AreWishesOfSteps number (start limit kind parties) acts xs → queued_by 0 xs ≤ most_accepted
         → MayGo by_number xs (new_owner before) first (new limit (is_static_kind kind))
         → MayHeed by_number xs (new_owner before) first (new limit (is_static_kind kind))
         → (go : Goes by_number xs (new_owner before) first (new limit (is_static_kind kind)))

@@ -13,14 +13,14 @@ use Rattle.solo.specs.declared.names.SoloWaker.{SoloWaker}
 use Rattle.solo.specs.declared.names.SoloWaker.TheVariants.{Task as OfTask, Outside}
 use Rattle.solo.specs.declared.solo.Solo.{Solo}
 use Rattle.solo.specs.Lines.{line_of, new_lines}
+use Rattle.solo.specs.OwnQueues.{count_of as count_of_own}
 use Rattle.solo.specs.Solo.{IsNew, counts}
 use Rattle.plain_scheduler.specs.State.{Choice, Close, Code, Drop, DropOwn, Lose, Plain, Poll, PollOwn, Who}
-use Rattle.plain_scheduler.specs.Calls.{Call, Ends, Leak, PollRun, does, living_from, new}
+use Rattle.plain_scheduler.specs.Calls.{Call, Ends, Leak, NewRun, PollRun, Spawn, does, living_from, new}
 use Rattle.solo_laws.specs.Courses.{Leads, leads, stays}
 use Rattle.solo_laws.specs.Heeding.{Fits}
 use Rattle.solo_laws.specs.Making.{Allows, Goes, Happens, IsKnown, MayCall, MayGo, NextIsFree, WakersAreKnown, Wish, by_number, left_in}
-use Rattle.solo_laws.specs.Making.{queued_by}
-use Rattle.solo_laws.specs.Making.{queues_with}
+use Rattle.solo_laws.specs.Making.{HasNumber, comes, queued_by, queues_at_most}
 use Rattle.solo_laws.specs.Owner.{Owner, new_owner}
 use Rattle.solo_laws.specs.Road.{HasLife, count_of, is_in, wakes}
 use Rattle.solo_laws.specs.Tabled.{Row, row, row_of}
@@ -32,7 +32,7 @@ use Rattle.solo_laws.proofs.Happening.Choosing.{fewer}
 use Rattle.solo_laws.proofs.Happening.Lasting.{acts_live, few_entries, few_kept}
 use Rattle.solo_laws.proofs.Happening.Each.{happens}
 use Rattle.solo_laws.proofs.Happening.Free.{acts_vacant}
-use Rattle.solo_laws.proofs.Happening.Growing.{call_grows}
+use Rattle.solo_laws.proofs.Happening.Growing.{begins, call_grows}
 use Rattle.solo_laws.proofs.Happening.Refused.{acts_heed}
 use Rattle.solo_laws.proofs.Happening.Vacant.{IsVacant}
 use Rattle.solo_laws.proofs.Happening.Wakers.{PollsBy, call_all, more_all}
@@ -79,6 +79,15 @@ none_yet limit n most mark = which mark (by (limit == 1))
     which PlainMark is = is
     which Urgent is = is
 
+-- a future that comes is counted, and a run
+counts_futures : {T X : Type 0} (came : ℕ) (call : Call T (SoloWaker X)) → comes call ≤ queues_at_most came came call
+counts_futures came (Spawn mark) = omega arith
+counts_futures came call = omega arith
+
+counts_runs : {T X : Type 0} (came : ℕ) (call : Call T (SoloWaker X)) → begins call ≤ queues_at_most came came call
+counts_runs came NewRun = omega arith
+counts_runs came call = omega arith
+
 module _ {F T X : Type 0} where
   next_free : (owner : Owner) (s : Solo F T X) (p : Plain T (SoloWaker X)) → Known by_number owner s p → IsVacant (length p.futures) s.cells
       → NextIsFree by_number owner s p
@@ -110,30 +119,31 @@ module _ {F T X : Type 0} where
       polls call its = tt
 
   -- what a call may queue may come, where so many more may
-  may_call : (limit n k : ℕ) (owner : Owner) (s : Solo F T X) (p : Plain T (SoloWaker X)) → Known by_number owner s p
-      → p.limit ≡ limit → (x : Wish T (SoloWaker X)) → Allows by_number owner s p x.refusal x.name x.call
-      → k ≡ 6 * limit + 20 + n → HasLife k s.lines → length p.futures + k ≤ most_accepted → length p.runs + k ≤ most_accepted
-      → MayCall by_number owner s p x
-  may_call limit n k owner s p known same x may is life futures runs = record {
+  may_call : (came n k : ℕ) (owner : Owner) (s : Solo F T X) (p : Plain T (SoloWaker X)) → Known by_number owner s p
+      → length p.futures ≤ came → (x : Wish T (SoloWaker X)) → Allows by_number owner s p x.refusal x.name x.call
+      → k ≡ queues_at_most came came x.call + n → HasLife k s.lines → length p.futures + k ≤ most_accepted
+      → length p.runs + k ≤ most_accepted → MayCall by_number owner s p x
+  may_call came n k owner s p known before x may is life futures runs = record {
     allowed = may;
-    life = fewer (queues_with by_number owner s p x.call) k s.lines (enough x.call) life;
-    futures = omega (arith, futures, is);
-    runs = omega (arith, runs, is);
+    life =
+        fewer (queues_at_most (length s.table.entries) (left_in by_number owner s p p.inside) x.call) k s.lines (enough x.call is) life;
+    number = numbered x.call is;
   }
     where
-      enough : (call : Call T (SoloWaker X)) → queues_with by_number owner s p call ≤ k
-      enough Leak = (let few = few_entries by_number s p known.stands in omega (arith, few, same, is))
-      enough Ends = left p.inside
-        where
-          left : (cs : List (Code T (SoloWaker X))) → 3 * left_in by_number owner s p cs + 14 ≤ k
-          left [] = omega (arith, is)
-          left (Poll f by ∷ cs) = omega (arith, is)
-          left (Drop f end by ∷ cs) = omega (arith, is)
-          left (Lose awaiter by ∷ cs) = omega (arith, is)
-          left (PollOwn r w ∷ cs) = omega (arith, is)
-          left (DropOwn r answer ∷ cs) = (let few = few_kept by_number s p known.stands r in omega (arith, few, same, is))
-          left (Close fs ns ∷ cs) = omega (arith, is)
-      enough call = omega (arith, is)
+      left : (cs : List (Code T (SoloWaker X))) → left_in by_number owner s p cs ≤ came
+      left (DropOwn r answer ∷ cs) = (let few = few_kept by_number s p known.stands r in omega (arith, few, before))
+      left cs = omega arith
+
+      enough : (call : Call T (SoloWaker X)) → k ≡ queues_at_most came came call + n
+          → queues_at_most (length s.table.entries) (left_in by_number owner s p p.inside) call ≤ k
+      enough Leak is = (let few = few_entries by_number s p known.stands in omega (arith, few, before, is))
+      enough Ends is = (let few = left p.inside in omega (arith, few, is))
+      enough call is = omega (arith, is)
+
+      numbered : (call : Call T (SoloWaker X)) → k ≡ queues_at_most came came call + n → HasNumber by_number owner s p call
+      numbered (Spawn mark) is = omega (arith, futures, is)
+      numbered NewRun is = omega (arith, runs, is)
+      numbered call is = tt
 
   -- memory is refused as was wished, where nothing else refuses a call
   heeds_so : (owner : Owner) (s : Solo F T X) (p : Plain T (SoloWaker X)) → Known by_number owner s p → (x : Wish T (SoloWaker X))
@@ -142,11 +152,11 @@ module _ {F T X : Type 0} where
   heeds_so owner s p known x it many fit =
       acts_heed by_number owner it.choice s p known many x.refusal x.call it.shown it.now it.after it.acts it.refused fit
 
-  go : (limit : ℕ) (future : F) (xs : List (Wish T (SoloWaker X))) (owner : Owner) (s : Solo F T X) (p : Plain T (SoloWaker X))
+  go : (came : ℕ) (future : F) (xs : List (Wish T (SoloWaker X))) (owner : Owner) (s : Solo F T X) (p : Plain T (SoloWaker X))
       → Known by_number owner s p → IsVacant (length p.futures) s.cells → WakersAreKnown by_number owner s p
-      → p.limit ≡ limit → HasLife (queued_by limit xs) s.lines → length p.futures + queued_by limit xs ≤ most_accepted
-      → length p.runs + queued_by limit xs ≤ most_accepted → MayGo by_number xs owner s p → Goes by_number xs owner s p
-  go limit future [] owner s p known vacant all same life futures runs may = record {
+      → length p.futures ≤ came → HasLife (queued_by came xs) s.lines → length p.futures + queued_by came xs ≤ most_accepted
+      → length p.runs + queued_by came xs ≤ most_accepted → MayGo by_number xs owner s p → Goes by_number xs owner s p
+  go came future [] owner s p known vacant all before life futures runs may = record {
     calls = [];
     shown = [];
     now = owner;
@@ -155,9 +165,11 @@ module _ {F T X : Type 0} where
     wished = tt;
     heeds = λ fits. tt;
   }
-  go limit future (x ∷ xs) owner s p known vacant all same life futures runs may =
+  go came future (x ∷ xs) owner s p known vacant all before life futures runs may =
+      let now_came = came + comes x.call in
+      let rest_of = queued_by (came + comes x.call) xs in
       let it = happens by_number future owner s p known (next_free owner s p known vacant) all x
-      (may_call limit (queued_by limit xs) (queued_by limit (x ∷ xs)) owner s p known same x may.0 refl life futures runs) in
+      (may_call came rest_of (queued_by came (x ∷ xs)) owner s p known before x may.0 refl life futures runs) in
       let q = does wakes it.choice x.call p in
       let grows = call_grows it.choice x.call p in
       let many : length p.lying ≤ it.choice.tells = (let more = it.tells in omega (arith, more)) in
@@ -165,14 +177,20 @@ module _ {F T X : Type 0} where
       leads it.choice x.call [] owner it.now it.now s it.after it.after p it.shown [] many it.acts (stays it.now it.after q) in
       let known_on =
       (leads_alike by_number ((it.choice, x.call) ∷ []) owner it.now s it.after p (it.shown ++ []) known one).0 in
+      let entries : length s.table.entries ≤ came = (let few = few_entries by_number s p known.stands in omega (arith, few, before)) in
+      let kept : (r : ℕ) → count_of_own r s.runs ≤ came =
+      (λ r. (let few = few_kept by_number s p known.stands r in omega (arith, few, before))) in
+      let one_future = counts_futures came x.call in
+      let one_run = counts_runs came x.call in
       let rest =
-      go limit future xs it.now it.after q known_on (acts_vacant owner it.choice s p it.now it.after x.call it.shown known many vacant
+      go now_came future xs it.now it.after q known_on (acts_vacant owner it.choice s p it.now it.after x.call it.shown known many vacant
       it.acts)
       (still_known owner s p it.now it.after it.choice x may.0 all)
-      (grows.limit ∙ same)
-      (acts_live by_number owner it.choice s p (queued_by limit xs) (queued_by limit (x ∷ xs)) known.stands known.numbered many
-      (omega (arith, same)) life it.now it.after x.call it.shown it.acts)
-      (let most = grows.most_futures in omega (arith, most, futures)) (let most = grows.most_runs in omega (arith, most, runs))
+      (let most = grows.most_futures in omega (arith, most, before))
+      (acts_live by_number owner it.choice s p rest_of (queued_by came (x ∷ xs)) came came entries kept life it.now it.after x.call it.shown
+      it.acts (omega arith))
+      (let most = grows.most_futures in omega (arith, most, futures, one_future))
+      (let most = grows.most_runs in omega (arith, most, runs, one_run))
       (may.1 it) in
       record {
         calls = (it.choice, x.call) ∷ rest.calls;
@@ -188,10 +206,10 @@ module _ {F T X : Type 0} where
 
   pub lists_happen : (future : F) (limit : ℕ) (kind : Kind) (is_static : Bool) (first : Solo F T X) (number : Who → ℕ)
       (xs : List (Wish T (SoloWaker X))) → IsNew limit kind first → counts kind ≡ not is_static
-      → queued_by limit xs ≤ most_accepted → MayGo by_number xs (new_owner number) first (new limit is_static)
+      → queued_by 0 xs ≤ most_accepted → MayGo by_number xs (new_owner number) first (new limit is_static)
       → Goes by_number xs (new_owner number) first (new limit is_static)
   lists_happen future limit kind is_static first number xs is counted most may =
-      go limit future xs (new_owner number) first (new limit is_static) (new_known by_number number limit kind is_static first is counted)
-      (λ k above. ap (λ slots. slice_index_or slots k None) is.cells) tt refl
-      (subst (HasLife (queued_by limit xs)) (sym is.lines) (none_yet limit (queued_by limit xs) most)) (omega (arith, most))
+      go 0 future xs (new_owner number) first (new limit is_static) (new_known by_number number limit kind is_static first is counted)
+      (λ k above. ap (λ slots. slice_index_or slots k None) is.cells) tt (omega arith)
+      (subst (HasLife (queued_by 0 xs)) (sym is.lines) (none_yet limit (queued_by 0 xs) most)) (omega (arith, most))
       (omega (arith, most)) may

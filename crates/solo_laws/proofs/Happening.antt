@@ -1,6 +1,7 @@
 -- That each call which an owner may make happens: the laws of `src/making.rt`.
 pub mod Choosing
 pub mod Long
+pub mod Places
 pub mod Growing
 pub mod Ticks
 pub mod Searching

@@ -291,7 +291,7 @@ by_number f = record { task = record { key = f; number = f }; place = record { k
 -- how many tasks a list of calls queues at most, where so many futures came before it
 abbrev pub queued_by : {T A : Type 0} → ℕ → List (Wish T A) → ℕ
 queued_by came [] = 0
-queued_by came (x ∷ xs) = queues_at_most came came x.call + queued_by (came + comes x.call) xs
+queued_by came (x ∷ xs) = queues_at_most came 512 x.call + queued_by (came + comes x.call) xs
 
 -- each call is the one that was wished, and memory is refused as was decided
 abbrev pub AreWished : {T A : Type 0} → List (Wish T A) → List (Choice × Call T A) → Type 0

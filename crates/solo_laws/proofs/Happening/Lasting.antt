@@ -32,14 +32,13 @@ use Rattle.solo_laws.specs.RunResting.{slept_from}
 use Rattle.solo_laws.specs.Tabled.{Stands, at_home, goes_on, named, own_of, row, row_of}
 use Rattle.solo_laws.specs.Ticking.{slept_once}
 use Rattle.solo_laws.proofs.Prompt.{chosen}
-use Rattle.solo_laws.proofs.Following.Due.{filter_short, lives, room}
 use Rattle.solo_laws.proofs.Following.Lists.{length_map}
 use Rattle.solo_laws.proofs.Following.Lives.{cancelled_lives, released_lives, scheduled_if_lives, scheduled_lives, three_fewer, used_lives}
 use Rattle.solo_laws.proofs.Following.Lives.{woken_lives}
 use Rattle.solo_laws.proofs.Following.Lines.{younger}
-use Rattle.solo_laws.proofs.Following.Placing.{living}
 use Rattle.solo_laws.proofs.Happening.Choosing.{fewer}
 use Rattle.solo_laws.proofs.Happening.Ends.{calls_lives, left_lives, lets_go_lives, pends_lives}
+use Rattle.solo_laws.proofs.Happening.Places.{FewKept}
 use Rattle.solo_laws.proofs.Happening.Spending.{L, copies_lives, found_lives, leaked_lives, once_lives, popped_lives, rested_lives}
 use Rattle.solo_laws.proofs.Happening.Spending.{run_left_lives, run_rested_lives, search_lives, slept_from_lives, sought_lives}
 use Rattle.solo_laws.proofs.Happening.Spending.{tick_left_lives, tried_lives, woken_by_lives}
@@ -55,7 +54,7 @@ few_living i (x ∷ fs) = by x.is_dropped (few_living (suc i) fs)
     by false few = omega (arith, few)
 
 module _ {F T X : Type 0} (its : ℕ → Lent) (s : Solo F T X) (p : Plain T (SoloWaker X)) (both : Stands its s p) where
-  -- there are no more entries than futures came, and no more tasks in a run's own queue
+  -- there are no more entries than futures came, and 512 tasks at most in a run's own queue
   pub few_entries : length s.table.entries ≤ length p.futures
   few_entries =
       let rows = sym (length_map row s.table.entries) ∙ (ap (λ rs. length rs) both.1.rows ∙ length_map
@@ -63,23 +62,14 @@ module _ {F T X : Type 0} (its : ℕ → Lent) (s : Solo F T X) (p : Plain T (So
       let within = few_living 0 p.futures in
       omega (arith, rows, within)
 
-  few_due : length p.due ≤ length p.futures
-  few_due =
-      let few =
-      room p.due (living_from 0 p.futures) both.0.once
-      (λ j due. (let can = both.0.ready j due in living None (named its) s p both.0 j can.0 can.1)) in
-      let within = few_living 0 p.futures in
-      omega (arith, few, within)
-
-  pub few_kept : (r : ℕ) → own.count_of r s.runs ≤ length p.futures
-  few_kept r = subst (λ o. own.count_in o ≤ length p.futures) (sym (both.1.queues r)) (by (goes_on r p))
+  pub few_kept : FewKept p.due → (r : ℕ) → own.count_of r s.runs ≤ 512
+  few_kept few r = subst (λ o. own.count_in o ≤ 512) (sym (both.1.queues r)) (by (goes_on r p))
     where
-      by : (b : Bool) → own.count_in (own_of its b (filter (is_kept r) p.due)) ≤ length p.futures
+      by : (b : Bool) → own.count_in (own_of its b (filter (is_kept r) p.due)) ≤ 512
       by true =
           let long = length_map (due_task (named its)) (filter (is_kept r) p.due) in
-          let short = filter_short (is_kept r) p.due in
-          let few = few_due in
-          omega (arith, long, short, few)
+          let most = few r in
+          omega (arith, long, most)
       by false = omega arith
 
 -- what ends as in a try queues no more than this

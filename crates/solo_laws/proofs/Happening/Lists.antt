@@ -13,7 +13,6 @@ use Rattle.solo.specs.declared.names.SoloWaker.{SoloWaker}
 use Rattle.solo.specs.declared.names.SoloWaker.TheVariants.{Task as OfTask, Outside}
 use Rattle.solo.specs.declared.solo.Solo.{Solo}
 use Rattle.solo.specs.Lines.{line_of, new_lines}
-use Rattle.solo.specs.OwnQueues.{count_of as count_of_own}
 use Rattle.solo.specs.Solo.{IsNew, counts}
 use Rattle.plain_scheduler.specs.State.{Choice, Close, Code, Drop, DropOwn, Lose, Plain, Poll, PollOwn, Who}
 use Rattle.plain_scheduler.specs.Calls.{Call, Ends, Leak, NewRun, PollRun, Spawn, does, living_from, new}
@@ -33,6 +32,7 @@ use Rattle.solo_laws.proofs.Happening.Lasting.{acts_live, few_entries, few_kept}
 use Rattle.solo_laws.proofs.Happening.Each.{happens}
 use Rattle.solo_laws.proofs.Happening.Free.{acts_vacant}
 use Rattle.solo_laws.proofs.Happening.Growing.{begins, call_grows}
+use Rattle.solo_laws.proofs.Happening.Places.{FewKept, none_kept}
 use Rattle.solo_laws.proofs.Happening.Refused.{acts_heed}
 use Rattle.solo_laws.proofs.Happening.Vacant.{IsVacant}
 use Rattle.solo_laws.proofs.Happening.Wakers.{PollsBy, call_all, more_all}
@@ -80,11 +80,11 @@ none_yet limit n most mark = which mark (by (limit == 1))
     which Urgent is = is
 
 -- a future that comes is counted, and a run
-counts_futures : {T X : Type 0} (came : ℕ) (call : Call T (SoloWaker X)) → comes call ≤ queues_at_most came came call
+counts_futures : {T X : Type 0} (came : ℕ) (call : Call T (SoloWaker X)) → comes call ≤ queues_at_most came 512 call
 counts_futures came (Spawn mark) = omega arith
 counts_futures came call = omega arith
 
-counts_runs : {T X : Type 0} (came : ℕ) (call : Call T (SoloWaker X)) → begins call ≤ queues_at_most came came call
+counts_runs : {T X : Type 0} (came : ℕ) (call : Call T (SoloWaker X)) → begins call ≤ queues_at_most came 512 call
 counts_runs came NewRun = omega arith
 counts_runs came call = omega arith
 
@@ -120,27 +120,27 @@ module _ {F T X : Type 0} where
 
   -- what a call may queue may come, where so many more may
   may_call : (came n k : ℕ) (owner : Owner) (s : Solo F T X) (p : Plain T (SoloWaker X)) → Known by_number owner s p
-      → length p.futures ≤ came → (x : Wish T (SoloWaker X)) → Allows by_number owner s p x.refusal x.name x.call
-      → k ≡ queues_at_most came came x.call + n → HasLife k s.lines → length p.futures + k ≤ most_accepted
+      → FewKept p.due → length p.futures ≤ came → (x : Wish T (SoloWaker X)) → Allows by_number owner s p x.refusal x.name x.call
+      → k ≡ queues_at_most came 512 x.call + n → HasLife k s.lines → length p.futures + k ≤ most_accepted
       → length p.runs + k ≤ most_accepted → MayCall by_number owner s p x
-  may_call came n k owner s p known before x may is life futures runs = record {
+  may_call came n k owner s p known kept before x may is life futures runs = record {
     allowed = may;
     life =
         fewer (queues_at_most (length s.table.entries) (left_in by_number owner s p p.inside) x.call) k s.lines (enough x.call is) life;
     number = numbered x.call is;
   }
     where
-      left : (cs : List (Code T (SoloWaker X))) → left_in by_number owner s p cs ≤ came
-      left (DropOwn r answer ∷ cs) = (let few = few_kept by_number s p known.stands r in omega (arith, few, before))
+      left : (cs : List (Code T (SoloWaker X))) → left_in by_number owner s p cs ≤ 512
+      left (DropOwn r answer ∷ cs) = few_kept by_number s p known.stands kept r
       left cs = omega arith
 
-      enough : (call : Call T (SoloWaker X)) → k ≡ queues_at_most came came call + n
+      enough : (call : Call T (SoloWaker X)) → k ≡ queues_at_most came 512 call + n
           → queues_at_most (length s.table.entries) (left_in by_number owner s p p.inside) call ≤ k
       enough Leak is = (let few = few_entries by_number s p known.stands in omega (arith, few, before, is))
       enough Ends is = (let few = left p.inside in omega (arith, few, is))
       enough call is = omega (arith, is)
 
-      numbered : (call : Call T (SoloWaker X)) → k ≡ queues_at_most came came call + n → HasNumber by_number owner s p call
+      numbered : (call : Call T (SoloWaker X)) → k ≡ queues_at_most came 512 call + n → HasNumber by_number owner s p call
       numbered (Spawn mark) is = omega (arith, futures, is)
       numbered NewRun is = omega (arith, runs, is)
       numbered call is = tt
@@ -154,9 +154,9 @@ module _ {F T X : Type 0} where
 
   go : (came : ℕ) (future : F) (xs : List (Wish T (SoloWaker X))) (owner : Owner) (s : Solo F T X) (p : Plain T (SoloWaker X))
       → Known by_number owner s p → IsVacant (length p.futures) s.cells → WakersAreKnown by_number owner s p
-      → length p.futures ≤ came → HasLife (queued_by came xs) s.lines → length p.futures + queued_by came xs ≤ most_accepted
+      → FewKept p.due → length p.futures ≤ came → HasLife (queued_by came xs) s.lines → length p.futures + queued_by came xs ≤ most_accepted
       → length p.runs + queued_by came xs ≤ most_accepted → MayGo by_number xs owner s p → Goes by_number xs owner s p
-  go came future [] owner s p known vacant all before life futures runs may = record {
+  go came future [] owner s p known vacant all kept before life futures runs may = record {
     calls = [];
     shown = [];
     now = owner;
@@ -165,11 +165,11 @@ module _ {F T X : Type 0} where
     wished = tt;
     heeds = λ fits. tt;
   }
-  go came future (x ∷ xs) owner s p known vacant all before life futures runs may =
+  go came future (x ∷ xs) owner s p known vacant all kept before life futures runs may =
       let now_came = came + comes x.call in
       let rest_of = queued_by (came + comes x.call) xs in
       let it = happens by_number future owner s p known (next_free owner s p known vacant) all x
-      (may_call came rest_of (queued_by came (x ∷ xs)) owner s p known before x may.0 refl life futures runs) in
+      (may_call came rest_of (queued_by came (x ∷ xs)) owner s p known kept before x may.0 refl life futures runs) in
       let q = does wakes it.choice x.call p in
       let grows = call_grows it.choice x.call p in
       let many : length p.lying ≤ it.choice.tells = (let more = it.tells in omega (arith, more)) in
@@ -178,16 +178,14 @@ module _ {F T X : Type 0} where
       let known_on =
       (leads_alike by_number ((it.choice, x.call) ∷ []) owner it.now s it.after p (it.shown ++ []) known one).0 in
       let entries : length s.table.entries ≤ came = (let few = few_entries by_number s p known.stands in omega (arith, few, before)) in
-      let kept : (r : ℕ) → count_of_own r s.runs ≤ came =
-      (λ r. (let few = few_kept by_number s p known.stands r in omega (arith, few, before))) in
       let one_future = counts_futures came x.call in
       let one_run = counts_runs came x.call in
       let rest =
       go now_came future xs it.now it.after q known_on (acts_vacant owner it.choice s p it.now it.after x.call it.shown known many vacant
       it.acts)
       (still_known owner s p it.now it.after it.choice x may.0 all)
-      (let most = grows.most_futures in omega (arith, most, before))
-      (acts_live by_number owner it.choice s p rest_of (queued_by came (x ∷ xs)) came came entries kept life it.now it.after x.call it.shown
+      (grows.kept kept) (let most = grows.most_futures in omega (arith, most, before))
+      (acts_live by_number owner it.choice s p rest_of (queued_by came (x ∷ xs)) came 512 entries (few_kept by_number s p known.stands kept) life it.now it.after x.call it.shown
       it.acts (omega arith))
       (let most = grows.most_futures in omega (arith, most, futures, one_future))
       (let most = grows.most_runs in omega (arith, most, runs, one_run))
@@ -210,6 +208,6 @@ module _ {F T X : Type 0} where
       → Goes by_number xs (new_owner number) first (new limit is_static)
   lists_happen future limit kind is_static first number xs is counted most may =
       go 0 future xs (new_owner number) first (new limit is_static) (new_known by_number number limit kind is_static first is counted)
-      (λ k above. ap (λ slots. slice_index_or slots k None) is.cells) tt (omega arith)
+      (λ k above. ap (λ slots. slice_index_or slots k None) is.cells) tt none_kept (omega arith)
       (subst (HasLife (queued_by 0 xs)) (sym is.lines) (none_yet limit (queued_by 0 xs) most)) (omega (arith, most))
       (omega (arith, most)) may

@@ -1,6 +1,6 @@
--- How many futures and runs came, and the limit: what changes none of these.
+-- How many futures and runs came: what changes neither, and leaves 512 futures at most to a run's keeping.
 use Rattle.std.proofs.Common.{◌≡◌, ℕ, zero, suc, ◌+◌, ◌==◌, count_by, nat_lt, if◌then◌else◌, Bool, true, false, List, [], ◌∷◌, ◌++◌}
-use Rattle.std.proofs.Common.{filter, find, map, length, Option, Some, None, slice_get, slice_set, refl, ap, ◌∙◌}
+use Rattle.std.proofs.Common.{filter, find, map, length, Option, Some, None, slice_get, slice_set, refl, sym, ap, subst, ◌≤◌, ◌∙◌}
 use Rattle.executor_parts.specs.declared.mark.Mark.TheVariants.{Plain as PlainMark, Urgent}
 use Rattle.task_moves.specs.AbstractTask as abstract
 use Rattle.task_moves.specs.AbstractTask.{AbstractTask, Left}
@@ -13,7 +13,7 @@ use Rattle.plain_scheduler.specs.State.{Taker}
 use Rattle.plain_scheduler.specs.State.{Tick, Try, Who}
 use Rattle.plain_scheduler.specs.Lists.{each, on, or, repeat, without}
 use Rattle.plain_scheduler.specs.Moves.{answers, appended, becomes, called, changed, chosen, copied, enters, given_back, is_called}
-use Rattle.plain_scheduler.specs.Moves.{is_common}
+use Rattle.plain_scheduler.specs.Moves.{is_common, mark}
 use Rattle.plain_scheduler.specs.Moves.{is_kept, let_go, lies, looks, moved, put, release, see, task, tell, up, wake}
 use Rattle.plain_scheduler.specs.Moves as moves
 use Rattle.plain_scheduler.specs.Takes as takes
@@ -22,23 +22,28 @@ use Rattle.plain_scheduler.specs.Calls.{Call, does, is_granted, living_from}
 use Rattle.solo_laws.specs.Road.{wakes}
 use Rattle.solo_laws.proofs.Following.Frames.{Still, becomes_still, called_still, copied_still, let_go_still, put_still, tell_still}
 use Rattle.solo_laws.proofs.Following.Lists.{length_set}
+use Rattle.solo_laws.proofs.Happening.Places.{FewKept, last_few, moved_few, none_kept, without_few}
 
--- of three numbers: how many futures and runs came, and the limit
-pub record AsMany (a b l d e m : ℕ) : Type 0 where
+-- of how many futures and runs came, and of those that are due
+pub record AsMany (a b : ℕ) (ds : List Due) (d e : ℕ) (es : List Due) : Type 0 where
   pub futures : d ≡ a
   pub runs : e ≡ b
-  pub limit : m ≡ l
+  pub kept : FewKept ds → FewKept es
 
 infixr 30 ◌∘◌
-pub ◌∘◌ : {a b l d e m h i n : ℕ} → AsMany d e m h i n → AsMany a b l d e m → AsMany a b l h i n
-two ∘ one = record { futures = two.futures ∙ one.futures; runs = two.runs ∙ one.runs; limit = two.limit ∙ one.limit }
+pub ◌∘◌ : {a b d e h i : ℕ} {l m n : List Due} → AsMany d e m h i n → AsMany a b l d e m → AsMany a b l h i n
+two ∘ one = record { futures = two.futures ∙ one.futures; runs = two.runs ∙ one.runs; kept = λ few. two.kept (one.kept few) }
 
 module _ {T X : Type 0} where
   abbrev pub Long : Plain T (SoloWaker X) → Plain T (SoloWaker X) → Type 0
-  Long p q = AsMany (length p.futures) (length p.runs) p.limit (length q.futures) (length q.runs) q.limit
+  Long p q = AsMany (length p.futures) (length p.runs) p.due (length q.futures) (length q.runs) q.due
 
   pub of_still : (c : Choice) {p q : Plain T (SoloWaker X)} → Still c p q → Long p q
-  of_still c s = record { futures = s.futures; runs = ap (λ (rs : List Running). length rs) s.runs; limit = s.limit }
+  of_still c s = record {
+    futures = s.futures;
+    runs = ap (λ (rs : List Running). length rs) s.runs;
+    kept = λ few r. subst (λ (ds : List Due). length ds ≤ 512) (sym (s.kept r)) (few r);
+  }
 
 module _ {T X : Type 0} (c : Choice) where
   abbrev loud : Plain T (SoloWaker X) → Plain T (SoloWaker X)
@@ -48,55 +53,55 @@ module _ {T X : Type 0} (c : Choice) where
   becomes_long f new p = of_still c (becomes_still c loud (tell_still c) f new p)
 
   called_long : (o : Option (SoloWaker X)) (p : Plain T (SoloWaker X)) → Long p (on o (called wakes loud) p)
-  called_long None p = record { futures = refl; runs = refl; limit = refl }
+  called_long None p = record { futures = refl; runs = refl; kept = λ few. few }
   called_long (Some w) p = of_still c (called_still c loud (tell_still c) w p)
 
   went_long : (o : Option (SoloWaker X)) (p : Plain T (SoloWaker X)) → Long p (on o (let_go wakes loud) p)
-  went_long None p = record { futures = refl; runs = refl; limit = refl }
+  went_long None p = record { futures = refl; runs = refl; kept = λ few. few }
   went_long (Some w) p = of_still c (let_go_still c loud (tell_still c) w p)
 
   changed_long : (h : Future T (SoloWaker X) → Future T (SoloWaker X)) (f : ℕ) (p : Plain T (SoloWaker X)) → Long p (changed h f p)
   changed_long h f p = by (slice_get p.futures f)
     where
       by : (o : Option (Future T (SoloWaker X))) → Long p (on o (λ x p. record p { futures = slice_set p.futures f (h x) }) p)
-      by None = record { futures = refl; runs = refl; limit = refl }
-      by (Some x) = record { futures = length_set p.futures f (h x); runs = refl; limit = refl }
+      by None = record { futures = refl; runs = refl; kept = λ few. few }
+      by (Some x) = record { futures = length_set p.futures f (h x); runs = refl; kept = λ few. few }
 
   runs_long : (h : Running → Running) (r : ℕ) (p : Plain T (SoloWaker X)) → Long p (moves.runs h r p)
   runs_long h r p = by (slice_get p.runs r)
     where
       by : (o : Option Running) → Long p (on o (λ run p. record p { runs = slice_set p.runs r (h run) }) p)
-      by None = record { futures = refl; runs = refl; limit = refl }
-      by (Some run) = record { futures = refl; runs = length_set p.runs r (h run); limit = refl }
+      by None = record { futures = refl; runs = refl; kept = λ few. few }
+      by (Some run) = record { futures = refl; runs = length_set p.runs r (h run); kept = λ few. few }
 
   repeat_long : (n : ℕ) (f : Plain T (SoloWaker X) → Plain T (SoloWaker X)) → ((p : Plain T (SoloWaker X)) → Long p (f p))
       → (p : Plain T (SoloWaker X)) → Long p (repeat n f p)
-  repeat_long zero f one p = record { futures = refl; runs = refl; limit = refl }
+  repeat_long zero f one p = record { futures = refl; runs = refl; kept = λ few. few }
   repeat_long (suc n) f one p = repeat_long n f one (f p) ∘ one p
 
   pub each_long : {B : Type 0} (bs : List B) (f : B → Plain T (SoloWaker X) → Plain T (SoloWaker X))
       → ((b : B) (p : Plain T (SoloWaker X)) → Long p (f b p)) → (p : Plain T (SoloWaker X)) → Long p (each bs f p)
-  each_long [] f one p = record { futures = refl; runs = refl; limit = refl }
+  each_long [] f one p = record { futures = refl; runs = refl; kept = λ few. few }
   each_long (b ∷ bs) f one p = each_long bs f one (f b p) ∘ one b p
 
   keeps_long : (r : ℕ) (test : Due → Bool) (p : Plain T (SoloWaker X)) → Long p (moves.keeps r test p)
-  keeps_long r test p = by (nat_lt (count_by (is_kept r) p.due) 512)
+  keeps_long r test p = by (nat_lt (count_by (is_kept r) p.due) 512) refl
     where
-      one : (o : Option Due)
+      one : nat_lt (count_by (is_kept r) p.due) 512 ≡ true → (o : Option Due)
           → Long p (on o (λ d p. record p { due = without test p.due ++ record d { keeper = Some r } ∷ [] }) p)
-      one None = record { futures = refl; runs = refl; limit = refl }
-      one (Some d) = record { futures = refl; runs = refl; limit = refl }
+      one room None = record { futures = refl; runs = refl; kept = λ few. few }
+      one room (Some d) = record { futures = refl; runs = refl; kept = moved_few r test p.due d room }
 
-      by : (b : Bool) → Long p (if b then moved r test p else p)
-      by true = one (find test p.due)
-      by false = record { futures = refl; runs = refl; limit = refl }
+      by : (b : Bool) → nat_lt (count_by (is_kept r) p.due) 512 ≡ b → Long p (if b then moved r test p else p)
+      by true room = one room (find test p.due)
+      by false room = record { futures = refl; runs = refl; kept = λ few. few }
 
   up_long : (who : Who) (p : Plain T (SoloWaker X)) → Long p (up wakes c who p)
   up_long who p = by (find (lies who) p.lying)
     where
       by : (o : Option (Lying (SoloWaker X)))
           → Long p (on o (λ l p. on l.waker (let_go wakes (tell wakes c)) (record p { lying = without (lies who) p.lying })) p)
-      by None = record { futures = refl; runs = refl; limit = refl }
+      by None = record { futures = refl; runs = refl; kept = λ few. few }
       by (Some l) = went_long l.waker (record p { lying = without (lies who) p.lying })
 
   pub leaves_long : (who : Who) (p : Plain T (SoloWaker X)) → Long p (moves.leaves wakes c who p)
@@ -108,7 +113,7 @@ module _ {T X : Type 0} (c : Choice) where
 
       by : (o : Option (Lying (SoloWaker X)))
           → Long p (on o (λ l p. if is_called l then tell wakes c (up wakes c who p) else up wakes c who p) p)
-      by None = record { futures = refl; runs = refl; limit = refl }
+      by None = record { futures = refl; runs = refl; kept = λ few. few }
       by (Some l) = which (is_called l)
 
   run_long : (f : ℕ) (by : Taker (SoloWaker X)) (p : Plain T (SoloWaker X)) → Long p (takes.run wakes c f by p)
@@ -116,15 +121,15 @@ module _ {T X : Type 0} (c : Choice) where
     where
       which : (b : Bool) → Long p (if b then takes.dropping wakes c f Closed by p
           else enters (Poll f by) (see (Polls f) (put f (abstract.begin_run (task f p)) p)))
-      which true = record { futures = refl; runs = refl; limit = refl }
+      which true = record { futures = refl; runs = refl; kept = λ few. few }
       which false = of_still c (put_still c f (abstract.begin_run (task f p)) p)
 
   robbed_long : (r : ℕ) (keeper : Option ℕ) (p : Plain T (SoloWaker X)) → Long p (takes.robbed wakes c r keeper p)
-  robbed_long r None p = record { futures = refl; runs = refl; limit = refl }
+  robbed_long r None p = record { futures = refl; runs = refl; kept = λ few. few }
   robbed_long r (Some k) p = by (r == k)
     where
       by : (b : Bool) → Long p (if b then p else repeat c.moves (moves.keeps r (is_kept k)) p)
-      by true = record { futures = refl; runs = refl; limit = refl }
+      by true = record { futures = refl; runs = refl; kept = λ few. few }
       by false = repeat_long c.moves (moves.keeps r (is_kept k)) (keeps_long r (is_kept k)) p
 
   takes_long : (by : Taker (SoloWaker X)) (d : Due) (p : Plain T (SoloWaker X)) → Long p (takes.takes wakes c by d p)
@@ -163,11 +168,11 @@ module _ {T X : Type 0} (c : Choice) where
 
   rests_long : (g : Refusal) (who : Who) (w : SoloWaker X) (p : Plain T (SoloWaker X)) → Long p (takes.rests wakes c g who w p)
   rests_long Granted who w p = lies_long who w p
-  rests_long AtOnce who w p = record { futures = refl; runs = refl; limit = refl }
+  rests_long AtOnce who w p = record { futures = refl; runs = refl; kept = λ few. few }
   rests_long Later who w p = lies_long who w p
 
   nothing_long : (by : Taker (SoloWaker X)) (p : Plain T (SoloWaker X)) → Long p (takes.nothing wakes c by p)
-  nothing_long Try p = record { futures = refl; runs = refl; limit = refl }
+  nothing_long Try p = record { futures = refl; runs = refl; kept = λ few. few }
   nothing_long (Tick t w) p = rests_long c.refusal (ATick t) w p
   nothing_long (Run r w) p = rests_long c.refusal (ARun r) w p
 
@@ -178,7 +183,9 @@ module _ {T X : Type 0} (c : Choice) where
           → Long p (or o (λ d. takes.takes wakes c by d (record p { due = without (chosen (looks c by) p.due) p.due }))
           (takes.nothing wakes c by p))
       which None = nothing_long by p
-      which (Some d) = takes_long by d (record p { due = without (chosen (looks c by) p.due) p.due })
+      which (Some d) =
+          takes_long by d (record p { due = without (chosen (looks c by) p.due) p.due })
+          ∘ record { futures = refl; runs = refl; kept = without_few (chosen (looks c by) p.due) p.due }
 
   way_long : (r : ℕ) (w : SoloWaker X) (p : Plain T (SoloWaker X)) → Long p (takes.gives_way wakes c r w p)
   way_long r w p = by (wakes w) ∘ runs_long (λ run. record run { taken = 0 }) r p
@@ -187,13 +194,13 @@ module _ {T X : Type 0} (c : Choice) where
           → Long (moves.runs (λ run. record run { taken = 0 }) r p)
           (or o (λ f. wake wakes (takes.tell wakes c) f (moves.runs (λ run. record run { taken = 0 }) r p))
           (see (Calls w) (moves.runs (λ run. record run { taken = 0 }) r p)))
-      by None = record { futures = refl; runs = refl; limit = refl }
+      by None = record { futures = refl; runs = refl; kept = λ few. few }
       by (Some f) =
           let q = moves.runs (λ run. record run { taken = 0 }) r p in becomes_long f (abstract.wake (task f q)) q
 
   next_long : (by : Taker (SoloWaker X)) (p : Plain T (SoloWaker X)) → Long p (takes.next wakes c by p)
-  next_long Try p = record { futures = refl; runs = refl; limit = refl }
-  next_long (Tick t w) p = record { futures = refl; runs = refl; limit = refl }
+  next_long Try p = record { futures = refl; runs = refl; kept = λ few. few }
+  next_long (Tick t w) p = record { futures = refl; runs = refl; kept = λ few. few }
   next_long (Run r w) p = which (nat_lt (or (slice_get p.runs r) (λ run. run.taken) 0) 200)
     where
       which : (b : Bool) → Long p (if b then takes.take wakes c (Run r w) p else takes.gives_way wakes c r w p)
@@ -213,7 +220,7 @@ module _ {T X : Type 0} (c : Choice) where
           → Long (put f left.task p)
           (or o (λ v. enters (Lose left.called by) (see (Loses v) (put f left.task p)))
           (takes.lost wakes c left.called by (on left.let_go (let_go wakes loud) (put f left.task p))))
-      which (Some v) = record { futures = refl; runs = refl; limit = refl }
+      which (Some v) = record { futures = refl; runs = refl; kept = λ few. few }
       which None =
           lost_long left.called by (on left.let_go (let_go wakes loud) (put f left.task p)) ∘ went_long left.let_go (put f left.task p)
 
@@ -221,7 +228,7 @@ module _ {T X : Type 0} (c : Choice) where
   given_long f p = by p.is_static
     where
       by : (b : Bool) → Long p (if b then p else release wakes (takes.tell wakes c) f p)
-      by true = record { futures = refl; runs = refl; limit = refl }
+      by true = record { futures = refl; runs = refl; kept = λ few. few }
       by false = becomes_long f (abstract.release (task f p)) p
 
   dropped_long : (f : ℕ) (end : End T) (by : Taker (SoloWaker X)) (p : Plain T (SoloWaker X))
@@ -234,7 +241,7 @@ module _ {T X : Type 0} (c : Choice) where
 
   pending_long : (e : abstract.PendingEnd) (f : ℕ) (by : Taker (SoloWaker X)) (p : Plain T (SoloWaker X))
       → Long p (plain.pending_by wakes c e f by p)
-  pending_long EndDrops f by p = record { futures = refl; runs = refl; limit = refl }
+  pending_long EndDrops f by p = record { futures = refl; runs = refl; kept = λ few. few }
   pending_long EndForgets f by p = of_still c (put_still c f (record (task f p) { phase = abstract.Phase.Finished; closed = true }) p)
   pending_long EndQueues f by p =
       next_long by (becomes wakes loud f (abstract.end_pending (task f p)).task p)
@@ -256,8 +263,16 @@ module _ {T X : Type 0} (c : Choice) where
         where
           by : (o : Option Due)
               → Long p (on o (λ d p. appended d.future (record p { due = without (is_kept r) p.due })) p)
-          by None = record { futures = refl; runs = refl; limit = refl }
-          by (Some d) = record { futures = refl; runs = refl; limit = refl }
+          by None = record { futures = refl; runs = refl; kept = λ few. few }
+          by (Some d) = record {
+            futures = refl;
+            runs = refl;
+            kept =
+                λ few.
+                last_few (without (is_kept r) p.due)
+                (record { future = d.future; mark = mark d.future (record p { due = without (is_kept r) p.due }); keeper = None }) refl
+                (without_few (is_kept r) p.due few);
+          }
 
   pub freed_long : (f : ℕ) (p : Plain T (SoloWaker X)) → Long p (plain.freed wakes c f p)
   freed_long f p =
@@ -276,14 +291,14 @@ module _ {T X : Type 0} (c : Choice) where
     where
       by : (g : Bool) → Long p (if g then answers Made (put f (abstract.copy (task f p)) p) else answers NoMemory p)
       by true = of_still c (put_still c f (abstract.copy (task f p)) p)
-      by false = record { futures = refl; runs = refl; limit = refl }
+      by false = record { futures = refl; runs = refl; kept = λ few. few }
 
   pub new_tick_long : (p : Plain T (SoloWaker X)) → Long p (does wakes c Call.NewTick p)
   new_tick_long p = by (is_granted c.refusal)
     where
       by : (g : Bool) → Long p (if g then answers Made p else answers NoMemory p)
-      by true = record { futures = refl; runs = refl; limit = refl }
-      by false = record { futures = refl; runs = refl; limit = refl }
+      by true = record { futures = refl; runs = refl; kept = λ few. few }
+      by false = record { futures = refl; runs = refl; kept = λ few. few }
 
   pub over_long : (r : ℕ) (a b p : Plain T (SoloWaker X)) → Long p a → Long p b
       → Long p (if or (slice_get p.runs r) (λ run. run.is_over) true then a else b)
@@ -297,26 +312,26 @@ module _ {T X : Type 0} (c : Choice) where
   pends_long p = by p.inside
     where
       by : (cs : List (Code T (SoloWaker X))) → Long p (plain.innermost wakes c cs (plain.pends wakes c) p)
-      by [] = record { futures = refl; runs = refl; limit = refl }
+      by [] = record { futures = refl; runs = refl; kept = λ few. few }
       by (Poll f taker ∷ rest) =
           pending_long (abstract.pending_end (task f (record p { inside = rest }))) f taker (record p { inside = rest })
       by (PollOwn r w ∷ rest) = take_long (Run r w) (record p { inside = rest })
-      by (Drop f end taker ∷ rest) = record { futures = refl; runs = refl; limit = refl }
-      by (Lose awaiter taker ∷ rest) = record { futures = refl; runs = refl; limit = refl }
-      by (DropOwn r answer ∷ rest) = record { futures = refl; runs = refl; limit = refl }
-      by (Close fs all ∷ rest) = record { futures = refl; runs = refl; limit = refl }
+      by (Drop f end taker ∷ rest) = record { futures = refl; runs = refl; kept = λ few. few }
+      by (Lose awaiter taker ∷ rest) = record { futures = refl; runs = refl; kept = λ few. few }
+      by (DropOwn r answer ∷ rest) = record { futures = refl; runs = refl; kept = λ few. few }
+      by (Close fs all ∷ rest) = record { futures = refl; runs = refl; kept = λ few. few }
 
   pub gives_long : (v : T) (p : Plain T (SoloWaker X)) → Long p (does wakes c (Call.EndsWith v) p)
   gives_long v p = by p.inside
     where
       by : (cs : List (Code T (SoloWaker X))) → Long p (plain.innermost wakes c cs (plain.gives wakes c v) p)
-      by [] = record { futures = refl; runs = refl; limit = refl }
-      by (Poll f taker ∷ rest) = record { futures = refl; runs = refl; limit = refl }
-      by (PollOwn r w ∷ rest) = record { futures = refl; runs = refl; limit = refl }
-      by (Drop f end taker ∷ rest) = record { futures = refl; runs = refl; limit = refl }
-      by (Lose awaiter taker ∷ rest) = record { futures = refl; runs = refl; limit = refl }
-      by (DropOwn r answer ∷ rest) = record { futures = refl; runs = refl; limit = refl }
-      by (Close fs all ∷ rest) = record { futures = refl; runs = refl; limit = refl }
+      by [] = record { futures = refl; runs = refl; kept = λ few. few }
+      by (Poll f taker ∷ rest) = record { futures = refl; runs = refl; kept = λ few. few }
+      by (PollOwn r w ∷ rest) = record { futures = refl; runs = refl; kept = λ few. few }
+      by (Drop f end taker ∷ rest) = record { futures = refl; runs = refl; kept = λ few. few }
+      by (Lose awaiter taker ∷ rest) = record { futures = refl; runs = refl; kept = λ few. few }
+      by (DropOwn r answer ∷ rest) = record { futures = refl; runs = refl; kept = λ few. few }
+      by (Close fs all ∷ rest) = record { futures = refl; runs = refl; kept = λ few. few }
 
   closed_long : (f : ℕ) (p : Plain T (SoloWaker X)) → Long p (plain.closed wakes c f p)
   closed_long f p =
@@ -328,16 +343,16 @@ module _ {T X : Type 0} (c : Choice) where
       let q = each all (plain.freed wakes c) p in
       each_long (filter (is_common Urgent) q.due ++ filter (is_common PlainMark) q.due) (λ d. plain.closed wakes c d.future)
       (λ d. closed_long d.future) (record q { due = [] })
-      ∘ each_long all (plain.freed wakes c) freed_long p
+      ∘ (record { futures = refl; runs = refl; kept = λ few. none_kept } ∘ each_long all (plain.freed wakes c) freed_long p)
   close_long (f ∷ fs) all p = changed_long (λ future. record future { is_dropped = true }) f p
 
   pub ends_long : (p : Plain T (SoloWaker X)) → Long p (does wakes c Call.Ends p)
   ends_long p = by p.inside
     where
       by : (cs : List (Code T (SoloWaker X))) → Long p (plain.innermost wakes c cs (plain.ends wakes c) p)
-      by [] = record { futures = refl; runs = refl; limit = refl }
-      by (Poll f taker ∷ rest) = record { futures = refl; runs = refl; limit = refl }
-      by (PollOwn r w ∷ rest) = record { futures = refl; runs = refl; limit = refl }
+      by [] = record { futures = refl; runs = refl; kept = λ few. few }
+      by (Poll f taker ∷ rest) = record { futures = refl; runs = refl; kept = λ few. few }
+      by (PollOwn r w ∷ rest) = record { futures = refl; runs = refl; kept = λ few. few }
       by (Drop f end taker ∷ rest) = dropped_long f end taker (record p { inside = rest })
       by (Lose awaiter taker ∷ rest) = lost_long awaiter taker (record p { inside = rest })
       by (DropOwn r answer ∷ rest) = gone_long r (record p { inside = rest })

@@ -150,8 +150,7 @@ module _ {F T X : Type 0} (its : ℕ → Lent) (c : Choice) (s : Solo F T X) (p 
   TakesRoom owner call shown now z (makes call' shown' z' how) = Enters call' shown' z' how
   TakesRoom owner call shown now z how = Unit {0}
 
--- how many tasks a call queues at most, where there are so many futures, and so many stand in the own queue of a run that goes; a new run
--- counts as one
+-- how many tasks a call queues at most, where there are so many futures, and so many stand in the own queue of a run that goes
 abbrev pub queues_at_most : {T A : Type 0} → ℕ → ℕ → Call T A → ℕ
 queues_at_most futures own IsEmpty = 0
 queues_at_most futures own (Copy f) = 0
@@ -159,7 +158,7 @@ queues_at_most futures own NewTick = 0
 queues_at_most futures own (PollRun r w) = 0
 queues_at_most futures own (DropRun r) = 0
 queues_at_most futures own (EndsWith v) = 0
-queues_at_most futures own NewRun = 1
+queues_at_most futures own NewRun = 0
 queues_at_most futures own (DropTick t) = 5
 queues_at_most futures own (PollTick t w) = 6
 queues_at_most futures own (Cancel f) = 6
@@ -173,6 +172,11 @@ queues_at_most futures own call = 3
 abbrev pub comes : {T A : Type 0} → Call T A → ℕ
 comes (Spawn mark) = 1
 comes call = 0
+
+-- 512 at most stand in the own queue of a new run as it goes
+abbrev pub gives_back : {T A : Type 0} → Call T A → ℕ
+gives_back NewRun = 3 * 512
+gives_back call = 0
 
 -- this is so of the waker by which a run is polled, in each user's code
 module _ {A : Type 0} (Is : A → Type 0) where
@@ -291,7 +295,7 @@ by_number f = record { task = record { key = f; number = f }; place = record { k
 -- how many tasks a list of calls queues at most, where so many futures came before it
 abbrev pub queued_by : {T A : Type 0} → ℕ → List (Wish T A) → ℕ
 queued_by came [] = 0
-queued_by came (x ∷ xs) = queues_at_most came 512 x.call + queued_by (came + comes x.call) xs
+queued_by came (x ∷ xs) = queues_at_most came 0 x.call + gives_back x.call + queued_by (came + comes x.call) xs
 
 -- each call is the one that was wished, and memory is refused as was decided
 abbrev pub AreWished : {T A : Type 0} → List (Wish T A) → List (Choice × Call T A) → Type 0

@@ -1,4 +1,5 @@
--- No call takes a future back; a spawn lets one come at most, and one run a call that makes one; and a run keeps 512 at most.
+-- No call takes a future back; a spawn lets one come at most, and one run a call that makes one; and a run
+-- keeps 512 at most.
 use Rattle.std.proofs.Common.{◌≡◌, ℕ, ◌+◌, ◌≤◌, nat_lt, if◌then◌else◌, Bool, true, false, List, [], ◌∷◌, ◌++◌}
 use Rattle.std.proofs.Common.{length, refl, sym, ap, subst, ◌∙◌, arith}
 use Rattle.executor_parts.specs.declared.mark.Mark.{Mark}
@@ -24,6 +25,7 @@ use Rattle.solo_laws.proofs.Following.Adding.{long_last}
 use Rattle.solo_laws.proofs.Following.Both.{handled_still}
 use Rattle.solo_laws.proofs.Following.Calling.{cancel_still}
 use Rattle.solo_laws.proofs.Following.Frames.{appended_still, tell_still}
+use Rattle.solo_laws.proofs.Happening.Goers.{goers, one_goer, same_goers}
 use Rattle.solo_laws.proofs.Happening.Places.{FewKept}
 use Rattle.solo_laws.proofs.Happening.Long.{Long, ◌∘◌, becomes_long, close_long, copy_long, detach_long, each_long, ends_long}
 use Rattle.solo_laws.proofs.Happening.Long.{freed_long}
@@ -52,6 +54,7 @@ module _ {T X : Type 0} where
     pub futures : length p.futures ≤ length q.futures
     pub most_futures : length q.futures ≤ length p.futures + comes call
     pub most_runs : length q.runs ≤ length p.runs + begins call
+    pub going : goers q.runs ≤ goers p.runs + begins call
     pub kept : FewKept p.due → FewKept q.due
 
   of_long : (call : Call T (SoloWaker X)) (p q : Plain T (SoloWaker X)) → Long p q → Grows call p q
@@ -59,6 +62,7 @@ module _ {T X : Type 0} where
     futures = same_long (length p.futures) (length q.futures) l.futures;
     most_futures = most_more (length p.futures) (length q.futures) (comes call) l.futures;
     most_runs = most_more (length p.runs) (length q.runs) (begins call) l.runs;
+    going = (let less = l.going in omega (arith, less));
     kept = l.kept;
   }
 
@@ -88,6 +92,7 @@ module _ {T X : Type 0} (c : Choice) where
           of_long (Call.Spawn mark) p q (record {
             futures = ap (λ (fs : List (Future T (SoloWaker X))). length fs) futures;
             runs = ap (λ (rs : List Running). length rs) runs;
+            going = same_goers _ _ runs;
             kept = λ few. subst FewKept (sym due) few;
           })
 
@@ -101,6 +106,7 @@ module _ {T X : Type 0} (c : Choice) where
             futures = one_less (length p.futures) (length q.futures) long;
             most_futures = one_more (length p.futures) (length q.futures) long;
             most_runs = most_more (length p.runs) (length q.runs) 0 (ap (λ (rs : List Running). length rs) still.runs);
+            going = (let less = same_goers _ _ still.runs in omega (arith, less));
             kept =
                 λ few r.
                 subst (λ (ds : List Due). length ds ≤ 512)
@@ -119,9 +125,10 @@ module _ {T X : Type 0} (c : Choice) where
         futures = omega arith;
         most_futures = omega arith;
         most_runs = one_more (length p.runs) _ (long_last p.runs _);
+        going = (let more = one_goer p.runs (record { taken = 0; is_over = false }) in omega (arith, more));
         kept = λ few. few;
       }
-      by false = of_long Call.NewRun p (answers NoMemory p) (record { futures = refl; runs = refl; kept = λ few. few })
+      by false = of_long Call.NewRun p (answers NoMemory p) (record { futures = refl; runs = refl; going = omega arith; kept = λ few. few })
 
   answered : (q p : Plain T (SoloWaker X)) → Long p q → Long p (answers Done q)
   answered q p l = l
@@ -133,7 +140,7 @@ module _ {T X : Type 0} (c : Choice) where
   pub call_grows : (call : Call T (SoloWaker X)) (p : Plain T (SoloWaker X)) → Grows call p (does wakes c call p)
   call_grows (Call.Spawn mark) p = spawn_grows mark p
   call_grows Call.TryTick p = of_long Call.TryTick p (does wakes c Call.TryTick p) (take_long c Try p)
-  call_grows Call.IsEmpty p = of_long Call.IsEmpty p (does wakes c Call.IsEmpty p) (record { futures = refl; runs = refl; kept = λ few. few })
+  call_grows Call.IsEmpty p = of_long Call.IsEmpty p (does wakes c Call.IsEmpty p) (record { futures = refl; runs = refl; going = omega arith; kept = λ few. few })
   call_grows (Call.Wake f) p = of_long (Call.Wake f) p (does wakes c (Call.Wake f) p) (becomes_answers f (abstract.wake (task f p)) p)
   call_grows (Call.Use f) p = of_long (Call.Use f) p (does wakes c (Call.Use f) p) (becomes_answers f (abstract.release (abstract.wake (task f p))) p)
   call_grows (Call.Copy f) p = of_long (Call.Copy f) p (does wakes c (Call.Copy f) p) (copy_long c f p)
@@ -152,16 +159,16 @@ module _ {T X : Type 0} (c : Choice) where
   call_grows Call.NewRun p = new_run_grows p
   call_grows (Call.PollRun r w) p =
       of_long (Call.PollRun r w) p (does wakes c (Call.PollRun r w) p)
-      (over_long c r (answers Finished p) (enters (PollOwn r w) p) p (record { futures = refl; runs = refl; kept = λ few. few })
-      (record { futures = refl; runs = refl; kept = λ few. few }))
+      (over_long c r (answers Finished p) (enters (PollOwn r w) p) p (record { futures = refl; runs = refl; going = omega arith; kept = λ few. few })
+      (record { futures = refl; runs = refl; going = omega arith; kept = λ few. few }))
   call_grows (Call.DropRun r) p =
       of_long (Call.DropRun r) p (does wakes c (Call.DropRun r) p)
-      (over_long c r (answers Done p) (enters (DropOwn r Done) p) p (record { futures = refl; runs = refl; kept = λ few. few })
-      (record { futures = refl; runs = refl; kept = λ few. few }))
+      (over_long c r (answers Done p) (enters (DropOwn r Done) p) p (record { futures = refl; runs = refl; going = omega arith; kept = λ few. few })
+      (record { futures = refl; runs = refl; going = omega arith; kept = λ few. few }))
   call_grows Call.Leak p =
       let q = each (living_from 0 p.futures) (plain.freed wakes c) (record p { is_static = true }) in
       let it = each_long c (living_from 0 p.futures) (plain.freed wakes c) (freed_long c) (record p { is_static = true }) in
-      of_long Call.Leak p (does wakes c Call.Leak p) (record { futures = it.futures; runs = it.runs; kept = it.kept })
+      of_long Call.Leak p (does wakes c Call.Leak p) (record { futures = it.futures; runs = it.runs; going = it.going; kept = it.kept })
   call_grows Call.DropExecutor p = of_long Call.DropExecutor p (does wakes c Call.DropExecutor p)
       (close_long c (living_from 0 p.futures) (living_from 0 p.futures) p)
   call_grows Call.Pends p = of_long Call.Pends p (does wakes c Call.Pends p) (pends_long c p)

@@ -1,6 +1,6 @@
 -- A call queues so many tasks at most.
-use Rattle.std.proofs.Common.{ℕ, suc, ◌+◌, ◌*◌, ◌≤◌, Bool, true, false, List, [], ◌∷◌, ◌++◌, filter, is_some, length, not, if◌then◌else◌}
-use Rattle.std.proofs.Common.{None, sym, ap, subst, ◌∙◌, arith}
+use Rattle.std.proofs.Common.{◌≡◌, ℕ, suc, ◌+◌, ◌*◌, ◌≤◌, Bool, true, false, List, [], ◌∷◌, ◌++◌, filter, is_some, length, not, if◌then◌else◌}
+use Rattle.std.proofs.Common.{None, refl, sym, ap, subst, ◌∙◌, arith}
 use Rattle.solo.specs.declared.names.Task.{Task}
 use Rattle.solo.specs.declared.names.SoloWaker.{SoloWaker}
 use Rattle.solo.specs.declared.owed.Lent.{Lent}
@@ -12,8 +12,9 @@ use Rattle.solo.specs.Cells as cells
 use Rattle.solo.specs.OwnQueues as own
 use Rattle.solo.specs.Solo as solo
 use Rattle.solo.specs.Turns as turns
+use Rattle.plain_scheduler.specs.State.{Close, Code, Drop, DropOwn, Lose, Poll, PollOwn}
 use Rattle.plain_scheduler.specs.State.{Answers, ARun, ATick, Choice, Drops, Event, Future, Loses, Plain, Yes}
-use Rattle.plain_scheduler.specs.Calls.{Call, Ends, Pends, does, is_granted, living_from}
+use Rattle.plain_scheduler.specs.Calls.{Call, Ends, Pends, does, ends, gone, innermost, is_granted, living_from}
 use Rattle.plain_scheduler.specs.Moves.{is_kept}
 use Rattle.solo_laws.specs.Alike as alike
 use Rattle.solo_laws.specs.Courses.{Acts, Makes, cancels, copies, detaches, drops_handle, ends_closed, ends_given, gives, leaks, looks}
@@ -22,7 +23,7 @@ use Rattle.solo_laws.specs.Courses.{own_ready, pends, polls, refuses, releases, 
 use Rattle.solo_laws.specs.Courses.{run_looks, run_loses, run_polled, spawns, takes, tick_leaves, tick_lies_refused, tick_refused}
 use Rattle.solo_laws.specs.Courses.{tick_rests, tick_takes, uses, wakes as wakes_it}
 use Rattle.solo_laws.specs.Dropping.{after_drop}
-use Rattle.solo_laws.specs.Making.{queues_at_most}
+use Rattle.solo_laws.specs.Making.{left_in, queues_at_most}
 use Rattle.solo_laws.specs.Numbered.{ticker_of}
 use Rattle.solo_laws.specs.Owner.{Owner}
 use Rattle.solo_laws.specs.Road.{HasLife, due_task, wakes}
@@ -38,6 +39,8 @@ use Rattle.solo_laws.proofs.Following.Lives.{woken_lives}
 use Rattle.solo_laws.proofs.Following.Lines.{younger}
 use Rattle.solo_laws.proofs.Happening.Choosing.{fewer}
 use Rattle.solo_laws.proofs.Happening.Ends.{calls_lives, left_lives, lets_go_lives, pends_lives}
+use Rattle.solo_laws.proofs.Happening.Goers.{goers}
+use Rattle.solo_laws.proofs.Happening.Long.{ends_long, gone_fewer}
 use Rattle.solo_laws.proofs.Happening.Places.{FewKept}
 use Rattle.solo_laws.proofs.Happening.Spending.{L, copies_lives, found_lives, leaked_lives, once_lives, popped_lives, rested_lives}
 use Rattle.solo_laws.proofs.Happening.Spending.{run_left_lives, run_rested_lives, search_lives, slept_from_lives, sought_lives}
@@ -71,6 +74,35 @@ module _ {F T X : Type 0} (its : ℕ → Lent) (s : Solo F T X) (p : Plain T (So
           let most = few r in
           omega (arith, long, most)
       by false = omega arith
+
+  -- and none in that of one that is over
+  none_kept : (r : ℕ) → goes_on r p ≡ false → own.count_of r s.runs ≤ 0
+  none_kept r over =
+      subst (λ o. own.count_in o ≤ 0)
+      (sym (both.1.queues r ∙ ap (λ b. own_of its b (filter (is_kept r) p.due)) over)) (omega arith)
+
+  -- what a run gives back as it goes is counted as long as it goes on
+  pub drop_pays : (c : Choice) (owner : Owner) → FewKept p.due
+      → 3 * left_in its owner s p p.inside + 3 * 512 * goers (does wakes c Ends p).runs ≤ 3 * 512 * goers p.runs
+  drop_pays c owner few = by p.inside (ends_long c p).going
+    where
+      by : (cs : List (Code T (SoloWaker X))) → goers (innermost wakes c cs (ends wakes c) p).runs ≤ goers p.runs
+          → 3 * left_in its owner s p cs + 3 * 512 * goers (innermost wakes c cs (ends wakes c) p).runs ≤ 3 * 512 * goers p.runs
+      by [] less = omega (arith, less)
+      by (Poll f taker ∷ rest) less = omega (arith, less)
+      by (Drop f end taker ∷ rest) less = omega (arith, less)
+      by (Lose awaiter taker ∷ rest) less = omega (arith, less)
+      by (PollOwn r w ∷ rest) less = omega (arith, less)
+      by (Close fs all ∷ rest) less = omega (arith, less)
+      by (DropOwn r answer ∷ rest) less = which (goes_on r p) refl
+        where
+          which : (b : Bool) → goes_on r p ≡ b
+              → 3 * own.count_of r s.runs + 3 * 512 * goers (gone wakes c r (record p { inside = rest })).runs ≤ 3 * 512 * goers p.runs
+          which true goes =
+              let most = few_kept few r in
+              let fewer = gone_fewer c r (record p { inside = rest }) goes in
+              omega (arith, most, fewer)
+          which false over = (let none = none_kept r over in omega (arith, none, less))
 
 -- what ends as in a try queues no more than this
 abbrev pub least : {T A : Type 0} → ℕ → Call T A → ℕ
@@ -182,7 +214,7 @@ module _ {F T X : Type 0} (its : ℕ → Lent) (owner : Owner) (c : Choice) (run
   runs_on_live shown now z (gives_way enough names life) = woken_by_lives n w s (three_fewer (suc (suc (suc n))) s.lines six)
 
 module _ {F T X : Type 0} (its : ℕ → Lent) (owner : Owner) (c : Choice) (s : Solo F T X) (p : Plain T (SoloWaker X)) (n k came most_own : ℕ)
-    (entries : length s.table.entries ≤ came) (kept : (r : ℕ) → own.count_of r s.runs ≤ most_own) (life : HasLife k s.lines) where
+    (entries : length s.table.entries ≤ came) (left : left_in its owner s p p.inside ≤ most_own) (life : HasLife k s.lines) where
   its_some : (m : ℕ) → m ≤ k → L m s
   its_some m few = fewer m k s.lines few life
 
@@ -225,7 +257,7 @@ module _ {F T X : Type 0} (its : ℕ → Lent) (owner : Owner) (c : Choice) (s :
   acts_live now z call shown (run_dropped r going free) most = its_some n (omega (arith, most))
   acts_live now z call shown (over_dropped r over) most = its_some n (omega (arith, most))
   acts_live now z call shown (run_leaves runner answer rest is enough) most =
-      let few = kept runner.number in
+      let few = subst (λ cs. left_in its owner s p cs ≤ most_own) is left in
       run_left_lives n k (ticker_of owner.number (ARun runner.number) p.lying) runner s (omega (arith, few, most)) life
   acts_live now z call shown (makes_no_tick refused) most = its_some n (omega (arith, most))
   acts_live now z call shown (tick_refused t w lives_it none first refused) most = popped_lives n s (its_some n (omega (arith, most)))

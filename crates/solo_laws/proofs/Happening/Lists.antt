@@ -1,5 +1,5 @@
 -- Lists of calls happen: each future's name is free as it comes.
-use Rattle.std.proofs.Common.{◌≡◌, ℕ, ◌+◌, ◌*◌, if◌then◌else◌, ◌<◌, ◌≤◌, ◌==◌, cond, not, Bool, true, false, List, [], ◌∷◌, ◌++◌, length}
+use Rattle.std.proofs.Common.{◌≡◌, ℕ, suc, ◌+◌, ◌*◌, if◌then◌else◌, ◌<◌, ◌≤◌, ◌==◌, cond, not, Bool, true, false, List, [], ◌∷◌, ◌++◌, length}
 use Rattle.std.proofs.Common.{map, Option, Some}
 use Rattle.std.proofs.Common.{None, slice_index_or, refl, sym, ap, subst, ◌∙◌, arith}
 use Rattle.std.proofs.lemmas.Bool.Decides.{nat_tests}
@@ -19,7 +19,7 @@ use Rattle.plain_scheduler.specs.Calls.{Call, Ends, Leak, NewRun, PollRun, Spawn
 use Rattle.solo_laws.specs.Courses.{Leads, leads, stays}
 use Rattle.solo_laws.specs.Heeding.{Fits}
 use Rattle.solo_laws.specs.Making.{Allows, Goes, Happens, IsKnown, MayCall, MayGo, NextIsFree, WakersAreKnown, Wish, by_number, left_in}
-use Rattle.solo_laws.specs.Making.{HasNumber, comes, queued_by, queues_at_most}
+use Rattle.solo_laws.specs.Making.{HasNumber, comes, gives_back, queued_by, queues_at_most}
 use Rattle.solo_laws.specs.Owner.{Owner, new_owner}
 use Rattle.solo_laws.specs.Road.{HasLife, count_of, is_in, wakes}
 use Rattle.solo_laws.specs.Tabled.{Row, row, row_of}
@@ -28,7 +28,9 @@ use Rattle.solo_laws.proofs.Following.Leaving.{heads, tails}
 use Rattle.solo_laws.proofs.Following.Rows.{living_below}
 use Rattle.solo_laws.proofs.Showing.Courses.{Known, leads_alike, new_known}
 use Rattle.solo_laws.proofs.Happening.Choosing.{fewer}
-use Rattle.solo_laws.proofs.Happening.Lasting.{acts_live, few_entries, few_kept}
+use Rattle.solo_laws.proofs.Happening.Goers.{goers}
+use Rattle.solo_laws.proofs.Happening.Lasting.{acts_live, drop_pays, few_entries}
+use Rattle.solo_laws.proofs.Happening.Behind.{telling}
 use Rattle.solo_laws.proofs.Happening.Each.{happens}
 use Rattle.solo_laws.proofs.Happening.Free.{acts_vacant}
 use Rattle.solo_laws.proofs.Happening.Growing.{begins, call_grows}
@@ -80,13 +82,13 @@ none_yet limit n most mark = which mark (by (limit == 1))
     which Urgent is = is
 
 -- a future that comes is counted, and a run
-counts_futures : {T X : Type 0} (came : ℕ) (call : Call T (SoloWaker X)) → comes call ≤ queues_at_most came 512 call
+counts_futures : {T X : Type 0} (came : ℕ) (call : Call T (SoloWaker X)) → comes call ≤ queues_at_most came 0 call
 counts_futures came (Spawn mark) = omega arith
 counts_futures came call = omega arith
 
-counts_runs : {T X : Type 0} (came : ℕ) (call : Call T (SoloWaker X)) → begins call ≤ queues_at_most came 512 call
-counts_runs came NewRun = omega arith
-counts_runs came call = omega arith
+counts_runs : {T X : Type 0} (call : Call T (SoloWaker X)) → begins call ≤ gives_back call
+counts_runs NewRun = omega arith
+counts_runs call = omega arith
 
 module _ {F T X : Type 0} where
   next_free : (owner : Owner) (s : Solo F T X) (p : Plain T (SoloWaker X)) → Known by_number owner s p → IsVacant (length p.futures) s.cells
@@ -118,29 +120,42 @@ module _ {F T X : Type 0} where
       polls (PollRun r w) its = its.1
       polls call its = tt
 
+  -- what a call queues is counted, and what the runs that go on may give back
+  pays : (came : ℕ) (owner : Owner) (s : Solo F T X) (p : Plain T (SoloWaker X)) → Known by_number owner s p → FewKept p.due
+      → (c : Choice) (call : Call T (SoloWaker X))
+      → queues_at_most came (left_in by_number owner s p p.inside) call + 3 * 512 * goers (does wakes c call p).runs
+      ≤ queues_at_most came 0 call + gives_back call + 3 * 512 * goers p.runs
+  pays came owner s p known kept c call = by call (call_grows c call p).going
+    where
+      by : (call : Call T (SoloWaker X)) → goers (does wakes c call p).runs ≤ goers p.runs + begins call
+          → queues_at_most came (left_in by_number owner s p p.inside) call + 3 * 512 * goers (does wakes c call p).runs
+          ≤ queues_at_most came 0 call + gives_back call + 3 * 512 * goers p.runs
+      by Ends less = (let paid = drop_pays by_number s p known.stands c owner kept in omega (arith, paid))
+      by NewRun less = omega (arith, less)
+      by call less = omega (arith, less)
+
   -- what a call may queue may come, where so many more may
   may_call : (came n k : ℕ) (owner : Owner) (s : Solo F T X) (p : Plain T (SoloWaker X)) → Known by_number owner s p
-      → FewKept p.due → length p.futures ≤ came → (x : Wish T (SoloWaker X)) → Allows by_number owner s p x.refusal x.name x.call
-      → k ≡ queues_at_most came 512 x.call + n → HasLife k s.lines → length p.futures + k ≤ most_accepted
-      → length p.runs + k ≤ most_accepted → MayCall by_number owner s p x
-  may_call came n k owner s p known kept before x may is life futures runs = record {
+      → FewKept p.due → length p.futures ≤ came → (c : Choice) (x : Wish T (SoloWaker X))
+      → Allows by_number owner s p x.refusal x.name x.call → k ≡ queues_at_most came 0 x.call + gives_back x.call + n
+      → HasLife (k + 3 * 512 * goers p.runs) s.lines → length p.futures + k ≤ most_accepted → length p.runs + k ≤ most_accepted
+      → MayCall by_number owner s p x
+  may_call came n k owner s p known kept before c x may is life futures runs = record {
     allowed = may;
     life =
-        fewer (queues_at_most (length s.table.entries) (left_in by_number owner s p p.inside) x.call) k s.lines (enough x.call is) life;
+        fewer (queues_at_most (length s.table.entries) (left_in by_number owner s p p.inside) x.call) (k + 3 * 512 * goers p.runs) s.lines
+        (enough x.call is (pays came owner s p known kept c x.call)) life;
     number = numbered x.call is;
   }
     where
-      left : (cs : List (Code T (SoloWaker X))) → left_in by_number owner s p cs ≤ 512
-      left (DropOwn r answer ∷ cs) = few_kept by_number s p known.stands kept r
-      left cs = omega arith
+      enough : (call : Call T (SoloWaker X)) → k ≡ queues_at_most came 0 call + gives_back call + n
+          → queues_at_most came (left_in by_number owner s p p.inside) call + 3 * 512 * goers (does wakes c call p).runs
+          ≤ queues_at_most came 0 call + gives_back call + 3 * 512 * goers p.runs
+          → queues_at_most (length s.table.entries) (left_in by_number owner s p p.inside) call ≤ k + 3 * 512 * goers p.runs
+      enough Leak is paid = (let few = few_entries by_number s p known.stands in omega (arith, few, before, is))
+      enough call is paid = omega (arith, is, paid)
 
-      enough : (call : Call T (SoloWaker X)) → k ≡ queues_at_most came 512 call + n
-          → queues_at_most (length s.table.entries) (left_in by_number owner s p p.inside) call ≤ k
-      enough Leak is = (let few = few_entries by_number s p known.stands in omega (arith, few, before, is))
-      enough Ends is = (let few = left p.inside in omega (arith, few, is))
-      enough call is = omega (arith, is)
-
-      numbered : (call : Call T (SoloWaker X)) → k ≡ queues_at_most came 512 call + n → HasNumber by_number owner s p call
+      numbered : (call : Call T (SoloWaker X)) → k ≡ queues_at_most came 0 call + gives_back call + n → HasNumber by_number owner s p call
       numbered (Spawn mark) is = omega (arith, futures, is)
       numbered NewRun is = omega (arith, runs, is)
       numbered call is = tt
@@ -154,7 +169,8 @@ module _ {F T X : Type 0} where
 
   go : (came : ℕ) (future : F) (xs : List (Wish T (SoloWaker X))) (owner : Owner) (s : Solo F T X) (p : Plain T (SoloWaker X))
       → Known by_number owner s p → IsVacant (length p.futures) s.cells → WakersAreKnown by_number owner s p
-      → FewKept p.due → length p.futures ≤ came → HasLife (queued_by came xs) s.lines → length p.futures + queued_by came xs ≤ most_accepted
+      → FewKept p.due → length p.futures ≤ came → HasLife (queued_by came xs + 3 * 512 * goers p.runs) s.lines
+      → length p.futures + queued_by came xs ≤ most_accepted
       → length p.runs + queued_by came xs ≤ most_accepted → MayGo by_number xs owner s p → Goes by_number xs owner s p
   go came future [] owner s p known vacant all kept before life futures runs may = record {
     calls = [];
@@ -169,7 +185,7 @@ module _ {F T X : Type 0} where
       let now_came = came + comes x.call in
       let rest_of = queued_by (came + comes x.call) xs in
       let it = happens by_number future owner s p known (next_free owner s p known vacant) all x
-      (may_call came rest_of (queued_by came (x ∷ xs)) owner s p known kept before x may.0 refl life futures runs) in
+      (may_call came rest_of (queued_by came (x ∷ xs)) owner s p known kept before (telling (suc (length p.lying))) x may.0 refl life futures runs) in
       let q = does wakes it.choice x.call p in
       let grows = call_grows it.choice x.call p in
       let many : length p.lying ≤ it.choice.tells = (let more = it.tells in omega (arith, more)) in
@@ -179,14 +195,15 @@ module _ {F T X : Type 0} where
       (leads_alike by_number ((it.choice, x.call) ∷ []) owner it.now s it.after p (it.shown ++ []) known one).0 in
       let entries : length s.table.entries ≤ came = (let few = few_entries by_number s p known.stands in omega (arith, few, before)) in
       let one_future = counts_futures came x.call in
-      let one_run = counts_runs came x.call in
+      let one_run = counts_runs x.call in
+      let paid = pays came owner s p known kept it.choice x.call in
       let rest =
       go now_came future xs it.now it.after q known_on (acts_vacant owner it.choice s p it.now it.after x.call it.shown known many vacant
       it.acts)
       (still_known owner s p it.now it.after it.choice x may.0 all)
       (grows.kept kept) (let most = grows.most_futures in omega (arith, most, before))
-      (acts_live by_number owner it.choice s p rest_of (queued_by came (x ∷ xs)) came 512 entries (few_kept by_number s p known.stands kept) life it.now it.after x.call it.shown
-      it.acts (omega arith))
+      (acts_live by_number owner it.choice s p (rest_of + 3 * 512 * goers q.runs) (queued_by came (x ∷ xs) + 3 * 512 * goers p.runs) came
+      (left_in by_number owner s p p.inside) entries (omega arith) life it.now it.after x.call it.shown it.acts (omega (arith, paid)))
       (let most = grows.most_futures in omega (arith, most, futures, one_future))
       (let most = grows.most_runs in omega (arith, most, runs, one_run))
       (may.1 it) in
@@ -209,5 +226,5 @@ module _ {F T X : Type 0} where
   lists_happen future limit kind is_static first number xs is counted most may =
       go 0 future xs (new_owner number) first (new limit is_static) (new_known by_number number limit kind is_static first is counted)
       (λ k above. ap (λ slots. slice_index_or slots k None) is.cells) tt none_kept (omega arith)
-      (subst (HasLife (queued_by 0 xs)) (sym is.lines) (none_yet limit (queued_by 0 xs) most)) (omega (arith, most))
+      (subst (HasLife (queued_by 0 xs + 0)) (sym is.lines) (none_yet limit (queued_by 0 xs + 0) (omega (arith, most)))) (omega (arith, most))
       (omega (arith, most)) may

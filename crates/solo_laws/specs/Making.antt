@@ -173,7 +173,7 @@ abbrev pub comes : {T A : Type 0} → Call T A → ℕ
 comes (Spawn mark) = 1
 comes call = 0
 
--- 512 at most stand in the own queue of a new run as it goes
+-- in the own queue of a new run 512 at most stand as it goes
 abbrev pub gives_back : {T A : Type 0} → Call T A → ℕ
 gives_back NewRun = 3 * 512
 gives_back call = 0
@@ -292,7 +292,7 @@ module _ {F T X : Type 0} (its : ℕ → Lent) (owner : Owner) (s : Solo F T X) 
 abbrev pub by_number : ℕ → Lent
 by_number f = record { task = record { key = f; number = f }; place = record { key = f; stamp = 0 } }
 
--- how many tasks a list of calls queues at most, where so many futures came before it
+-- how many tasks a list of calls queues at most, where so many futures came before it: each call, and each new run as it goes
 abbrev pub queued_by : {T A : Type 0} → ℕ → List (Wish T A) → ℕ
 queued_by came [] = 0
 queued_by came (x ∷ xs) = queues_at_most came 0 x.call + gives_back x.call + queued_by (came + comes x.call) xs

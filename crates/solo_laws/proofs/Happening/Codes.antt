@@ -194,7 +194,8 @@ module _ {F T X : Type 0} (its : ℕ → Lent) (future : F) (owner : Owner) (s :
         is_made its future owner s p known.stands refusal first second name refusal plain.Ends _ _
         (ends_closed f (Tick t w) rest refl is (fewer 8 15 s.lines (omega arith) life)) refl tt
     drop_happens Closed (Run r w) is w_known =
-        run_drop_happens Closed (solo.finish_answer (its f) s) (solo.finished (its f) s) (left_lives 11 (its f).place s (fewer 14 15 s.lines (omega arith) life))
+        run_drop_happens Closed (solo.finish_answer (its f) s) (solo.finished (its f) s)
+        (left_lives 11 (its f).place s (fewer 14 15 s.lines (omega arith) life))
         (λ c. ends_closed f Try rest refl refl (fewer 8 15 s.lines (omega arith) life)) r w is w_known
     drop_happens (Gave v) Try is w_known =
         is_made its future owner s p known.stands refusal first second name refusal plain.Ends _ _

@@ -1,21 +1,14 @@
--- No call takes a future back; a spawn lets one come at most, and one run a call that makes one; and a run
--- keeps 512 at most.
+-- No call takes a future back; a spawn lets one come at most, and one run a call that makes one; and a run keeps 512 at most.
 use Rattle.std.proofs.Common.{◌≡◌, ℕ, ◌+◌, ◌≤◌, nat_lt, if◌then◌else◌, Bool, true, false, List, [], ◌∷◌, ◌++◌}
 use Rattle.std.proofs.Common.{length, refl, sym, ap, subst, ◌∙◌, arith}
 use Rattle.executor_parts.specs.declared.mark.Mark.{Mark}
 use Rattle.task_moves.specs.AbstractTask as abstract
-use Rattle.task_moves.specs.AbstractTask.{AbstractTask, Left}
-use Rattle.task_moves.specs.AbstractTask.PendingEnd.{Drops as EndDrops, Queues as EndQueues, Forgets as EndForgets, Rests as EndRests}
+use Rattle.task_moves.specs.AbstractTask.{AbstractTask}
 use Rattle.solo.specs.declared.names.SoloWaker.{SoloWaker}
-use Rattle.plain_scheduler.specs.State.{ATick, Choice, Done, DropOwn, Due, Finished}
-use Rattle.plain_scheduler.specs.State.{Full}
-use Rattle.plain_scheduler.specs.State.{Future}
-use Rattle.plain_scheduler.specs.State.{Made, NoMemory, Plain, PollOwn, Running}
+use Rattle.plain_scheduler.specs.State.{ATick, Choice, Done, DropOwn, Due, Finished, Full, Future, Made, NoMemory, Plain, PollOwn, Running}
 use Rattle.plain_scheduler.specs.State.{Tick, Try}
 use Rattle.plain_scheduler.specs.Lists.{each}
-use Rattle.plain_scheduler.specs.Moves.{answers, appended, becomes, called, changed, chosen, copied, enters, given_back, is_called}
-use Rattle.plain_scheduler.specs.Moves.{is_common}
-use Rattle.plain_scheduler.specs.Moves.{is_kept, let_go, lies, looks, moved, put, release, see, task, tell, up, wake}
+use Rattle.plain_scheduler.specs.Moves.{answers, appended, becomes, enters, release, task, tell, wake}
 use Rattle.plain_scheduler.specs.Moves as moves
 use Rattle.plain_scheduler.specs.Calls as plain
 use Rattle.plain_scheduler.specs.Calls.{Call, does, is_granted, living_from}
@@ -27,8 +20,7 @@ use Rattle.solo_laws.proofs.Following.Calling.{cancel_still}
 use Rattle.solo_laws.proofs.Following.Frames.{appended_still, tell_still}
 use Rattle.solo_laws.proofs.Happening.Goers.{goers, one_goer, same_goers}
 use Rattle.solo_laws.proofs.Happening.Places.{FewKept}
-use Rattle.solo_laws.proofs.Happening.Long.{Long, ◌∘◌, becomes_long, close_long, copy_long, detach_long, each_long, ends_long}
-use Rattle.solo_laws.proofs.Happening.Long.{freed_long}
+use Rattle.solo_laws.proofs.Happening.Long.{Long, ◌∘◌, becomes_long, close_long, copy_long, detach_long, each_long, ends_long, freed_long}
 use Rattle.solo_laws.proofs.Happening.Long.{gives_long, leaves_long, new_tick_long, of_still, over_long, pends_long, take_long}
 
 same_long : (n m : ℕ) → m ≡ n → n ≤ m
@@ -97,7 +89,8 @@ module _ {T X : Type 0} (c : Choice) where
           })
 
       by : (b g : Bool)
-          → Grows (Call.Spawn mark) p (if b then (if g then answers Made (tell wakes c (appended (length p.futures) (plain.entered wakes c mark p)))
+          → Grows (Call.Spawn mark) p (if b then (if g then answers Made
+          (tell wakes c (appended (length p.futures) (plain.entered wakes c mark p)))
           else answers NoMemory p) else answers Full p)
       by true true =
           let q = tell wakes c (appended (length p.futures) (plain.entered wakes c mark p)) in
@@ -140,11 +133,14 @@ module _ {T X : Type 0} (c : Choice) where
   pub call_grows : (call : Call T (SoloWaker X)) (p : Plain T (SoloWaker X)) → Grows call p (does wakes c call p)
   call_grows (Call.Spawn mark) p = spawn_grows mark p
   call_grows Call.TryTick p = of_long Call.TryTick p (does wakes c Call.TryTick p) (take_long c Try p)
-  call_grows Call.IsEmpty p = of_long Call.IsEmpty p (does wakes c Call.IsEmpty p) (record { futures = refl; runs = refl; going = omega arith; kept = λ few. few })
+  call_grows Call.IsEmpty p = of_long Call.IsEmpty p (does wakes c Call.IsEmpty p)
+      (record { futures = refl; runs = refl; going = omega arith; kept = λ few. few })
   call_grows (Call.Wake f) p = of_long (Call.Wake f) p (does wakes c (Call.Wake f) p) (becomes_answers f (abstract.wake (task f p)) p)
-  call_grows (Call.Use f) p = of_long (Call.Use f) p (does wakes c (Call.Use f) p) (becomes_answers f (abstract.release (abstract.wake (task f p))) p)
+  call_grows (Call.Use f) p = of_long (Call.Use f) p (does wakes c (Call.Use f) p)
+      (becomes_answers f (abstract.release (abstract.wake (task f p))) p)
   call_grows (Call.Copy f) p = of_long (Call.Copy f) p (does wakes c (Call.Copy f) p) (copy_long c f p)
-  call_grows (Call.Release f) p = of_long (Call.Release f) p (does wakes c (Call.Release f) p) (becomes_answers f (abstract.release (task f p)) p)
+  call_grows (Call.Release f) p = of_long (Call.Release f) p (does wakes c (Call.Release f) p)
+      (becomes_answers f (abstract.release (task f p)) p)
   call_grows (Call.PollHandle f w) p = of_long (Call.PollHandle f w) p (does wakes c (Call.PollHandle f w) p)
       (of_still c (handled_still c p f w (abstract.polled (task f p))))
   call_grows (Call.Cancel f) p = of_long (Call.Cancel f) p (does wakes c (Call.Cancel f) p)
@@ -159,11 +155,13 @@ module _ {T X : Type 0} (c : Choice) where
   call_grows Call.NewRun p = new_run_grows p
   call_grows (Call.PollRun r w) p =
       of_long (Call.PollRun r w) p (does wakes c (Call.PollRun r w) p)
-      (over_long c r (answers Finished p) (enters (PollOwn r w) p) p (record { futures = refl; runs = refl; going = omega arith; kept = λ few. few })
+      (over_long c r (answers Finished p) (enters (PollOwn r w) p) p
+      (record { futures = refl; runs = refl; going = omega arith; kept = λ few. few })
       (record { futures = refl; runs = refl; going = omega arith; kept = λ few. few }))
   call_grows (Call.DropRun r) p =
       of_long (Call.DropRun r) p (does wakes c (Call.DropRun r) p)
-      (over_long c r (answers Done p) (enters (DropOwn r Done) p) p (record { futures = refl; runs = refl; going = omega arith; kept = λ few. few })
+      (over_long c r (answers Done p) (enters (DropOwn r Done) p) p
+      (record { futures = refl; runs = refl; going = omega arith; kept = λ few. few })
       (record { futures = refl; runs = refl; going = omega arith; kept = λ few. few }))
   call_grows Call.Leak p =
       let q = each (living_from 0 p.futures) (plain.freed wakes c) (record p { is_static = true }) in

@@ -1,5 +1,6 @@
 -- A call queues so many tasks at most.
-use Rattle.std.proofs.Common.{◌≡◌, ℕ, suc, ◌+◌, ◌*◌, ◌≤◌, Bool, true, false, List, [], ◌∷◌, ◌++◌, filter, is_some, length, not, if◌then◌else◌}
+use Rattle.std.proofs.Common.{◌≡◌, ℕ, suc, ◌+◌, ◌*◌, ◌≤◌, Bool, true, false, List, [], ◌∷◌, ◌++◌, filter, is_some, length, not}
+use Rattle.std.proofs.Common.{if◌then◌else◌}
 use Rattle.std.proofs.Common.{None, refl, sym, ap, subst, ◌∙◌, arith}
 use Rattle.solo.specs.declared.names.Task.{Task}
 use Rattle.solo.specs.declared.names.SoloWaker.{SoloWaker}
@@ -76,8 +77,8 @@ module _ {F T X : Type 0} (its : ℕ → Lent) (s : Solo F T X) (p : Plain T (So
       by false = omega arith
 
   -- and none in that of one that is over
-  none_kept : (r : ℕ) → goes_on r p ≡ false → own.count_of r s.runs ≤ 0
-  none_kept r over =
+  over_keeps_none : (r : ℕ) → goes_on r p ≡ false → own.count_of r s.runs ≤ 0
+  over_keeps_none r over =
       subst (λ o. own.count_in o ≤ 0)
       (sym (both.1.queues r ∙ ap (λ b. own_of its b (filter (is_kept r) p.due)) over)) (omega arith)
 
@@ -102,7 +103,7 @@ module _ {F T X : Type 0} (its : ℕ → Lent) (s : Solo F T X) (p : Plain T (So
               let most = few_kept few r in
               let fewer = gone_fewer c r (record p { inside = rest }) goes in
               omega (arith, most, fewer)
-          which false over = (let none = none_kept r over in omega (arith, none, less))
+          which false over = (let none = over_keeps_none r over in omega (arith, none, less))
 
 -- what ends as in a try queues no more than this
 abbrev pub least : {T A : Type 0} → ℕ → Call T A → ℕ
@@ -160,29 +161,35 @@ module _ {F T X : Type 0} (its : ℕ → Lent) (c : Choice) (s : Solo F T X) (p 
   makes_live call shown z (refuses mark future refused z' so fits) most =
       subst (λ (z : Solo F T X). L n z) (sym so.1) (some n (omega (arith, most)))
   makes_live call shown z (takes first enough) most = tried_lives n s (some (suc (suc n)) (omega (arith, most)))
-  makes_live call shown z looks most = (some n (omega (arith, most)))
+  makes_live call shown z looks most = some n (omega (arith, most))
   makes_live call shown z (wakes_it f at enough) most = woken_lives n (named its f) s (some (suc (suc (suc n))) (omega (arith, most)))
   makes_live call shown z (uses f at enough) most = used_lives n (named its f) s (some (suc (suc (suc n))) (omega (arith, most)))
   makes_live call shown z (releases f at enough) most = released_lives n (named its f) s (some (suc (suc (suc n))) (omega (arith, most)))
-  makes_live call shown z (copies f at says) most = (some n (omega (arith, most)))
+  makes_live call shown z (copies f at says) most = some n (omega (arith, most))
   makes_live call shown z (polls f w at handle names enough) most =
       polled_live (is_granted c.refusal) (named its f) w (some (suc (suc (suc n))) (omega (arith, most)))
-  makes_live call shown z (cancels f at enough) most = cancelled_live n (named its f) s (some (suc (suc (suc (suc (suc (suc n)))))) (omega (arith, most)))
+  makes_live call shown z (cancels f at enough) most = cancelled_live n (named its f) s
+      (some (suc (suc (suc (suc (suc (suc n)))))) (omega (arith, most)))
   makes_live call shown z (detaches f at enough) most = detached_live n (named its f) s (some (suc (suc (suc n))) (omega (arith, most)))
   makes_live call shown z (drops_handle f at enough) most =
       detached_live n (named its f) (alike.cancelled (named its f) s)
-      (cancelled_live (suc (suc (suc n))) (named its f) s (some (suc (suc (suc (suc (suc (suc (suc (suc (suc n))))))))) (omega (arith, most))))
+      (cancelled_live (suc (suc (suc n))) (named its f) s (some (suc (suc (suc (suc (suc (suc (suc (suc (suc n)))))))))
+      (omega (arith, most))))
   makes_live call shown z (leaks owned enough) most =
       leaked_lives (length s.table.entries) n k (omega (arith, entries, most)) s life
-  makes_live call shown z (pends f by rest future one is enough) most = pends_lives n (its f) future s (some (suc (suc (suc n))) (omega (arith, most)))
-  makes_live call shown z (gives f by rest v is) most = (some n (omega (arith, most)))
+  makes_live call shown z (pends f by rest future one is enough) most = pends_lives n (its f) future s
+      (some (suc (suc (suc n))) (omega (arith, most)))
+  makes_live call shown z (gives f by rest v is) most = some n (omega (arith, most))
   makes_live call shown z (ends_given f v by rest one is enough) most =
       dropped_live (solo.settle_ready_answer (its f) v s) (solo.settled_ready (its f) v s)
-      (left_lives (suc (suc (suc (suc (suc (suc n)))))) (its f).place s (some (suc (suc (suc (suc (suc (suc (suc (suc (suc n))))))))) (omega (arith, most))))
+      (left_lives (suc (suc (suc (suc (suc (suc n)))))) (its f).place s
+      (some (suc (suc (suc (suc (suc (suc (suc (suc (suc n))))))))) (omega (arith, most))))
   makes_live call shown z (ends_closed f by rest one is enough) most =
       dropped_live (solo.finish_answer (its f) s) (solo.finished (its f) s)
-      (left_lives (suc (suc (suc (suc (suc (suc n)))))) (its f).place s (some (suc (suc (suc (suc (suc (suc (suc (suc (suc n))))))))) (omega (arith, most))))
-  makes_live call shown z (loses awaiter by rest one is enough) most = calls_lives n awaiter s (some (suc (suc (suc n))) (omega (arith, most)))
+      (left_lives (suc (suc (suc (suc (suc (suc n)))))) (its f).place s
+      (some (suc (suc (suc (suc (suc (suc (suc (suc (suc n))))))))) (omega (arith, most))))
+  makes_live call shown z (loses awaiter by rest one is enough) most = calls_lives n awaiter s
+      (some (suc (suc (suc n))) (omega (arith, most)))
 
 module _ {F T X : Type 0} (its : ℕ → Lent) (owner : Owner) (c : Choice) (runner : Runner) (w : SoloWaker X) (s : Solo F T X)
     (p : Plain T (SoloWaker X)) (n : ℕ) (six : L (suc (suc (suc (suc (suc (suc n)))))) s) where

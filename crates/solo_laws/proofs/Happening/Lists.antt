@@ -1,7 +1,8 @@
 -- Lists of calls happen: each future's name is free as it comes.
-use Rattle.std.proofs.Common.{◌≡◌, ℕ, suc, ◌+◌, ◌*◌, if◌then◌else◌, ◌<◌, ◌≤◌, ◌==◌, cond, not, Bool, true, false, List, [], ◌∷◌, ◌++◌, length}
+use Rattle.std.proofs.Common.{◌≡◌, ℕ, suc, ◌+◌, ◌*◌, if◌then◌else◌, ◌<◌, ◌≤◌, ◌==◌, cond, not, Bool, true, false, List, [], ◌∷◌, ◌++◌}
+use Rattle.std.proofs.Common.{length}
 use Rattle.std.proofs.Common.{map, Option, Some}
-use Rattle.std.proofs.Common.{None, slice_index_or, refl, sym, ap, subst, ◌∙◌, arith}
+use Rattle.std.proofs.Common.{None, slice_index_or, refl, sym, ap, subst, arith}
 use Rattle.std.proofs.lemmas.Bool.Decides.{nat_tests}
 use Rattle.queue_steps.specs.ClosableQueue.{count_of_new, most_accepted}
 use Rattle.executor_parts.specs.declared.mark.Mark.{Mark}
@@ -14,7 +15,7 @@ use Rattle.solo.specs.declared.names.SoloWaker.TheVariants.{Task as OfTask, Outs
 use Rattle.solo.specs.declared.solo.Solo.{Solo}
 use Rattle.solo.specs.Lines.{line_of, new_lines}
 use Rattle.solo.specs.Solo.{IsNew, counts}
-use Rattle.plain_scheduler.specs.State.{Choice, Close, Code, Drop, DropOwn, Lose, Plain, Poll, PollOwn, Who}
+use Rattle.plain_scheduler.specs.State.{Choice, Plain, Who}
 use Rattle.plain_scheduler.specs.Calls.{Call, Ends, Leak, NewRun, PollRun, Spawn, does, living_from, new}
 use Rattle.solo_laws.specs.Courses.{Leads, leads, stays}
 use Rattle.solo_laws.specs.Heeding.{Fits}
@@ -185,7 +186,8 @@ module _ {F T X : Type 0} where
       let now_came = came + comes x.call in
       let rest_of = queued_by (came + comes x.call) xs in
       let it = happens by_number future owner s p known (next_free owner s p known vacant) all x
-      (may_call came rest_of (queued_by came (x ∷ xs)) owner s p known kept before (telling (suc (length p.lying))) x may.0 refl life futures runs) in
+      (may_call came rest_of (queued_by came (x ∷ xs)) owner s p known kept before (telling (suc (length p.lying))) x may.0 refl life
+      futures runs) in
       let q = does wakes it.choice x.call p in
       let grows = call_grows it.choice x.call p in
       let many : length p.lying ≤ it.choice.tells = (let more = it.tells in omega (arith, more)) in
@@ -226,5 +228,6 @@ module _ {F T X : Type 0} where
   lists_happen future limit kind is_static first number xs is counted most may =
       go 0 future xs (new_owner number) first (new limit is_static) (new_known by_number number limit kind is_static first is counted)
       (λ k above. ap (λ slots. slice_index_or slots k None) is.cells) tt none_kept (omega arith)
-      (subst (HasLife (queued_by 0 xs + 0)) (sym is.lines) (none_yet limit (queued_by 0 xs + 0) (omega (arith, most)))) (omega (arith, most))
+      (subst (HasLife (queued_by 0 xs + 0)) (sym is.lines) (none_yet limit (queued_by 0 xs + 0) (omega (arith, most))))
+      (omega (arith, most))
       (omega (arith, most)) may

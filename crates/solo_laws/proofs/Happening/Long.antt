@@ -1,6 +1,7 @@
 -- How many futures and runs came: what changes neither, lets no run go on that was over, and a run keep 512 futures at most.
 use Rattle.std.proofs.Common.{◌≡◌, ℕ, zero, suc, ◌+◌, ◌==◌, count_by, nat_lt, if◌then◌else◌, Bool, true, false, List, [], ◌∷◌, ◌++◌}
-use Rattle.std.proofs.Common.{filter, find, map, length, Option, Some, None, slice_get, slice_set, refl, sym, ap, subst, not, ◌≤◌, ◌∙◌, arith}
+use Rattle.std.proofs.Common.{filter, find, map, length, Option, Some, None, slice_get, slice_set, refl, sym, ap, subst, not, ◌≤◌, ◌∙◌}
+use Rattle.std.proofs.Common.{arith}
 use Rattle.executor_parts.specs.declared.mark.Mark.TheVariants.{Plain as PlainMark, Urgent}
 use Rattle.task_moves.specs.AbstractTask as abstract
 use Rattle.task_moves.specs.AbstractTask.{AbstractTask, Left}
@@ -18,7 +19,7 @@ use Rattle.plain_scheduler.specs.Moves.{is_kept, let_go, lies, looks, moved, put
 use Rattle.plain_scheduler.specs.Moves as moves
 use Rattle.plain_scheduler.specs.Takes as takes
 use Rattle.plain_scheduler.specs.Calls as plain
-use Rattle.plain_scheduler.specs.Calls.{Call, does, is_granted, living_from}
+use Rattle.plain_scheduler.specs.Calls.{Call, does, is_granted}
 use Rattle.solo_laws.specs.Road.{wakes}
 use Rattle.solo_laws.specs.Tabled.{goes_on}
 use Rattle.solo_laws.proofs.Following.Frames.{Still, becomes_still, called_still, copied_still, let_go_still, put_still, tell_still}
@@ -377,7 +378,8 @@ module _ {T X : Type 0} (c : Choice) where
       let q = each all (plain.freed wakes c) p in
       each_long (filter (is_common Urgent) q.due ++ filter (is_common PlainMark) q.due) (λ d. plain.closed wakes c d.future)
       (λ d. closed_long d.future) (record q { due = [] })
-      ∘ (record { futures = refl; runs = refl; going = omega arith; kept = λ few. none_kept } ∘ each_long all (plain.freed wakes c) freed_long p)
+      ∘ (record { futures = refl; runs = refl; going = omega arith; kept = λ few. none_kept } ∘ each_long all (plain.freed wakes c)
+      freed_long p)
   close_long (f ∷ fs) all p = changed_long (λ future. record future { is_dropped = true }) f p
 
   pub ends_long : (p : Plain T (SoloWaker X)) → Long p (does wakes c Call.Ends p)

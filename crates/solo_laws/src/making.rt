@@ -31,9 +31,9 @@ pub fn refusals_are_heeded<F, T, X>()
 {}
 
 /// So, from new ones on, each list of calls of which each may be made where those before it have led is one of the executor's: there is
-/// what its owner does for each, and what is shown. What the calls may queue together is no more than a queue accepts in its life: a call 15
-/// tasks at most, and none where it asks whether the executor is empty, copies a waker, makes a tick, polls or drops a run, or gives an
-/// output; a leak six for each future that came before it; and a new run 3 * 512, as so many tasks it may give back.
+/// what its owner does for each, and what is shown. What the calls may queue together is no more than a queue accepts in its life: a call
+/// 15 tasks at most, and none where it asks whether the executor is empty, copies a waker, makes a tick, polls or drops a run, or gives an
+/// output; a leak six for each future that came before it; and a new run 3 * 512, for the 512 that it may give back as it goes.
 pub fn lists_of_calls_happen<F, T, X>()
     ensures { (future : F) (limit : ℕ) (kind : Kind) (is_static : Bool) (first : Solo F T X) (number : Who → ℕ)
         (xs : List (Wish T (SoloWaker X))) → IsNew limit kind first → counts kind ≡ not is_static

@@ -117,7 +117,7 @@ pub fn calls_show_alike<F, T, X>()
 /// And there is such a list of calls for each list of wishes that are the machine's acts, where the executor's owner may make each of these
 /// calls where those before it have led, and nothing but memory refuses them: the machine's trace tells of what it shows. What the calls
 /// may queue together is no more than a queue accepts in its life: a call 15 tasks at most, and many calls none; a leak six for each future
-/// that came before it; and a new run 3 * 512, as so many tasks it may give back.
+/// that came before it; and a new run 3 * 512, for the 512 that it may give back as it goes.
 pub fn wished_calls_show_alike<F, T, X>()
     ensures { (future : F) (number : X → ℕ) (limit : ℕ) (kind : MachineKind) (solo_kind : Kind) (parties : ℕ) (acts : List Act)
         (xs : List (Wish T (SoloWaker X))) (first : Solo F T X) (before : Who → ℕ) → AreActs (start limit kind parties) acts

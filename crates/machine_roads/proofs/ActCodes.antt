@@ -1,6 +1,6 @@
 -- The ends of codes in which a party stands in calls one inside another, by kinds of code: where its call rests next, both stand alike.
 use Rattle.std.proofs.Common.{◌≡◌, ℕ, suc, ◌<◌, ◌≤◌, ◌++◌, Bool, true, false, List, [], ◌∷◌, length, Option, Some, None, is_some}
-use Rattle.std.proofs.Common.{refl, sym, ap, subst, ◌∙◌, slice_get, arith}
+use Rattle.std.proofs.Common.{refl, sym, ap, subst, ◌∙◌, arith}
 use Rattle.std.specs.Prelude.{reverse}
 use Rattle.task_moves.specs.declared.moves.owed.Move.{Move}
 use Rattle.task_moves.specs.declared.moves.owed.Move.TheVariants as move
@@ -25,7 +25,7 @@ use Rattle.executor_model.proofs.OwnQueues.Using.{emptying_of, polling_of}
 use Rattle.executor_model.proofs.Steps.Reached.{Reached}
 use Rattle.executor_model.proofs.Steps.Stepping.{refusal-there}
 use Rattle.executor_laws.proofs.Termination.LoneEnds.{OthersRest}
-use Rattle.plain_scheduler.specs.State.{Choice, Closed, Code, Drop, End, Future, Granted, Lose, Plain, Poll}
+use Rattle.plain_scheduler.specs.State.{Choice, Closed, Code, Drop, End, Granted, Lose, Plain, Poll}
 use Rattle.plain_scheduler.specs.State.{Taker}
 use Rattle.plain_scheduler.specs.Lists.{on}
 use Rattle.plain_scheduler.specs.Moves.{is_kept}
@@ -44,6 +44,7 @@ use Rattle.machine_roads.specs.Searching.{goes_on_by, start_of}
 use Rattle.machine_roads.specs.Stopped.{Finally, IsInPoll, given, of_last, of_tick, of_try, pended}
 use Rattle.machine_roads.specs.Within.{ActsBy, IsMade, Nested, alike, ends, gives, pends}
 use Rattle.machine_roads.specs.Within.{GoesOnBy, by_run, by_tick, by_try}
+use Rattle.machine_roads.proofs.Endings.{ending_as, forgotten_as, unawaited_in}
 use Rattle.machine_roads.proofs.ActBegins.{choice_in, enough, more_by_one}
 use Rattle.machine_roads.proofs.ActLands.{FactsOf, Lands, Tells, drops_lands, forgets_lands, goes_lands}
 use Rattle.machine_roads.proofs.ActLands.{stays_lands}
@@ -58,7 +59,7 @@ use Rattle.machine_roads.proofs.Lists.{clash}
 use Rattle.machine_roads.proofs.LoneRuns.{passed}
 use Rattle.machine_roads.proofs.Passing.{Passes, telling}
 use Rattle.machine_roads.proofs.Pending.{gives_so}
-use Rattle.machine_roads.proofs.Puts.{put_at, put_by}
+use Rattle.machine_roads.proofs.Puts.{put_by}
 use Rattle.machine_roads.proofs.RunApart.{drop_ends, gives_ends, loss_ends, pends_ends}
 use Rattle.machine_roads.proofs.RunEnding.{behind_dropped, behind_lost}
 use Rattle.machine_roads.proofs.RunHere.{Above, final_none, going_here, left_here, none_empty, off_left, used_once}
@@ -377,15 +378,7 @@ module _ (s : Machine) (reached : Reached s) (p : ℕ) (there : p < length s.par
           → Leads u (op.User (user_op.DropOutput f)) (rest_of (task s.world f).awaiter f final ++ below)
       from_loss f awaiter at ending end.Done ok = λ hints all rests.
           let ending0 : IsEnding s.world f awaiter outer =
-          record {
-            known = ending.known;
-            over = ending.over;
-            still = ending.still;
-            counted = ending.counted;
-            stored = ending.stored;
-            awaited = ending.awaited;
-            follows = follows0 (Lose awaiter (Some taker)) at refl (without_run f s.world) ending.follows;
-          } in
+          ending_as ending (follows0 (Lose awaiter (Some taker)) at refl (without_run f s.world) ending.follows) in
           let n = start_of p hints (done s.world (rest_of (task s.world f).awaiter f final ++ below)) in
           let e = alone p hints (done s.world (rest_of (task s.world f).awaiter f final ++ below)) in
           let code = Lose awaiter (Some taker) in
@@ -396,15 +389,6 @@ module _ (s : Machine) (reached : Reached s) (p : ℕ) (there : p < length s.par
           (λ z. ⊥) (tells_so n Ends code e rests refl behind (λ d. refl)) (λ stops runs none still. absurd stops)
           (lost_still p below under s.world taker final outer c1 hints f awaiter ending0 many all rests))
       from_loss f awaiter at ending u ok = absurd cc
-
-      unawaited_in : (f : ℕ) → record (unawaited f q) { inside = inside } ≡ unawaited f outer
-      unawaited_in f = by (slice_get q.futures f)
-        where
-          by : (o : Option (Future Output Waker))
-              → record (on o (λ x z. put_at f (record (plain.task f q) { awaiter = None }) x z) q) { inside = inside }
-              ≡ on o (λ x z. put_at f (record (plain.task f q) { awaiter = None }) x z) (record q { inside = inside })
-          by None = refl
-          by (Some x) = refl
 
       facts_forgotten : (f : ℕ) → IsForgotten s.world f q → FactsOf below outer taker final it
       facts_forgotten f it_is =
@@ -417,23 +401,9 @@ module _ (s : Machine) (reached : Reached s) (p : ℕ) (there : p < length s.par
           → accepts (op.User (user_op.Drop f)) u ≡ true
           → Leads u (op.User (user_op.Drop f)) (op.Table (table_op.LeaveTable f) ∷ op.Handle (handle_op.LetGo f) ∷ final ∷ below)
       from_forgotten f at it_is end.Done ok = λ hints all rests.
-          let there_follows : Follows (without_awaiter f s.world) (unawaited f outer) =
-          subst (Follows (without_awaiter f s.world)) (unawaited_in f) (stands_in inside (without_awaiter f s.world) (unawaited f q)
-          it_is.follows
-          (sym (ap (λ codes. waking_in codes)
-          (put_by (λ p. p.inside) f (record (plain.task f q) { awaiter = None }) q (λ fs. refl))
-          ∙ ap (λ codes. waking_in codes) at))) in
           let forgotten0 : IsForgotten s.world f outer =
-          record {
-            known = it_is.known;
-            entered = it_is.entered;
-            spent = it_is.spent;
-            unheld = it_is.unheld;
-            finished = it_is.finished;
-            closed = it_is.closed;
-            awaited = it_is.awaited;
-            follows = there_follows;
-          } in
+          forgotten_as inside it_is
+          (unawaited_in f inside (without_awaiter f s.world) q it_is.follows (sym (ap (λ codes. waking_in codes) at))) in
           let first = done s.world (op.Table (table_op.LeaveTable f) ∷ op.Handle (handle_op.LetGo f) ∷ final ∷ below) in
           let n = start_of p hints first in
           let e = alone p hints first in

@@ -43,6 +43,7 @@ use Rattle.machine_roads.specs.Within.{untaken}
 use Rattle.machine_roads.specs.Within.{Act, ActAlike, ActsBy, AreActs, ListsActAlike, Nested, StandsAlike, alike, calls_outside}
 use Rattle.machine_roads.specs.Within.{dropping, forgetting, goes_on, is_on_way, losing, may_begin_in, may_stand_in, nowhere, rests_after}
 use Rattle.machine_roads.specs.Within.{standing}
+use Rattle.machine_roads.proofs.Endings.{ending_as, forgotten_as}
 use Rattle.machine_roads.proofs.ActBegins.{one_begins}
 use Rattle.machine_roads.proofs.ActCodes.{accepted}
 use Rattle.machine_roads.proofs.ActEnds.{code_ends, is_inner}
@@ -54,14 +55,13 @@ use Rattle.machine_roads.proofs.Calling.{begin_alike}
 use Rattle.machine_roads.proofs.Counting.{StandsSo}
 use Rattle.machine_roads.proofs.Inmost.{rests_in}
 use Rattle.machine_roads.proofs.Lists.{apart_of, clash, equal, same_of}
-use Rattle.machine_roads.proofs.LoneRuns.{both_true, made_is, not_true, passed, tells, within}
+use Rattle.machine_roads.proofs.LoneRuns.{IsBefore, both_true, made_is, not_true, passed, tells, within}
 use Rattle.machine_roads.proofs.LoneTicks.{may_begin}
 use Rattle.machine_roads.proofs.Open.{IsOpen, settled_open, step_open, still}
 use Rattle.machine_roads.proofs.Tying.{top_of}
 use Rattle.machine_roads.proofs.Unsearched.{ActsAnyhow}
-use Rattle.machine_roads.proofs.Walked.{begun_leads, no_go}
+use Rattle.machine_roads.proofs.Walked.{answer_leads_of, begun_leads, begun_leads_of, no_go}
 use Rattle.machine_roads.proofs.WalkedFrom.{answer_leads_from}
-use Rattle.machine_roads.proofs.WalkedWith.{answer_led, begun_led}
 
 -- the executor's drop hasn't begun, and it doesn't in an act
 
@@ -217,7 +217,7 @@ module _ (s : Machine) (reached : Reached s) (p : ℕ) (q : Plain Output Waker) 
       inside_of taker final below f awaiter codes it nested gs stops =
           let off =
           untaken_off gs (is_some awaiter) f final below c (sym (ap (λ os. may_begin_in os c) stops.left) ∙ even) in
-          begun_led (Asked f awaiter) (asked_walks f awaiter) p
+          begun_leads_of (Asked f awaiter) IsBefore (asked_walks f awaiter) p
           (λ e. (r : Plain Output Waker) × ActsAnyhow s p (Begin p c) q r e.world × StandsSo e r) new later c ts s reached there
           (begins_untaken taker final below f awaiter codes it nested s p q stands.counted gs stops reached there c off.0 off.1
           (may_begin s p c (run-first (Begin p c) ts s new made).0))
@@ -252,15 +252,7 @@ module _ (s : Machine) (reached : Reached s) (p : ℕ) (q : Plain Output Waker) 
           begins (subst (λ os. Nested os q.inside) (sym next) (subst (λ codes. Nested below codes) (sym inside) nested)) follows
       by (dropping taker final below f b it nested (loses awaiter next inside ending)) =
           let stands : StandsUntaken s.world f awaiter [] q =
-          record {
-            known = ending.known;
-            over = ending.over;
-            still = ending.still;
-            counted = ending.counted;
-            stored = ending.stored;
-            awaited = ending.awaited;
-            follows = record { shut = tt; follows = ending.follows };
-          } in
+          ending_as ending (record { shut = tt; follows = ending.follows }) in
           inside_of taker final below f awaiter b.inside it nested []
           (record {
             left =
@@ -278,16 +270,7 @@ module _ (s : Machine) (reached : Reached s) (p : ℕ) (q : Plain Output Waker) 
             left = stops.left;
             inside = stops.inside;
             stands =
-                record {
-                  known = it_is.known;
-                  entered = it_is.entered;
-                  spent = it_is.spent;
-                  unheld = it_is.unheld;
-                  finished = it_is.finished;
-                  closed = it_is.closed;
-                  awaited = it_is.awaited;
-                  follows = record { shut = tt; follows = it_is.follows };
-                };
+                forgotten_as q.inside it_is (record { shut = tt; follows = it_is.follows });
           })
       by (forgotten taker final below f g gs codes it nested stops) = within_drop taker final below f codes it nested (g ∷ gs) stops
 
@@ -311,7 +294,7 @@ module _ (s : Machine) (reached : Reached s) (p : ℕ) (q : Plain Output Waker) 
         let o = op.User (user_op.DropOutput g) in
         let xs = left_of g ++ loss_ops gs (op.User (user_op.DropOutput f) ∷ (rest_of (is_some awaiter) f final ++ below)) in
         from_there (Answer p u) ts
-        (answer_led (Asked f awaiter) (asked_walks f awaiter) p
+        (answer_leads_of (Asked f awaiter) IsBefore (asked_walks f awaiter) p
         (λ e. (r : Plain Output Waker) × ActsAnyhow s p (Answer p u) q r e.world × StandsSo e r) new later u o xs ts s reached there
         stops.left
         (ends_untaken taker final below f awaiter codes it nested s p q stands.counted g gs stops u

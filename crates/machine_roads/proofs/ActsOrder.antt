@@ -36,12 +36,12 @@ use Rattle.executor_model.specs.Steps.{waker_of}
 use Rattle.executor_model.specs.Steps.{with_future}
 use Rattle.executor_model.specs.Rows.{running_of}
 use Rattle.executor_model.proofs.Steps.Lift.{first-true, none_refused}
-use Rattle.executor_model.specs.World.{Done, Ended, Listed, New, Stage, World, done, log, no_run, run_of, task}
+use Rattle.executor_model.specs.World.{Done, Ended, Listed, New, Stage, World, done, log, run_of}
 use Rattle.executor_model.specs.World as world
 use Rattle.executor_model.proofs.Steps.Reached.{Reached, run-first}
 use Rattle.executor_model.proofs.Steps.Stepping.{refusal-there}
 use Rattle.executor_laws.proofs.Walks.Finding.{listed-here}
-use Rattle.plain_scheduler.specs.State.{Code, Drop, DropOwn, Lose, Plain, Poll, PollOwn, Taker}
+use Rattle.plain_scheduler.specs.State.{Code, DropOwn, Plain}
 use Rattle.plain_scheduler.specs.State as state
 use Rattle.plain_scheduler.specs.Calls as plain
 use Rattle.plain_scheduler.specs.Lists.{or, without}
@@ -51,11 +51,10 @@ use Rattle.machine_roads.specs.Alike.{begins as begins_alike, upon}
 use Rattle.machine_roads.specs.Alone.{alone, is_resting}
 use Rattle.machine_roads.specs.Road.{Follows, run_view}
 use Rattle.machine_roads.specs.Within as within
-use Rattle.machine_roads.specs.Within.{Act, GoesOnBy, IsAct, IsCallIn, IsLeaving, IsMade, Nested, StandsAlike, alike, by_run, by_tick}
-use Rattle.machine_roads.specs.Within.{by_try}
-use Rattle.machine_roads.specs.Within.{dropping, drops_own, forgetting, forgotten, going, is_on_way, lets_begin, listed, losing}
+use Rattle.machine_roads.specs.Within.{Act, IsAct, IsCallIn, IsMade, StandsAlike}
+use Rattle.machine_roads.specs.Within.{is_on_way, lets_begin}
 use Rattle.machine_roads.specs.Within.{may_begin_in}
-use Rattle.machine_roads.specs.Within.{may_stand_in, nowhere, owes, polls_own, rests_after, standing, takes, unlisted, untaken}
+use Rattle.machine_roads.specs.Within.{may_stand_in, owes, rests_after, standing}
 use Rattle.machine_roads.proofs.AloneKeeps.{calls_user, due, due_resting, due_to_append}
 use Rattle.machine_roads.proofs.Enlisting.{alone_lists, begins_list, enlists, reacts_list}
 use Rattle.machine_roads.proofs.Having.{same_self}
@@ -145,7 +144,7 @@ module _ (s : Machine) (reached : Reached s) (p : ℕ) (q : Plain Output Waker) 
       is_resting (alone p hints d).next ≡ true → (alone p hints d).world.listed ≡ want)
       → new.world.listed ≡ want
   began c ts there rests made want leads =
-      begun_leads_of (λ w o. Unit {0}) (λ s. Unit {0}) walks p (λ e. e.world.listed ≡ want) new tt c ts s
+      begun_leads_of (λ w os. Unit {0}) (λ s. Unit {0}) walks p (λ e. e.world.listed ≡ want) new tt c ts s
       reached there (λ hints all over. leads hints over) rests made
 
   -- the list stays
@@ -220,23 +219,6 @@ module _ (s : Machine) (reached : Reached s) (p : ℕ) (q : Plain Output Waker) 
   by_call : (c : Call) (ts : List Step) (x : plain.Call Output Waker) → IsCallIn (mine (top (stack s p))) s.world c x
       → p < length s.parties → rests_after p ts (after s (Begin p c)) ≡ true → run_all (Begin p c ∷ ts) s ≡ Ok new
       → may_begin_in below c ≡ true → Orders x
-  by_call c ts x within.try_tick there rests made none = still c ts there rests made refl
-  by_call c ts x (within.poll_tick t b) there rests made none = still c ts there rests made refl
-  by_call c ts x (within.spawn m) there rests made none = still c ts there rests made refl
-  by_call c ts x within.is_empty there rests made none = still c ts there rests made refl
-  by_call c ts x (within.use_waker k f is) there rests made none = still c ts there rests made refl
-  by_call c ts x (within.wake k f is) there rests made none = still c ts there rests made refl
-  by_call c ts x (within.copy k f is) there rests made none = still c ts there rests made refl
-  by_call c ts x (within.release k f is) there rests made none = still c ts there rests made refl
-  by_call c ts x (within.keep f is) there rests made none = still c ts there rests made refl
-  by_call c ts x (within.wake_self f is) there rests made none = still c ts there rests made refl
-  by_call c ts x (within.poll_handle f b) there rests made none = still c ts there rests made refl
-  by_call c ts x (within.cancel f) there rests made none = still c ts there rests made refl
-  by_call c ts x (within.detach f) there rests made none = still c ts there rests made refl
-  by_call c ts x (within.drop_handle f) there rests made none = still c ts there rests made refl
-  by_call c ts x within.new_tick there rests made none = still c ts there rests made refl
-  by_call c ts x (within.drop_tick t) there rests made none = still c ts there rests made refl
-  by_call c ts x within.new_run there rests made none = still c ts there rests made refl
   by_call c ts x (within.poll_run r b) there rests made none =
       run_polled r b ts there rests made (owes_none (owes below) (lets_begin below) none)
       (lives_of (may_begin s p c (run-first (Begin p c) ts s new made).0))
@@ -247,8 +229,7 @@ module _ (s : Machine) (reached : Reached s) (p : ℕ) (q : Plain Output Waker) 
           not_dropped (run_of s.world r).dropped
           (first-true (is_there (run_of s.world r)) (is_unused (running_of r) s.parties)
           (first-true (has_run s.world s.parties r) (is_known (top (stack s p)) b) has))
-  by_call c ts x (within.drop_run r) there rests made none = still c ts there rests made refl
-  by_call c ts x within.leak there rests made none = still c ts there rests made refl
+  by_call c ts x is there rests made none = still c ts there rests made refl
 
   -- user code ends
   module _ (u : UserEnd) (ts : List Step) (there : p < length s.parties) (rests : rests_after p ts (after s (Answer p u)) ≡ true)
@@ -266,7 +247,7 @@ module _ (s : Machine) (reached : Reached s) (p : ℕ) (q : Plain Output Waker) 
         is_resting (alone p hints d).next ≡ true → (alone p hints d).world.listed ≡ want)
         → new.world.listed ≡ want
     leads want o os is so =
-        answer_leads_of (λ w o. Unit {0}) (λ s. Unit {0}) walks p (λ e. e.world.listed ≡ want) new tt u o os ts s reached there is
+        answer_leads_of (λ w os. Unit {0}) (λ s. Unit {0}) walks p (λ e. e.world.listed ≡ want) new tt u o os ts s reached there is
         (λ hints all over. so hints over) rests made
 
     lightly : (os : List Op) → below ≡ os → IsLight os → new.world.listed ≡ order

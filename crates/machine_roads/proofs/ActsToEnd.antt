@@ -2,6 +2,7 @@
 use Rattle.std.proofs.Common.{◌≡◌, ℕ, List, [], ◌∷◌, refl, sym, ap, subst, ◌∙◌}
 use Rattle.std.specs.Prelude.{reverse}
 use Rattle.executor_model.specs.declared.op.Op.{Op}
+use Rattle.executor_model.specs.declared.kind.Kind.{Kind}
 use Rattle.executor_model.specs.Quiet.{IsQuiet}
 use Rattle.executor_model.specs.Steps.{Machine, is_static_kind, stack, start}
 use Rattle.executor_model.specs.World.{Done, done}
@@ -62,14 +63,29 @@ at_rest [] s reached p q so are all quiet =
 at_rest (a ∷ acts) s reached p q so are all quiet =
     at_rest acts a.left (reached-more (a.first ∷ a.steps) s a.left reached are.0.made) a.party all.0 all.2 are.2 all.3 quiet
 
+-- from a new machine on
+module _ (limit : ℕ) (kind : Kind) (parties : ℕ) (acts : List Act) (are : AreActs (start limit kind parties) acts)
+    (quiet : IsQuiet (left_by (start limit kind parties) acts).world.trace)
+    (all : ActAlike (start limit kind parties) (new limit (is_static_kind kind)) acts) where
+  pub at_rest_behind : AtRest (left_by (start limit kind parties) acts)
+      (plain_behind acts (start limit kind parties) (new limit (is_static_kind kind)) all)
+  at_rest_behind =
+      let s = start limit kind parties in
+      let q : Plain Output Waker = new limit (is_static_kind kind) in
+      let reached : Reached s = record { limit = limit; kind = kind; parties = parties; steps = []; is = refl } in
+      let none = rests s (deep-here s reached) (λ party. refl) 0 in
+      let begin : StandsAlike (standing s 0) q =
+      subst (λ xs. StandsAlike (done s.world (reverse xs)) q) (sym none) (alike nowhere (begin_alike limit kind parties)) in
+      at_rest acts s reached 0 q begin are all quiet
+
+  -- once no call is in progress any more
+  pub nowhere_behind : (plain_behind acts (start limit kind parties) (new limit (is_static_kind kind)) all).inside ≡ []
+  nowhere_behind = at_rest_behind.inside
+
 pub acts_to_the_end : ListsActToTheEnd
 acts_to_the_end limit kind parties acts are quiet =
     let s = start limit kind parties in
     let q : Plain Output Waker = new limit (is_static_kind kind) in
-    let reached : Reached s = record { limit = limit; kind = kind; parties = parties; steps = []; is = refl } in
-    let none = rests s (deep-here s reached) (λ party. refl) 0 in
-    let begin : StandsAlike (standing s 0) q =
-    subst (λ xs. StandsAlike (done s.world (reverse xs)) q) (sym none) (alike nowhere (begin_alike limit kind parties)) in
     let all = acts_alike limit kind parties acts are in
-    let e = at_rest acts s reached 0 q begin are all quiet in
+    let e = at_rest_behind limit kind parties acts are quiet all in
     (all, drop_acts_so (left_by s acts) e.reached (plain_behind acts s q all) quiet e.follows)

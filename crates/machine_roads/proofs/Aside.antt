@@ -23,7 +23,7 @@ pub record IsAside {B : Type 0} (ask : Plain Output Waker → B) : Type 0 where
   pub lying : (q : Plain Output Waker) (ls : List (Lying Waker)) → ask (record q { lying = ls }) ≡ ask q
   pub seen : (q : Plain Output Waker) (e : Sight Output Waker) → ask (see e q) ≡ ask q
 
-inside_aside : IsAside (λ (q : Plain Output Waker). q.inside)
+pub inside_aside : IsAside (λ (q : Plain Output Waker). q.inside)
 inside_aside = record { futures = λ q fs. refl; due = λ q f. refl; lying = λ q ls. refl; seen = λ q e. refl }
 
 module _ {B : Type 0} (ask : Plain Output Waker → B) (aside : IsAside ask) where

@@ -25,7 +25,7 @@ use Rattle.executor_model.specs.Weights.{weigh, weigh_all}
 use Rattle.executor_model.specs.World.{World, done, task}
 use Rattle.executor_model.proofs.Steps.Lists.{weigh-append}
 use Rattle.executor_model.proofs.Steps.Reached.{Reached, good-here}
-use Rattle.machine_roads.specs.Alone.{CanCopy, answered_by, is_outside, is_resting, one_by, Has, HasAllOf}
+use Rattle.machine_roads.specs.Alone.{CanCopy, answered_by, is_outside, is_resting, one_by, Has, HasAllBy, HasAllOf}
 use Rattle.machine_roads.specs.Dropped.{without_run}
 use Rattle.machine_roads.specs.Untaken.{HasBeside}
 use Rattle.machine_roads.proofs.Along.{goes_append, goes_by}
@@ -33,11 +33,10 @@ use Rattle.machine_roads.proofs.Beside.{of_two}
 use Rattle.machine_roads.proofs.Having.{has_here, same_self}
 use Rattle.machine_roads.proofs.Inmost.{whole}
 use Rattle.machine_roads.proofs.Lists.{length_set, same_of}
-use Rattle.machine_roads.proofs.LoneRuns.{both_true}
-use Rattle.machine_roads.proofs.Owing.{Kept, hide, is_aside, task_other, task_own}
-use Rattle.machine_roads.proofs.OwingActs.{act_does}
+use Rattle.machine_roads.proofs.LoneRuns.{IsBefore, WalksBy, both_true, gone_before}
+use Rattle.machine_roads.proofs.Hiding.{task_other, task_own}
+use Rattle.machine_roads.proofs.Owing.{Kept, act_does, hide, is_aside, one_less}
 use Rattle.machine_roads.proofs.Tying.{top_of}
-use Rattle.machine_roads.proofs.WalkedWith.{HasAllBy, WalksBy}
 
 module _ (f : ℕ) (awaiter : Option Waker) where
   abbrev pub Asked : World → List Op → Type 0
@@ -93,8 +92,8 @@ module _ (f : ℕ) (awaiter : Option Waker) where
         by : (b : Bool) → (f == g) ≡ b → P (task (without_run f s.world) g)
         by true same =
             subst (λ g. g < length s.world.tasks → P (task (without_run f s.world) g)) (same_of f g same)
-            (λ at. subst P (sym (task_own f awaiter s.world at)) (own same)) at
-        by false apart = subst P (sym (task_other f awaiter s.world g apart)) other
+            (λ at. subst P (sym (task_own f one_less s.world at)) (own same)) at
+        by false apart = subst P (sym (task_other f one_less s.world g apart)) other
 
     copies : (a : Waker) → CanCopy s.world a → CanCopy (without_run f s.world) a
     copies (Task g) can = (known g can.0, of_task (λ t. token t ≤ t.references) g can.0 can.1 (λ same. beside))
@@ -139,8 +138,12 @@ module _ (f : ℕ) (awaiter : Option Waker) where
   asked_here s p reached there open_still [] is = tt
   asked_here s p reached there open_still (o ∷ os) is = λ fit owes. beside_here s p reached there open_still o os is owes fit
 
-  pub walks : WalksBy Asked
-  walks = record { ends = λ w r held os fit owes. tt; outside = λ w x os fit owes. tt; gives = asked_here }
+  pub walks : WalksBy Asked IsBefore
+  walks = record {
+    easy = record { ends = λ w r held os fit owes. tt; outside = λ w x os fit owes. tt };
+    gives = asked_here;
+    back = gone_before;
+  }
 
   -- no thing that a call does gives it up
   gives_none : (o : Op) → is_aside f awaiter o ≡ true → giving_of f o ≡ 0

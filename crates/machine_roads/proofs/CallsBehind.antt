@@ -39,7 +39,7 @@ use Rattle.machine_roads.proofs.Lists.{Before, Last, Past, Where, cons_is, where
 use Rattle.machine_roads.proofs.LoneCalls.{each, looks_on}
 use Rattle.machine_roads.proofs.LoneCloses.{IsAny}
 use Rattle.machine_roads.proofs.LoneLosing.{loss_leads}
-use Rattle.machine_roads.proofs.LoneRuns.{Inside, Rests, Walks, Whole, goes_on_of, lone_calls_rest_of}
+use Rattle.machine_roads.proofs.LoneRuns.{Inside, Rests, Walks, Whole, goes_on_of, lone_calls_rest_of, of_top}
 use Rattle.machine_roads.proofs.LoneTold.{lone_calls_told_of, lone_calls_told_twice_of}
 use Rattle.machine_roads.proofs.Losing.{detaches_to_lose, goes_to_lose}
 use Rattle.machine_roads.proofs.PollCalls.{polls}
@@ -66,8 +66,10 @@ none_of w q follows none f = by (where_is (length w.tasks) f)
 -- such things to do have what is asked of them in each machine
 pub of_tasks : Walks HasOfTasks IsAny
 of_tasks = record {
-  easy = record { ends = λ w r held fit. tt; outside = λ w x fit. tt };
-  gives = λ s p reached there any o is fit. has_unless s p reached there o (λ asks. absurd (never_open o fit asks)) is;
+  easy = record { ends = λ w r held os fit. tt; outside = λ w x os fit. tt };
+  gives =
+      of_top HasOfTasks IsAny
+      (λ s p reached there any o is fit. has_unless s p reached there o (λ asks. absurd (never_open o fit asks)) is);
   back = λ ts s new reached made any. tt;
 }
 

@@ -4,7 +4,7 @@ use Rattle.std.proofs.Common.{◌≡◌, ℕ, ◌<◌, ◌==◌, Bool, true, fal
 use Rattle.std.proofs.Common.{Option, Some, None, slice_get, slice_set, if◌then◌else◌, refl, sym, ap, subst, ◌∙◌}
 use Rattle.std.proofs.Common.{append_assoc, append-nil}
 use Rattle.std.specs.Prelude.{filter}
-use Rattle.std.proofs.lemmas.List.{get_or-set_same, get_or-set_other}
+use Rattle.std.proofs.lemmas.List.{get_or-set_same, get_or-set_other, set-get_or}
 use Rattle.std.proofs.lemmas.Option.{slice_get_within}
 use Rattle.executor_parts.specs.declared.mark.Mark.{Mark}
 use Rattle.executor_parts.specs.declared.mark.Mark.TheVariants.{Plain as PlainMark, Urgent}
@@ -57,78 +57,6 @@ futures_append test (d ∷ ds) es =
     futures_by (test d) d (filter test ds) (filter test (ds ++ es)) (futures_in test es) (futures_append test ds es)
 
 module _ (w : World) (p : Plain Output Waker) (r : Follows w p) where
-  -- a task becomes another on both sides
-  module _ (f : ℕ) (at : f < length w.tasks) (s : State) (new : AbstractTask Output Waker)
-      (same : view s (waker_in (awaiter_of w f)) ≡ told new) (stored : IsStored s (awaiter_of w f))
-      (calm : abstract.is_over new.phase ≡ true → new.awaiter ≡ None) where
-    abbrev w' : World
-    w' = world.put w f s
-
-    long : length w'.tasks ≡ length w.tasks
-    long = length_set w.tasks f s
-
-    state_here : world.task w' f ≡ s
-    state_here = get_or-set_same w.tasks f s blank at
-
-    state_past : (g : ℕ) → (f == g) ≡ false → world.task w' g ≡ world.task w g
-    state_past g apart = get_or-set_other w.tasks f g s blank (λ is. apart_of f g apart (sym is))
-
-    puts_at : (x : Future Output Waker) → slice_get p.futures f ≡ Some x → Follows w' (put_at f new x p)
-    puts_at x is = record {
-      limit = r.limit;
-      kind = r.kind;
-      many = long ∙ (r.many ∙ sym (length_set p.futures f (with_task new x)));
-      places = r.places ∙ sym long;
-      marked = r.marked ∙ sym long;
-      tasks = λ g below. task_by g (subst (λ n. g < n) long below) (f == g) refl;
-      stored = λ g below. stored_by g (subst (λ n. g < n) long below) (f == g) refl;
-      marks = λ g. mark_put f g new p x is ∙ r.marks g;
-      calm = λ g below. calm_by g (subst (λ n. g < n) long below) (f == g) refl;
-      table = r.table ∙ sym (living_set p.futures 0 f x (with_task new x) is refl);
-      common = r.common;
-      kept = r.kept;
-      wakers = r.wakers;
-      count = r.count;
-      flag = r.flag;
-      asleep = r.asleep;
-      numbered = r.numbered;
-      runs = r.runs;
-      waking = r.waking;
-      seen = r.seen;
-    }
-      where
-        task_by : (g : ℕ) → g < length w.tasks → (b : Bool) → (f == g) ≡ b → task g (put_at f new x p) ≡ task_in w' g
-        task_by g below true is_same =
-            subst (λ g. task g (put_at f new x p) ≡ task_in w' g) (same_of f g is_same)
-            (task_put f new p x is ∙ (sym same ∙ sym (ap (λ t. view t (waker_in (awaiter_of w f))) state_here)))
-        task_by g below false apart =
-            task_past f g new p x apart
-            ∙ (r.tasks g below ∙ sym (ap (λ t. view t (waker_in (awaiter_of w g))) (state_past g apart)))
-
-        stored_by : (g : ℕ) → g < length w.tasks → (b : Bool) → (f == g) ≡ b → IsStored (world.task w' g) (awaiter_of w g)
-        stored_by g below true is_same =
-            subst (λ g. IsStored (world.task w' g) (awaiter_of w g)) (same_of f g is_same)
-            (subst (λ t. IsStored t (awaiter_of w f)) (sym state_here) stored)
-        stored_by g below false apart =
-            subst (λ t. IsStored t (awaiter_of w g)) (sym (state_past g apart)) (r.stored g below)
-
-        calm_by : (g : ℕ) → g < length w.tasks → (b : Bool) → (f == g) ≡ b
-            → abstract.is_over (task g (put_at f new x p)).phase ≡ true → (task g (put_at f new x p)).awaiter ≡ None
-        calm_by g below true is_same =
-            subst
-            (λ g. abstract.is_over (task g (put_at f new x p)).phase ≡ true → (task g (put_at f new x p)).awaiter ≡ None)
-            (same_of f g is_same)
-            (subst (λ (t : AbstractTask Output Waker). abstract.is_over t.phase ≡ true → t.awaiter ≡ None)
-            (sym (task_put f new p x is)) calm)
-        calm_by g below false apart =
-            subst (λ (t : AbstractTask Output Waker). abstract.is_over t.phase ≡ true → t.awaiter ≡ None)
-            (sym (task_past f g new p x apart)) (r.calm g below)
-
-    pub puts : Follows (world.put w f s) (put f new p)
-    puts =
-        let x = get_below p.futures f (subst (λ n. f < n) r.many at) in
-        subst (Follows w') (sym (put_is f new p x.0 x.1)) (puts_at x.0 x.1)
-
   -- what is told of
   pub hears : (e : Event) (events : List (Sight Output Waker)) → heard_in w.trace ++ heard e ≡ map shown events
       → Follows (log w e) (record p { events = events })
@@ -304,6 +232,14 @@ module _ (w : World) (p : Plain Output Waker) (r : Follows w p) (f : ℕ) (at : 
   settles =
       let x = get_below p.futures f (subst (λ n. f < n) r.many at) in
       subst (Follows awaits) (sym (put_is f new p x.0 x.1)) (settles_at x.0 x.1)
+
+-- a task becomes another on both sides
+pub puts : (w : World) (p : Plain Output Waker) → Follows w p → (f : ℕ) → f < length w.tasks → (s : State)
+    (new : AbstractTask Output Waker) → view s (waker_in (awaiter_of w f)) ≡ told new → IsStored s (awaiter_of w f)
+    → (abstract.is_over new.phase ≡ true → new.awaiter ≡ None) → Follows (world.put w f s) (put f new p)
+puts w p r f at s new same stored calm =
+    subst (λ os. Follows (record (world.put w f s) { awaiters = os }) (put f new p)) (set-get_or w.awaiters f None)
+    (settles w p r f at s (awaiter_of w f) new same stored calm)
 
 -- a task that is put again is as it was
 pub put_again : (f : ℕ) (w : World) (q : Plain Output Waker) → Follows w q → put f (task f q) q ≡ q

@@ -34,7 +34,7 @@ use Rattle.plain_scheduler.specs.Calls.{close, does}
 use Rattle.plain_scheduler.specs.Searches.{searches_inside}
 use Rattle.machine_roads.specs.View.{Output, wakes}
 use Rattle.machine_roads.specs.Road.{Follows, waking_in}
-use Rattle.machine_roads.specs.Alone.{alone, is_resting, HasAll, HasIn}
+use Rattle.machine_roads.specs.Alone.{alone, is_resting, HasAll, HasFirst, HasIn}
 use Rattle.machine_roads.specs.Alike.{begins, upon}
 use Rattle.machine_roads.specs.Closing.{ComesOn, IsInDrop, loses}
 use Rattle.machine_roads.specs.Course.{IsCall}
@@ -51,7 +51,7 @@ use Rattle.machine_roads.proofs.Beside.{begins_does, go_append, rest_goes}
 use Rattle.machine_roads.proofs.CallsBehind.{Still, none_in, none_of, of_tasks, still_at}
 use Rattle.machine_roads.proofs.Counted.{counts}
 use Rattle.machine_roads.proofs.CourseBehind.{before_drop, drop_begun, still_gone}
-use Rattle.machine_roads.proofs.ActLosses.{spares_all}
+use Rattle.machine_roads.proofs.LossActs.{spares_all}
 use Rattle.machine_roads.proofs.InDrop.{comes_on, drop_goes_on}
 use Rattle.machine_roads.proofs.InLoss.{calls_in_loss, loses_in_loss, loss_ends_in_loss}
 use Rattle.machine_roads.proofs.LossInDrop.{call_ends, call_loses, drop_ends_so}
@@ -182,7 +182,7 @@ module _ (s : Machine) (reached : Reached s) (p : ℕ) (there : p < length s.par
         let off = not_off c may in
         let x = one_named c may no_poll off in
         let it = called_in c may gs (op.User (user_op.Drop f) ∷ left_to_close fs s.world) next x.made x.is in
-        begun_leads_of HasOpen IsAny of_calls p (Reaches (Begin p c)) new tt c ts s reached there
+        begun_leads_of (HasFirst HasOpen) IsAny of_calls p (Reaches (Begin p c)) new tt c ts s reached there
         (subst (λ here. LeadsSoOf HasOpen p (upon below (begins p here c s.world)) (Reaches (Begin p c))) (sym no_poll) (leads off x it))
         rests made
       where
@@ -222,7 +222,7 @@ module _ (s : Machine) (reached : Reached s) (p : ℕ) (there : p < length s.par
     drop_ends : (u : UserEnd) (ts : List Step) → accepts (op.User (user_op.Drop f)) u ≡ true
         → rests_after p ts (after s (Answer p u)) ≡ true → run_all (Answer p u ∷ ts) s ≡ Ok new → Reaches (Answer p u) (standing new p)
     drop_ends IsDone ts on rests made =
-        answer_leads_of HasIn IsAny walks p (Reaches (Answer p IsDone)) new tt IsDone (op.User (user_op.Drop f))
+        answer_leads_of (HasFirst HasIn) IsAny walks p (Reaches (Answer p IsDone)) new tt IsDone (op.User (user_op.Drop f))
         (left_to_close fs s.world) ts s reached there next
         (λ hints has rests. (
           does wakes granted plain.Ends q,
@@ -247,7 +247,8 @@ module _ (s : Machine) (reached : Reached s) (p : ℕ) (there : p < length s.par
     loss_ends IsDone ts on rests made =
         let os = left_of g ++ left in
         let under = loss_rests gs (op.User (user_op.Drop f) ∷ left_to_close fs s.world) refl in
-        answer_leads_of HasOpen IsAny of_calls p (Reaches (Answer p IsDone)) new tt IsDone (op.User (user_op.DropOutput g)) os ts s reached
+        answer_leads_of (HasFirst HasOpen) IsAny of_calls p (Reaches (Answer p IsDone)) new tt IsDone
+        (op.User (user_op.DropOutput g)) os ts s reached
         there next
         (λ hints has rests.
         let e = alone p hints (done s.world os) in
@@ -292,7 +293,7 @@ module _ (s : Machine) (reached : Reached s) (p : ℕ) (there : p < length s.par
         let unpolled = no_poll_behind gs stops.left in
         let x = one_named c may unpolled off in
         let it = called_in c may gs [] stops.left x.made x.is in
-        begun_leads_of HasOfTasks IsAny of_tasks p (Reaches (Begin p c)) new tt c ts s reached there
+        begun_leads_of (HasFirst HasOfTasks) IsAny of_tasks p (Reaches (Begin p c)) new tt c ts s reached there
         (subst (λ os. LeadsSoOf HasOfTasks p (upon os (begins p (mine its) c s.world)) (Reaches (Begin p c))) (sym stops.left)
         (subst (λ here. LeadsSoOf HasOfTasks p (upon owed (begins p here c s.world)) (Reaches (Begin p c))) (sym unpolled)
         (leads unpolled x it)))
@@ -358,7 +359,8 @@ module _ (s : Machine) (reached : Reached s) (p : ℕ) (there : p < length s.par
           follows =
               stands_in inside (without_handles (g ∷ gs) s.world) q stops.losing.follows (sym (ap (λ codes. waking_in codes) stops.inside));
         } in
-        answer_leads_of HasOfTasks IsAny of_tasks p (Reaches (Answer p IsDone)) new tt IsDone (op.User (user_op.DropOutput g)) os ts s
+        answer_leads_of (HasFirst HasOfTasks) IsAny of_tasks p (Reaches (Answer p IsDone)) new tt IsDone
+        (op.User (user_op.DropOutput g)) os ts s
         reached there stops.left
         (λ hints has rests.
         let e = alone p hints (done s.world os) in
@@ -470,7 +472,7 @@ drop_acts_so s reached q quiet follows a acts d nowhere it first are =
     (subst (λ codes. ComesOn fs fs codes z e) nowhere
     (subst (λ all. ComesOn fs fs q.inside (close wakes d all all q) e) follows.table (comes_on d fs q.inside fs q e refl so))) in
     let stands =
-    begun_leads_of HasIn IsAny walks p R a.left tt x a.steps s reached there
+    begun_leads_of (HasFirst HasIn) IsAny walks p R a.left tt x a.steps s reached there
     (subst (λ xs. LeadsSoOf HasIn p (upon (reverse xs) (begins p (mine (top xs)) x s.world)) R) (sym none) leads) resting made in (
       stands,
       drop_lists acts a.left (reached-more (Begin p x ∷ a.steps) s a.left reached made) p

@@ -12,7 +12,7 @@ use Rattle.executor_model.specs.World.{World}
 use Rattle.plain_scheduler.specs.State.{ATick, Choice, DropOwn}
 use Rattle.plain_scheduler.specs.State.{Done, Finished, Made, NoMemory, Plain, PollOwn, Tick, Try, Full}
 use Rattle.plain_scheduler.specs.Lists.{on, or}
-use Rattle.plain_scheduler.specs.Moves.{answers, appended, becomes, called, copied, enters}
+use Rattle.plain_scheduler.specs.Moves.{answers, appended, becomes, copied, enters}
 use Rattle.plain_scheduler.specs.Moves.{let_go, put, task, tell}
 use Rattle.plain_scheduler.specs.Moves as plain
 use Rattle.plain_scheduler.specs.Calls as calls
@@ -22,8 +22,9 @@ use Rattle.machine_roads.specs.Lone.{Ended, ends, over}
 use Rattle.machine_roads.specs.Course.{GoesBy, IsCall, cancel, copy, detach, drop_executor, drop_handle, drop_run, drop_tick, is_empty}
 use Rattle.machine_roads.specs.Course.{leak, new_run, new_tick, poll_handle, poll_run, poll_tick, release, spawn, try_tick, use_waker, wake}
 use Rattle.machine_roads.proofs.Aside.{becomes_keeps, copied_keeps, goes_keeps, leaves_keeps, put_keeps}
-use Rattle.machine_roads.proofs.FewTaken.{AllFew, AtRest, Counts, InCodes, aside, called_sight, code_ends, counts_at, counts_same}
-use Rattle.machine_roads.proofs.FewTaken.{each_sight, ended_by, pushed, rest_same, sight, takes, tell_sight}
+use Rattle.machine_roads.proofs.FewTaken.{AllFew, AtRest, Counts, InCodes, code_ends, counts_at, counts_same}
+use Rattle.machine_roads.proofs.FewTaken.{ended_by, pushed, rest_same, takes}
+use Rattle.machine_roads.proofs.RunApart.{aside, called_sight, each_sight, sight, tell_sight}
 
 -- all the code that it comes to ends
 few_ended : (q z : Plain Output Waker) → Ended q z → Counts q → Counts z

@@ -1,26 +1,28 @@
 -- Between two calls on the plain scheduler each run has taken fewer than 200 since it last let others go first: behind its 200th it does.
 use Rattle.std.proofs.Common.{◌≡◌, ℕ, zero, suc, ◌==◌, nat_lt, Bool, true, false, List, [], ◌∷◌, ◌++◌, Option, Some, None}
-use Rattle.std.proofs.Common.{slice_get, slice_set, if◌then◌else◌, refl, sym, ap, subst, ◌∙◌, arith}
+use Rattle.std.proofs.Common.{slice_get, if◌then◌else◌, refl, sym, ap, subst, ◌∙◌, arith}
 use Rattle.std.specs.Prelude.{count_by, find}
 use Rattle.std.proofs.lemmas.Bool.Decides.{nat_tests}
 use Rattle.task_moves.specs.AbstractTask as abstract
 use Rattle.task_moves.specs.AbstractTask.{AbstractTask}
 use Rattle.executor_model.specs.declared.op.Waker.{Waker}
-use Rattle.plain_scheduler.specs.State.{ARun, ATick, Calls, Choice, Close, Closed, Code, Drop, DropOwn, Due, End, Future}
+use Rattle.plain_scheduler.specs.State.{ARun, ATick, Calls, Choice, Close, Closed, Code, Drop, DropOwn, Due, End}
 use Rattle.plain_scheduler.specs.State.{Done, Lose, Loses, Pending, Plain, Poll, PollOwn, Polls, Run, Running, Taker, Tick, Try}
-use Rattle.plain_scheduler.specs.Lists.{each, on, or, repeat, without}
+use Rattle.plain_scheduler.specs.Lists.{on, or, repeat, without}
 use Rattle.plain_scheduler.specs.Moves.{answers, appended, becomes, called, chosen, enters, given_back, is_common, is_kept, keeps, leaves}
-use Rattle.plain_scheduler.specs.Moves.{let_go, looks, moved, put, see, task, tell, up}
+use Rattle.plain_scheduler.specs.Moves.{let_go, looks, put, see, task, tell, up}
 use Rattle.plain_scheduler.specs.Moves as plain
 use Rattle.plain_scheduler.specs.Takes as plain_takes
 use Rattle.plain_scheduler.specs.Calls as calls
 use Rattle.plain_scheduler.specs.Calls.{does}
 use Rattle.machine_roads.specs.View.{Output, wakes}
 use Rattle.machine_roads.specs.Lone.{is_end}
-use Rattle.machine_roads.proofs.Aside.{IsAside, becomes_keeps, called_with, goes_keeps, leaves_keeps, put_keeps, rests_keeps}
-use Rattle.machine_roads.proofs.Aside.{tell_keeps, up_keeps}
+use Rattle.machine_roads.proofs.Aside.{becomes_keeps, goes_keeps, leaves_keeps, put_keeps, rests_keeps}
+use Rattle.machine_roads.proofs.Aside.{up_keeps}
 use Rattle.machine_roads.proofs.Lists.{clash, same_of}
 use Rattle.machine_roads.proofs.Runs.{changed, changed_rest, ended_run, one_more, runs_is}
+use Rattle.machine_roads.proofs.RunApart.{Sight, aside, called_sight, each_sight, given_up_sight, keeps_sight, repeats_sight, robbed_sight}
+use Rattle.machine_roads.proofs.RunApart.{sight, tell_sight}
 
 abbrev pub few : List Running → ℕ → Bool
 few rs r = or (slice_get rs r) (λ run. nat_lt run.taken 200) true
@@ -103,17 +105,6 @@ pushed rs all r = by rs r (all r)
     by (x ∷ xs) zero is = is
     by (x ∷ xs) (suc r) is = by xs r is
 
--- the code in which it stands, and the runs
-pub record Sight : Type 0 where
-  pub inside : List (Code Output Waker)
-  pub runs : List Running
-
-abbrev pub sight : Plain Output Waker → Sight
-sight q = record { inside = q.inside; runs = q.runs }
-
-pub aside : IsAside sight
-aside = record { futures = λ q fs. refl; due = λ q f. refl; lying = λ q ls. refl; seen = λ q e. refl }
-
 -- at rest before
 pub record AtRest (q : Plain Output Waker) : Type 0 where
   pub nowhere : q.inside ≡ []
@@ -147,55 +138,22 @@ module _ (c : Choice) where
       begins true = (few, nowhere)
       begins false = (subst (λ (s : Sight). ByTaker by s.runs) (sym same) few, ap (λ (s : Sight). s.inside) same ∙ nowhere)
 
-  keeps_sight : (r : ℕ) (test : Due → Bool) (q : Plain Output Waker) → sight (keeps r test q) ≡ sight q
-  keeps_sight r test q = by (nat_lt (count_by (is_kept r) q.due) 512)
-    where
-      taken : (o : Option Due)
-          → sight (on o (λ d p. record p { due = without test p.due ++ record d { keeper = Some r } ∷ [] }) q) ≡ sight q
-      taken None = refl
-      taken (Some d) = refl
-
-      by : (b : Bool) → sight (if b then moved r test q else q) ≡ sight q
-      by true = taken (find test q.due)
-      by false = refl
-
-  repeats_sight : (n : ℕ) (h : Plain Output Waker → Plain Output Waker) → ((q : Plain Output Waker) → sight (h q) ≡ sight q)
-      → (q : Plain Output Waker) → sight (repeat n h q) ≡ sight q
-  repeats_sight zero h keep q = refl
-  repeats_sight (suc n) h keep q = repeats_sight n h keep (h q) ∙ keep q
-
-  pub each_sight : {B : Type 0} (bs : List B) (h : B → Plain Output Waker → Plain Output Waker)
-      → ((b : B) (q : Plain Output Waker) → sight (h b q) ≡ sight q) → (q : Plain Output Waker) → sight (each bs h q) ≡ sight q
-  each_sight [] h keep q = refl
-  each_sight (b ∷ bs) h keep q = each_sight bs h keep (h b q) ∙ keep b q
-
-  robbed_sight : (r : ℕ) (keeper : Option ℕ) (q : Plain Output Waker) → sight (plain_takes.robbed wakes c r keeper q) ≡ sight q
-  robbed_sight r None q = refl
-  robbed_sight r (Some k) q = by (r == k)
-    where
-      by : (b : Bool) → sight (if b then q else repeat c.moves (keeps r (is_kept k)) q) ≡ sight q
-      by true = refl
-      by false = repeats_sight c.moves (keeps r (is_kept k)) (keeps_sight r (is_kept k)) q
-
-  pub tell_sight : (q : Plain Output Waker) → sight (tell wakes c q) ≡ sight q
-  tell_sight q = tell_keeps sight aside c q
-
   takes_one : (by : Taker Waker) (d : Due) (q : Plain Output Waker) → AtRest q → Counts (plain_takes.takes wakes c by d q)
   takes_one Try d q rest =
       let z = tell wakes c q in
-      let r = rest_same q z (tell_sight q) rest in
+      let r = rest_same q z (tell_sight c q) rest in
       runs_taken d.future Try z r.nowhere r.all
   takes_one (Tick t a) d q rest =
       let z = tell wakes c (up wakes c (ATick t) q) in
-      let r = rest_same q z (tell_sight (up wakes c (ATick t) q) ∙ up_keeps sight aside c (ATick t) q) rest in
+      let r = rest_same q z (tell_sight c (up wakes c (ATick t) q) ∙ up_keeps sight aside c (ATick t) q) rest in
       runs_taken d.future (Tick t a) z r.nowhere r.all
   takes_one (Run r a) d q rest =
       let q1 = plain_takes.robbed wakes c r d.keeper q in
       let q2 = tell wakes c (up wakes c (ARun r) q1) in
       let q3 = plain_takes.kept wakes c r q2 in
       let same : sight q3 ≡ sight q =
-      each_sight c.keeps (λ mark. keeps r (is_common mark)) (λ mark z. keeps_sight r (is_common mark) z) q2
-      ∙ (tell_sight (up wakes c (ARun r) q1) ∙ (up_keeps sight aside c (ARun r) q1 ∙ robbed_sight r d.keeper q)) in
+      each_sight c c.keeps (λ mark. keeps r (is_common mark)) (λ mark z. keeps_sight c r (is_common mark) z) q2
+      ∙ (tell_sight c (up wakes c (ARun r) q1) ∙ (up_keeps sight aside c (ARun r) q1 ∙ robbed_sight c r d.keeper q)) in
       let k = rest_same q q3 same rest in
       subst (λ z. Counts (plain_takes.run wakes c d.future (Run r a) z)) (sym (runs_is one_more r q3))
       (runs_taken d.future (Run r a) (record q3 { runs = changed one_more r q3.runs }) k.nowhere
@@ -252,10 +210,6 @@ module _ (c : Choice) where
           (counts_same q1 (or (wakes a) (λ f. plain.wake wakes (tell wakes c) f q1) (see (Calls a) q1)) (woken (wakes a))
           (counts_at q1 zeroed))
 
-  pub called_sight : (o : Option Waker) (q : Plain Output Waker) → sight (on o (called wakes (tell wakes c)) q) ≡ sight q
-  called_sight None q = refl
-  called_sight (Some a) q = called_with sight aside (tell wakes c) tell_sight a q
-
   -- by a taker, or by none
   abbrev ByOne : Option (Taker Waker) → List Running → Type 0
   ByOne None rs = AllFew rs
@@ -269,7 +223,7 @@ module _ (c : Choice) where
       z = on awaiter (called wakes (tell wakes c)) q
 
       same : sight z ≡ sight q
-      same = called_sight awaiter q
+      same = called_sight c awaiter q
 
       goes : (by : Option (Taker Waker)) → ByOne by q.runs → Counts (or by (λ taker. plain_takes.next wakes c taker z) (answers Done z))
       goes None few = counts_same q z same (counts_at q (record { nowhere = nowhere; all = few }))
@@ -304,29 +258,11 @@ module _ (c : Choice) where
       (subst (λ (s : Sight). ByOne by s.runs) (sym same) few)
 
   -- a future is dropped, and the scheduler's waker goes
-  given_up_sight : (f : ℕ) (q : Plain Output Waker) → sight (plain_takes.given_up wakes c f q) ≡ sight q
-  given_up_sight f q = by q.is_static
-    where
-      by : (b : Bool) → sight (if b then q else plain.release wakes (tell wakes c) f q) ≡ sight q
-      by true = refl
-      by false = becomes_keeps sight aside c f (abstract.release (task f q)) q
-
-  abbrev marked : ℕ → Plain Output Waker → Plain Output Waker
-  marked f q = plain.changed (λ future. record future { is_dropped = true }) f q
-
-  marked_sight : (f : ℕ) (q : Plain Output Waker) → sight (marked f q) ≡ sight q
-  marked_sight f q = by (slice_get q.futures f)
-    where
-      by : (o : Option (Future Output Waker))
-          → sight (on o (λ future p. record p { futures = slice_set p.futures f (record future { is_dropped = true }) }) q) ≡ sight q
-      by None = refl
-      by (Some x) = refl
-
   dropped : (f : ℕ) (why : End Output) (by : Taker Waker) (q : Plain Output Waker) → q.inside ≡ [] → ByTaker by q.runs
       → Counts (plain_takes.dropped wakes c f why by q)
   dropped f why by q nowhere few =
-      let z = plain_takes.given_up wakes c f (marked f q) in
-      let same : sight z ≡ sight q = given_up_sight f (marked f q) ∙ marked_sight f q in
+      let z = plain_takes.given_up wakes c f (plain.changed (λ future. record future { is_dropped = true }) f q) in
+      let same : sight z ≡ sight q = given_up_sight c f q in
       ended_by f (plain_takes.left_by wakes c why (task f z)) (Some by) z (ap (λ (s : Sight). s.inside) same ∙ nowhere)
       (subst (λ (s : Sight). ByTaker by s.runs) (sym same) few)
 
@@ -359,7 +295,7 @@ module _ (c : Choice) where
       let h : Plain Output Waker → Plain Output Waker = λ p. tell wakes c (given_back r p) in
       let n = count_by (is_kept r) q.due in
       let same : sight (leaves wakes c (ARun r) (repeat n h q1)) ≡ sight q1 =
-      leaves_keeps sight aside c (ARun r) (repeat n h q1) ∙ repeats_sight n h (λ p. tell_sight (given_back r p) ∙ back p) q1 in
+      leaves_keeps sight aside c (ARun r) (repeat n h q1) ∙ repeats_sight c n h (λ p. tell_sight c (given_back r p) ∙ back p) q1 in
       subst (λ z. Counts (leaves wakes c (ARun r) (repeat n h z))) (sym (runs_is ended_run r q))
       (counts_same q1 (leaves wakes c (ARun r) (repeat n h q1)) same
       (counts_at q1 (record { nowhere = rest.nowhere; all = λ k. same_few ended_run (λ run. refl) q.runs r k ∙ rest.all k })))

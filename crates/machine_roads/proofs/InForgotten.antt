@@ -39,8 +39,8 @@ use Rattle.machine_roads.proofs.Along.{AlongSo, along_so, goes_append, goes_by, 
 use Rattle.machine_roads.proofs.InLoss.{calls_in_loss, closed_through, loses_in_loss, loss_ends_in_loss, many_through}
 use Rattle.machine_roads.proofs.Lists.{get_below, length_set}
 use Rattle.machine_roads.proofs.Puts.{put_by, put_lying, with_task}
-use Rattle.machine_roads.proofs.Spent.{Does, Kept, hide, is_aside, is_from_outside, task_own}
-use Rattle.machine_roads.proofs.SpentActs.{act_does, has_less}
+use Rattle.machine_roads.proofs.Hiding.{is_from_outside, task_own}
+use Rattle.machine_roads.proofs.Spent.{Does, Kept, act_does, all_same, has_less, hide, is_aside}
 use Rattle.machine_roads.proofs.Unawaited.{Bare, task_other, there_over}
 use Rattle.machine_roads.proofs.UnawaitedCalls.{begins_bare, does_keeps, ends_keep, stays_bare}
 
@@ -131,13 +131,7 @@ module _ (f : ℕ) (awaiter : Option Waker) where
       ap (λ (t : AbstractTask Output Waker). is_some t.output) (task_other f awaiter r q b g apart)
   loses_there r q b w c x off (drop_handle g) apart =
       ap (λ (t : AbstractTask Output Waker). is_some t.output) (task_other f awaiter r q b g apart)
-  loses_there r q b w c x off (use_waker k g is) apart = refl
-  loses_there r q b w c x off (wake k g is) apart = refl
-  loses_there r q b w c x off (copy k g is) apart = refl
-  loses_there r q b w c x off (release k g is) apart = refl
-  loses_there r q b w c x off (poll_handle g a) apart = refl
-  loses_there r q b w c x off (cancel g) apart = refl
-  loses_there r q b w c x off is apart = absurd cc
+  loses_there r q b w c x off is apart = refl
 
   -- both as they stand
   record Begun (w : World) (q : Plain Output Waker) : Type 0 where
@@ -177,7 +171,7 @@ module _ (f : ℕ) (awaiter : Option Waker) where
 
       shut : (world.task w f).closed ≡ true
       shut =
-          ap (λ (s : State). s.closed) (sym (task_own f awaiter w stands.known))
+          ap (λ (s : State). s.closed) (sym (task_own f all_same w stands.known))
           ∙ (sym (closed_through gs f v stands.follows.shut)
           ∙ (sym (ap (λ (t : AbstractTask Output Waker). t.closed) (stands.follows.follows.tasks f inside))
           ∙ (there_over f awaiter (unawaited f q) q b).1))

@@ -1,40 +1,27 @@
 -- Calls that come to no user code leave the code in which calls stand.
-use Rattle.std.proofs.Common.{◌≡◌, ℕ, ◌++◌, Bool, true, false, List, [], ◌∷◌, length, nat_lt, Option, Some, None, if◌then◌else◌}
+use Rattle.std.proofs.Common.{◌≡◌, ℕ, ◌++◌, Bool, true, false, List, [], ◌∷◌, Option, Some, None, if◌then◌else◌}
 use Rattle.std.proofs.Common.{refl, ap, ◌∙◌}
 use Rattle.executor_parts.specs.declared.mark.Mark.{Mark}
 use Rattle.task_moves.specs.AbstractTask as abstract
-use Rattle.task_moves.specs.AbstractTask.{AbstractTask}
-use Rattle.task_moves.specs.AbstractTask.Polled.{Output as OutputOf, Cancelled as IsCancelled, Waits}
 use Rattle.executor_model.specs.declared.op.Waker.{Waker}
-use Rattle.plain_scheduler.specs.State.{ATick, Choice, Code, Full, Lose, Loses, Made, NoMemory, Plain}
-use Rattle.plain_scheduler.specs.Lists.{on, or}
-use Rattle.plain_scheduler.specs.Moves.{answers, appended, becomes, copied, enters, let_go, put, see, task, tell}
+use Rattle.plain_scheduler.specs.State.{ATick, Choice, Code, Lose, Loses, Made, NoMemory, Plain}
+use Rattle.plain_scheduler.specs.Lists.{or}
+use Rattle.plain_scheduler.specs.Moves.{answers, becomes, enters, put, see, task, tell}
 use Rattle.plain_scheduler.specs.Takes as plain_takes
-use Rattle.plain_scheduler.specs.Calls.{cancel, detach, does, ends, entered, handle_by, innermost, is_granted, living_from, registered}
+use Rattle.plain_scheduler.specs.Calls.{cancel, detach, does, ends, innermost, is_granted}
 use Rattle.plain_scheduler.specs.Calls.{Cancel, Copy, Detach, DropHandle, DropTick, Ends, NewRun, NewTick, PollHandle, Release, Spawn}
 use Rattle.plain_scheduler.specs.Calls.{Use, Wake}
 use Rattle.machine_roads.specs.View.{Output, wakes}
-use Rattle.machine_roads.proofs.Aside.{becomes_inside, called_inside, copied_inside, goes_inside, leaves_inside, tell_inside}
+use Rattle.machine_roads.proofs.CallsAside.{cancelled_keeps, copy_keeps, poll_keeps, spawn_keeps, tick_keeps}
+use Rattle.machine_roads.proofs.Aside.{inside_aside, becomes_inside, leaves_inside}
 use Rattle.machine_roads.proofs.Puts.{put_by}
 
 module _ (c : Choice) (q : Plain Output Waker) where
   abbrev Stays : Plain Output Waker → Type 0
   Stays r = r.inside ≡ q.inside
 
-  put_stays : (f : ℕ) (new : AbstractTask Output Waker) → Stays (put f new q)
-  put_stays f new = put_by (λ p. p.inside) f new q (λ fs. refl)
-
   pub spawn_inside : (m : Mark) → Stays (does wakes c (Spawn m) q)
-  spawn_inside m = by (nat_lt (length (living_from 0 q.futures)) q.limit) (is_granted c.refusal)
-    where
-      next : Plain Output Waker
-      next = appended (length q.futures) (entered wakes c m q)
-
-      by : (a b : Bool)
-          → Stays (if a then (if b then answers Made (tell wakes c next) else answers NoMemory q) else answers Full q)
-      by true true = tell_inside c next
-      by true false = refl
-      by false b = refl
+  spawn_inside m = spawn_keeps (λ q. q.inside) inside_aside c q m
 
   pub wake_inside : (f : ℕ) → Stays (does wakes c (Wake f) q)
   wake_inside f = becomes_inside c f (abstract.wake (task f q)) q
@@ -46,18 +33,10 @@ module _ (c : Choice) (q : Plain Output Waker) where
   release_inside f = becomes_inside c f (abstract.release (task f q)) q
 
   pub copy_inside : (f : ℕ) → Stays (does wakes c (Copy f) q)
-  copy_inside f = by (is_granted c.refusal)
-    where
-      by : (b : Bool) → Stays (if b then answers Made (put f (abstract.copy (task f q)) q) else answers NoMemory q)
-      by true = put_stays f (abstract.copy (task f q))
-      by false = refl
+  copy_inside f = copy_keeps (λ q. q.inside) inside_aside c q f
 
   pub tick_inside : Stays (does wakes c NewTick q)
-  tick_inside = by (is_granted c.refusal)
-    where
-      by : (b : Bool) → Stays (if b then answers Made q else answers NoMemory q)
-      by true = refl
-      by false = refl
+  tick_inside = tick_keeps (λ q. q.inside) inside_aside c q
 
   pub run_inside : Stays (does wakes c NewRun q)
   run_inside = by (is_granted c.refusal)
@@ -73,26 +52,10 @@ module _ (c : Choice) (q : Plain Output Waker) where
   drop_inside t = leaves_inside c (ATick t) q
 
   pub poll_inside : (f : ℕ) (a : Waker) → Stays (does wakes c (PollHandle f a) q)
-  poll_inside f a = by (abstract.polled (task f q))
-    where
-      registers : (q1 : Plain Output Waker) (e : abstract.Left Output Waker)
-          → (on e.let_go (let_go wakes (tell wakes c)) (put f e.task q1)).inside ≡ q1.inside
-      registers q1 e =
-          goes_inside c e.let_go (put f e.task q1) ∙ put_by (λ p. p.inside) f e.task q1 (λ fs. refl)
-
-      whether : (b : Bool) → Stays (if b then registered wakes c f a (copied wakes a q) else answers NoMemory q)
-      whether true = registers (copied wakes a q) (abstract.poll a (task f (copied wakes a q))) ∙ copied_inside a q
-      whether false = refl
-
-      by : (e : abstract.Polled Output) → Stays (handle_by wakes c f a e q)
-      by (OutputOf v) = put_stays f (abstract.poll a (task f q)).task
-      by IsCancelled = refl
-      by Waits = whether (is_granted c.refusal)
+  poll_inside f a = poll_keeps (λ q. q.inside) inside_aside c q f a
 
   cancelled_inside : (f : ℕ) → Stays (cancel wakes c f q)
-  cancelled_inside f =
-      let left = abstract.cancel (task f q) in
-      called_inside c left.called (becomes wakes (tell wakes c) f left.task q) ∙ becomes_inside c f left.task q
+  cancelled_inside f = cancelled_keeps (λ q. q.inside) inside_aside c q f
 
   pub cancel_inside : (f : ℕ) → Stays (does wakes c (Cancel f) q)
   cancel_inside f = cancelled_inside f

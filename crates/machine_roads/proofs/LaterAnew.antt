@@ -50,48 +50,12 @@ module _ (q z : Plain Output Waker) where
 
   pub granted_anew : (c : Choice) (x : plain.Call Output Waker) → c.refusal ≡ Granted → IsLaterAnew c x q z
   granted_anew c (plain.PollTick t w) is = λ later. absurd (apart c.refusal is later)
-  granted_anew c (plain.Spawn m) is = tt
-  granted_anew c plain.TryTick is = tt
-  granted_anew c plain.IsEmpty is = tt
-  granted_anew c (plain.Wake f) is = tt
-  granted_anew c (plain.Use f) is = tt
-  granted_anew c (plain.Copy f) is = tt
-  granted_anew c (plain.Release f) is = tt
-  granted_anew c (plain.PollHandle f w) is = tt
-  granted_anew c (plain.Cancel f) is = tt
-  granted_anew c (plain.Detach f) is = tt
-  granted_anew c (plain.DropHandle f) is = tt
-  granted_anew c plain.NewTick is = tt
-  granted_anew c (plain.DropTick t) is = tt
-  granted_anew c plain.NewRun is = tt
-  granted_anew c (plain.PollRun r w) is = tt
-  granted_anew c (plain.DropRun r) is = tt
-  granted_anew c plain.Leak is = tt
-  granted_anew c plain.DropExecutor is = tt
   granted_anew c plain.Pends is = λ vain later. absurd (apart c.refusal is later)
-  granted_anew c (plain.EndsWith v) is = tt
   granted_anew c plain.Ends is = λ vain later. absurd (apart c.refusal is later)
+  granted_anew c x is = tt
 
   -- where the executor isn't asked
   pub off_anew : (here : Option Waker) (w : World) (c : Call) (d : Choice) (x : plain.Call Output Waker) → IsCallIn here w c x
       → is_on_executor c ≡ false → IsLaterAnew d x q z
   off_anew here w c d x (within.poll_tick t b) off = absurd cc
-  off_anew here w c d x (within.spawn m) off = tt
-  off_anew here w c d x within.try_tick off = tt
-  off_anew here w c d x within.is_empty off = tt
-  off_anew here w c d x (within.use_waker k f is) off = tt
-  off_anew here w c d x (within.wake k f is) off = tt
-  off_anew here w c d x (within.copy k f is) off = tt
-  off_anew here w c d x (within.release k f is) off = tt
-  off_anew here w c d x (within.keep f is) off = tt
-  off_anew here w c d x (within.wake_self f is) off = tt
-  off_anew here w c d x (within.poll_handle f b) off = tt
-  off_anew here w c d x (within.cancel f) off = tt
-  off_anew here w c d x (within.detach f) off = tt
-  off_anew here w c d x (within.drop_handle f) off = tt
-  off_anew here w c d x within.new_tick off = tt
-  off_anew here w c d x (within.drop_tick t) off = tt
-  off_anew here w c d x within.new_run off = tt
-  off_anew here w c d x (within.poll_run k b) off = tt
-  off_anew here w c d x (within.drop_run k) off = tt
-  off_anew here w c d x within.leak off = tt
+  off_anew here w c d x is off = tt

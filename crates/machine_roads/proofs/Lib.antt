@@ -4,6 +4,8 @@ pub mod StandsHere
 pub mod Rescheduling
 pub mod BehindTake
 pub mod Enlisting
+pub mod TicksLiving
+pub mod TicksBehind
 pub mod Still
 pub mod Counted
 pub mod Seeking
@@ -15,9 +17,9 @@ pub mod BesideHere
 pub mod Lists
 pub mod Moving
 pub mod Owing
-pub mod OwingActs
+pub mod Hiding
 pub mod Spent
-pub mod SpentActs
+pub mod HidingActs
 pub mod InForgotten
 pub mod ActsForgotten
 pub mod UnawaitedCalls
@@ -73,7 +75,6 @@ pub mod Bedding
 pub mod LyingDown
 pub mod RunIdle
 pub mod Tying
-pub mod WalkedWith
 pub mod WhoLeaves
 pub mod Living
 pub mod Having
@@ -147,6 +148,9 @@ pub mod Unsearched
 pub mod ActBegins
 pub mod RunsAlone
 pub mod ActLosses
+pub mod CallsAside
+pub mod Endings
+pub mod LossActs
 pub mod ActEnds
 pub mod Acts
 pub mod OwnPolls

@@ -36,7 +36,7 @@ use Rattle.machine_roads.proofs.Having.{has_in}
 use Rattle.machine_roads.proofs.Leaking.{freed_inside}
 use Rattle.machine_roads.proofs.Lists.{cons_is, equal}
 use Rattle.machine_roads.proofs.LoneCalls.{each as each_alike}
-use Rattle.machine_roads.proofs.LoneRuns.{Inside, Rests, Walks, Whole, goes_on_of, lone_calls_rest_of}
+use Rattle.machine_roads.proofs.LoneRuns.{Inside, Rests, Walks, Whole, goes_on_of, lone_calls_rest_of, of_top}
 use Rattle.machine_roads.proofs.LoneTicks.{may_begin}
 use Rattle.machine_roads.proofs.Nobody.{WaitAmong, each_freed, each_mapped, each_waits, freed_so, swept_none}
 use Rattle.machine_roads.proofs.Puts.{put_by}
@@ -197,8 +197,8 @@ IsAny s = Unit {0}
 
 pub walks : Walks HasIn IsAny
 walks = record {
-  easy = record { ends = λ w r held. tt; outside = λ w x. tt };
-  gives = λ s p reached there any o is. has_in s p reached there o is;
+  easy = record { ends = λ w r held os. tt; outside = λ w x os. tt };
+  gives = of_top HasIn IsAny (λ s p reached there any o is. has_in s p reached there o is);
   back = λ ts s new reached made any. tt;
 }
 

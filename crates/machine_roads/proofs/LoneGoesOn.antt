@@ -1,6 +1,6 @@
 -- A lone poll of a run whose own future gives no output, with the ends of all the code that it comes to: it takes until it has taken 200
 -- and lets others go first, or lies down where nothing is due.
-use Rattle.std.proofs.Common.{◌≡◌, ℕ, suc, ◌+◌, ◌-◌, ◌≤◌, ◌<◌, ◌++◌, ◌||◌, nat_lt, Bool, true, false, List, [], ◌∷◌, length, slice_get}
+use Rattle.std.proofs.Common.{◌≡◌, ℕ, suc, ◌+◌, ◌-◌, ◌≤◌, ◌<◌, ◌++◌, nat_lt, true, false, List, [], ◌∷◌, length, slice_get}
 use Rattle.std.proofs.Common.{Option, Some, None, if◌then◌else◌, refl, sym, ap, subst, ◌∙◌, arith}
 use Rattle.std.proofs.lemmas.Bool.Decides.{nat_tests}
 use Rattle.executor_model.specs.declared.call.By.{By}
@@ -25,7 +25,7 @@ use Rattle.plain_scheduler.specs.Moves.{answers, enters}
 use Rattle.plain_scheduler.specs.Takes as plain_takes
 use Rattle.plain_scheduler.specs.Calls.{does, Pends, PollRun}
 use Rattle.machine_roads.specs.View.{Output, wakes}
-use Rattle.machine_roads.specs.Road.{Follows, is_ended}
+use Rattle.machine_roads.specs.Road.{Follows}
 use Rattle.machine_roads.specs.Alone.{alone, Has}
 use Rattle.machine_roads.specs.Lone.{Ended}
 use Rattle.machine_roads.specs.Stopped.{taken_by}
@@ -33,9 +33,8 @@ use Rattle.machine_roads.proofs.Lists.{cons_is}
 use Rattle.machine_roads.proofs.LonePolls.{In, InOwn, last, poll_own, stands_in_own, x0}
 use Rattle.machine_roads.proofs.LoneRuns.{IsBefore, Rests, before, goes_on_of}
 use Rattle.machine_roads.proofs.LoneRunsOn.{from_after, takes_on}
-use Rattle.machine_roads.proofs.LoneTaking.{end_is, over_keeps_none}
+use Rattle.machine_roads.proofs.LoneTaking.{end_is, open_stage, over_keeps_none}
 use Rattle.machine_roads.proofs.Passing.{telling}
-use Rattle.machine_roads.proofs.Runs.{over_is}
 use Rattle.machine_roads.specs.Searching.{start_of}
 use Rattle.machine_roads.proofs.RunsOn.{After, Between, anyhow, goes_from}
 use Rattle.machine_roads.proofs.Tying.{LeadsSo}
@@ -66,17 +65,10 @@ module _ (s : Machine) (reached : Reached s) (q : Plain Output Waker) (quiet : I
   abbrev a : Waker
   a = waker_of None b
 
-  open_stage : is_ended (run_of s.world r).stage ≡ false
-  open_stage =
-      by (run_of s.world r).dropped (is_ended (run_of s.world r).stage)
-      (sym (over_is s.world.runs q.runs follows.runs r) ∙ unended)
-    where
-      by : (d e : Bool) → (d || e) ≡ false → e ≡ false
-      by false e is = is
-      by true e is = absurd cc
-
   own : InOwn s reached q quiet follows p r c b many steps new later lone
-  own = stands_in_own s reached q quiet follows p r c b many steps new later lone (run_of s.world r).stage refl open_stage
+  own =
+      stands_in_own s reached q quiet follows p r c b many steps new later lone (run_of s.world r).stage refl
+      (open_stage s reached q quiet follows r unended)
 
   abbrev x : RunPoll
   x = x0 s reached q quiet follows p r c b many steps new later lone

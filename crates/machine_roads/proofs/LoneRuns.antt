@@ -1,8 +1,8 @@
 -- A lone call of a machine leaves it where its party, alone, leaves its world.
 use Rattle.std.proofs.Common.{◌≡◌, ℕ, ◌<◌, ◌++◌, ◌&&◌, ◌||◌, not, nat_lt, Bool, true, false, List, [], ◌∷◌, length}
 use Rattle.std.proofs.Common.{Option, Some, None, Result, Ok, Err, refl, sym, ap, subst, ◌∙◌, arith, append-nil, get_or-set_same}
-use Rattle.std.specs.Prelude.{reverse}
 use Rattle.std.{proofs.Math.ListN.length-set}
+use Rattle.std.specs.Prelude.{reverse}
 use Rattle.std.proofs.lemmas.Bool.Decides.{nat_tests}
 use Rattle.executor_model.specs.declared.call.Call.{Call}
 use Rattle.executor_model.specs.declared.event.Event.{Event}
@@ -31,13 +31,13 @@ use Rattle.executor_model.proofs.Steps.Stepping.{refusal-there, step-made}
 use Rattle.executor_model.proofs.Steps.TraceSteps.{run-continues}
 use Rattle.executor_model.proofs.SpawnWants.Tops.{flipped}
 use Rattle.executor_laws.specs.LoneEnds.{IsLoneCall, are_onward_of, is_onward_of}
-use Rattle.machine_roads.specs.Alone.{is_resting, Has}
+use Rattle.machine_roads.specs.Alone.{is_resting, Has, HasFirst}
 use Rattle.machine_roads.specs.Alike.{begins, upon}
 use Rattle.machine_roads.specs.Road.{Follows}
 use Rattle.machine_roads.specs.Lone.{LoneCallIsAlone}
 use Rattle.machine_roads.proofs.Lists.{clash, same_of}
 use Rattle.machine_roads.proofs.Having.{has_here, heard_here}
-use Rattle.machine_roads.proofs.Tying.{AtEnd, Goes, IsEasy, Leads, LeadsSo, LeadsSoOf, answers, ended, goes, has_easy, leads_ended}
+use Rattle.machine_roads.proofs.Tying.{AtEnd, Goes, IsEasy, Leads, LeadsSo, LeadsSoOf, answers, ended, goes, leads_ended}
 use Rattle.machine_roads.proofs.Tying.{leads_on, leads_outside, leads_rest, none_of, settles, top_of}
 
 pub made_is : (s new : Machine) → ◌≡◌ {A = Result Machine StepError} (Ok s) (Ok new) → s ≡ new
@@ -99,11 +99,22 @@ both_true true b is = (refl, is)
 both_true false b is = absurd cc
 
 -- in a machine of this kind each thing to do has what is asked of it, and so it is in those before
-pub record Walks (Asked : World → Op → Type 0) (Fine : Machine → Type 0) : Type 0 where
-  pub easy : IsEasy Asked
-  pub gives : (s : Machine) (p : ℕ) → Reached s → p < length s.parties → Fine s → (o : Op) → top (stack s p) ≡ Some o
-      → Asked s.world o
+pub record WalksBy (P : World → List Op → Type 0) (Fine : Machine → Type 0) : Type 0 where
+  pub easy : IsEasy P
+  pub gives : (s : Machine) (p : ℕ) → Reached s → p < length s.parties → Fine s → (os : List Op) → reverse (stack s p) ≡ os
+      → P s.world os
   pub back : (ts : List Step) (s new : Machine) → Reached s → run_all ts s ≡ Ok new → Fine new → Fine s
+
+abbrev pub Walks : (World → Op → Type 0) → (Machine → Type 0) → Type 0
+Walks Asked Fine = WalksBy (HasFirst Asked) Fine
+
+-- where it is asked of the first one
+pub of_top : (Asked : World → Op → Type 0) (Fine : Machine → Type 0)
+    → ((s : Machine) (p : ℕ) → Reached s → p < length s.parties → Fine s → (o : Op) → top (stack s p) ≡ Some o → Asked s.world o)
+    → (s : Machine) (p : ℕ) → Reached s → p < length s.parties → Fine s → (os : List Op) → reverse (stack s p) ≡ os
+    → HasFirst Asked s.world os
+of_top Asked Fine gives s p reached there fine [] is = tt
+of_top Asked Fine gives s p reached there fine (o ∷ os) is = gives s p reached there fine o (top_of (stack s p) o os is).0
 
 -- where the executor's drop hasn't begun
 abbrev pub IsBefore : Machine → Type 0
@@ -111,8 +122,8 @@ IsBefore s = s.world.gone ≡ false
 
 pub before : Walks Has IsBefore
 before = record {
-  easy = has_easy;
-  gives = λ s p reached there open_still o is. has_here s p reached there o open_still is;
+  easy = record { ends = λ w r held os. tt; outside = λ w x os. tt };
+  gives = of_top Has IsBefore (λ s p reached there open_still o is. has_here s p reached there o open_still is);
   back = gone_before;
 }
 
@@ -166,7 +177,7 @@ module _ (Asked : World → Op → Type 0) (Fine : Machine → Type 0) (walks : 
       is = goes.todo;
       leads =
           subst (λ w. LeadsSoOf Asked p (done w (ended p d.world d.next).next) R) (sym goes.world)
-          (leads_ended Asked walks.easy p R d.world d.next leads);
+          (leads_ended (HasFirst Asked) walks.easy p R d.world d.next leads);
       made = made;
     }
 
@@ -195,7 +206,8 @@ module _ (Asked : World → Op → Type 0) (Fine : Machine → Type 0) (walks : 
           not_true (waits o)
           (passed (not (waits o)) WrongAnswer (unless (not (is_locked_out s.world.lock o)) Waits None) goes_on) in
           onward_of (Go p h) ts (done (act p h o s.world).world ((act p h o s.world).next ++ os)) (goes p s there o os is h)
-          (leads_on Asked walks.easy p R h o s.world os free (walks.gives s p reached there open_still o its_top) leads) may made
+          (leads_on (HasFirst Asked) walks.easy p R h o s.world os free (walks.gives s p reached there open_still (o ∷ os) is) leads) may
+          made
 
       by_answer : (e : UserEnd) → are_onward_of p ts ≡ true → run_all (Answer p e ∷ ts) s ≡ Ok new → refusal s (Answer p e) ≡ None
           → run_all ts (after s (Answer p e)) ≡ Ok new → Comes new ts
@@ -215,7 +227,7 @@ module _ (Asked : World → Op → Type 0) (Fine : Machine → Type 0) (walks : 
             reached = reached;
             there = there;
             is = is;
-            so = leads_rest Asked walks.easy p R s.world (o ∷ os) (ap (λ x. is_resting (x ∷ os)) same ∙ resting) leads;
+            so = leads_rest (HasFirst Asked) walks.easy p R s.world (o ∷ os) (ap (λ x. is_resting (x ∷ os)) same ∙ resting) leads;
             accepted = ap (λ x. accepts x e) same ∙ ok;
             made = whole;
             follow = follow;
@@ -226,7 +238,8 @@ module _ (Asked : World → Op → Type 0) (Fine : Machine → Type 0) (walks : 
               Further (onward_of (Answer p e) ts (done s.world os)
               (subst (λ (d : Done). Goes p s (after s (Answer p e)) (done d.world (d.next ++ os)))
               (ap (λ x. react p x e s.world) same) (answers p s there o os is e))
-              (leads_outside Asked walks.easy p R x s.world os (subst (λ x. LeadsSoOf Asked p (done s.world (x ∷ os)) R) same leads)) may
+              (leads_outside (HasFirst Asked) walks.easy p R x s.world os
+              (subst (λ x. LeadsSoOf Asked p (done s.world (x ∷ os)) R) same leads)) may
               made)
           by (op.User (user_op.Poll f)) same ok = in_here (op.User (user_op.Poll f)) same ok refl
           by (op.User (user_op.Drop f)) same ok = in_here (op.User (user_op.Drop f)) same ok refl
@@ -261,7 +274,7 @@ module _ (Asked : World → Op → Type 0) (Fine : Machine → Type 0) (walks : 
       let none : os ≡ [] = sym is ∙ ap (λ (m : Machine). reverse (stack m p)) same ∙ ap (λ (ys : List Op). reverse ys) empty in
       Whole
       (subst (λ (m : Machine). R (done m.world [])) same
-      (subst (λ xs. R (done s.world xs)) none (leads_rest Asked walks.easy p R s.world os (ap is_resting none) leads)))
+      (subst (λ xs. R (done s.world xs)) none (leads_rest (HasFirst Asked) walks.easy p R s.world os (ap is_resting none) leads)))
   rests_of (t ∷ ts) s new os reached there later is leads follow made empty =
       let two = both_true (is_onward_of p t) (are_onward_of p ts) follow in
       rest_by new ts
@@ -340,7 +353,7 @@ lone_calls_rest_of Asked Fine walks s reached p c steps new R quiet later leaves
     rests_of Asked Fine walks p R steps first new (ended p d.world d.next).next (reached-step s (Begin p c) k.0 reached)
     (subst (λ n. p < n) (sym (length-set s.parties p _)) there) later todo
     (subst (λ w. LeadsSoOf Asked p (done w (ended p d.world d.next).next) R) (sym world)
-    (leads_ended Asked walks.easy p R d.world d.next (subst (λ d. LeadsSoOf Asked p d R) (upon_nothing d) leaves)))
+    (leads_ended (HasFirst Asked) walks.easy p R d.world d.next (subst (λ d. LeadsSoOf Asked p d R) (upon_nothing d) leaves)))
     lone.alone k.1 (rests new (deep-here new (reached-more (Begin p c ∷ steps) s new reached lone.made)) lone.ended p)
 
 pub lone_calls_rest : (s : Machine) → Reached s → (p : ℕ) (c : Call) (steps : List Step) (new : Machine) (R : Done → Type 0)

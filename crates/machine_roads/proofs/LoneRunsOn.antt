@@ -16,24 +16,22 @@ use Rattle.executor_model.specs.Acts.{is_last_waker}
 use Rattle.executor_model.specs.Quiet.{IsQuiet}
 use Rattle.executor_model.specs.World.{World, Done, done, task}
 use Rattle.executor_model.specs.World as world
-use Rattle.plain_scheduler.specs.Lists.{on as on_option}
 use Rattle.plain_scheduler.specs.Calls as plain_calls
 use Rattle.machine_roads.specs.View.{Output, wakes}
 use Rattle.machine_roads.specs.Road.{Follows, waking_in}
 use Rattle.machine_roads.specs.Alone.{alone, is_resting, Has}
 use Rattle.machine_roads.specs.Dropped.{Drops, IsEnding, answered, loses, rest_of, without_run}
-use Rattle.machine_roads.specs.Forgotten.{IsForgotten, IsLastPoll, unawaited, without_awaiter}
+use Rattle.machine_roads.specs.Forgotten.{IsForgotten, IsLastPoll, without_awaiter}
+use Rattle.machine_roads.proofs.Endings.{ending_as, forgotten_as, unawaited_in}
 use Rattle.machine_roads.proofs.Forgetting.{Forgets, forgets_by, forgets_with, forgotten_by}
 use Rattle.machine_roads.proofs.Lists.{cons_is}
-use Rattle.machine_roads.proofs.Puts.{put_at, put_by}
 use Rattle.machine_roads.proofs.Standing.{Answered, Behind, InDrop, InPoll, IsGoing, IsTaken, Stands, StandsSo, Stays, StaysSo}
 use Rattle.machine_roads.proofs.Unseen.{stands_in}
-use Rattle.std.proofs.Common.{Option, Some, None, slice_get, refl, sym, ap, subst, ◌∙◌, arith}
+use Rattle.std.proofs.Common.{Option, Some, refl, sym, ap, subst, ◌∙◌, arith}
 use Rattle.executor_model.specs.declared.op.RunPoll.{RunPoll}
 use Rattle.executor_model.specs.Steps.{Machine, accepts, react}
 use Rattle.executor_model.proofs.Steps.Reached.{Reached}
-use Rattle.plain_scheduler.specs.State.{Choice, Closed, Code, Drop, End, Future, Lose, Plain, Poll, Run, Taker}
-use Rattle.plain_scheduler.specs.Moves.{task as plain_task}
+use Rattle.plain_scheduler.specs.State.{Choice, Closed, Code, Drop, End, Lose, Plain, Poll, Run, Taker}
 use Rattle.plain_scheduler.specs.Calls.{does, Ends, EndsWith, Pends}
 use Rattle.machine_roads.specs.Lone.{Ended, ends as ends_with, is_end, over}
 use Rattle.machine_roads.specs.Searching.{goes_on_by}
@@ -199,17 +197,8 @@ module _ (p : ℕ) (new : Machine) (later : new.world.gone ≡ false) (at_last :
             ap (λ (codes : List (Code Output Waker)). record r { inside = codes })
             (ap (λ (codes : List (Code Output Waker)). Lose awaiter (Some taker) ∷ codes) (sym same) ∙ sym inside) in
             let ending0 : IsEnding m.world f awaiter outer =
-            record {
-              known = ending.known;
-              over = ending.over;
-              still = ending.still;
-              counted = ending.counted;
-              stored = ending.stored;
-              awaited = ending.awaited;
-              follows =
-                  stands_in codes (without_run f m.world) r ending.follows
-                  (sym (ap (λ codes. waking_in codes) inside ∙ ap (λ codes. waking_in codes) same));
-            } in
+            ending_as ending (stands_in codes (without_run f m.world) r ending.follows
+            (sym (ap (λ codes. waking_in codes) inside ∙ ap (λ codes. waking_in codes) same))) in
             let S : Done → Type 0 = λ e. After p x [] outer n t e (λ d. does wakes d Ends inner) anyhow in
             let leads : LeadsSo p (done m.world os) S =
             λ hints all rests.
@@ -266,20 +255,9 @@ module _ (p : ℕ) (new : Machine) (later : new.world.gone ≡ false) (at_last :
         (ap (λ (codes : List (Code Output Waker)). Drop f Closed taker ∷ codes) (sym same) ∙ sym y.so.stops.inside) in
         let it_is = y.so.stops.forgotten in
         let forgotten0 : IsForgotten m.world f outer =
-        record {
-          known = it_is.known;
-          entered = it_is.entered;
-          spent = it_is.spent;
-          unheld = it_is.unheld;
-          finished = it_is.finished;
-          closed = it_is.closed;
-          awaited = it_is.awaited;
-          follows =
-              subst (Follows (without_awaiter f m.world)) (unawaited_in f r) (stands_in codes (without_awaiter f m.world) (unawaited f r)
-              it_is.follows
-              (sym (ap (λ codes. waking_in codes) (put_by (λ p. p.inside) f (record (plain_task f r) { awaiter = None }) r (λ fs. refl))
-              ∙ (ap (λ codes. waking_in codes) y.so.stops.inside ∙ ap (λ codes. waking_in codes) same))));
-        } in
+        forgotten_as codes it_is
+        (unawaited_in f codes (without_awaiter f m.world) r it_is.follows
+        (sym (ap (λ codes. waking_in codes) y.so.stops.inside ∙ ap (λ codes. waking_in codes) same))) in
         let S : Done → Type 0 = λ e. After p x [] outer n t e (λ d. does wakes d Ends inner) anyhow in
         let leads : LeadsSo p (done m.world os) S =
         λ hints all rests.
@@ -292,16 +270,6 @@ module _ (p : ℕ) (new : Machine) (later : new.world.gone ≡ false) (at_last :
         subst (λ o. LeadsSo p (done (react p o y.end m.world).world ((react p o y.end m.world).next ++ y.rest)) S) (sym both.0)
         (subst (λ os. LeadsSo p (done m.world os) S) (sym both.1) leads) in
         subst Result is (from_after Ends inner refl outer refl (goes_on (λ e. Forgets taker final [] f b e r) S y here))
-      where
-        unawaited_in : (f : ℕ) (r : Plain Output Waker)
-            → record (unawaited f r) { inside = codes } ≡ unawaited f (record r { inside = codes })
-        unawaited_in f r = by (slice_get r.futures f)
-          where
-            by : (o : Option (Future Output Waker))
-                → record (on_option o (λ x q. put_at f (record (plain_task f r) { awaiter = None }) x q) r) { inside = codes }
-                ≡ on_option o (λ x q. put_at f (record (plain_task f r) { awaiter = None }) x q) (record r { inside = codes })
-            by None = refl
-            by (Some x) = refl
 
     -- behind a poll
     at_end : (inside : List (Code Output Waker)) (w : World) (os : List Op) (now : List (Code Output Waker))

@@ -86,6 +86,16 @@ module _ (s : Machine) (reached : Reached s) (q : Plain Output Waker) (quiet : I
       by false New dead is over = absurd cc
       by false Listed dead is over = absurd cc
 
+  -- a run that isn't over hasn't ended
+  pub open_stage : (r : ℕ) → or (slice_get q.runs r) (λ run. run.is_over) true ≡ false → is_ended (run_of s.world r).stage ≡ false
+  open_stage r unended =
+      by (run_of s.world r).dropped (is_ended (run_of s.world r).stage)
+      (sym (over_is s.world.runs q.runs follows.runs r) ∙ unended)
+    where
+      by : (d e : Bool) → (d || e) ≡ false → e ≡ false
+      by false e is = is
+      by true e is = absurd cc
+
   module _ (p r : ℕ) (c : Choice) (b : By) (steps : List Step) (pending : first_answer steps ≡ Some (end.Polled answer.Pending))
       (some : any is_due q.due ≡ true) (going : or (slice_get q.runs r) (λ run. nat_lt run.taken 200) true ≡ true)
       (unended : or (slice_get q.runs r) (λ run. run.is_over) true ≡ false) (many : length q.lying ≤ c.tells) (new : Machine)
@@ -93,17 +103,8 @@ module _ (s : Machine) (reached : Reached s) (q : Plain Output Waker) (quiet : I
     abbrev a : Waker
     a = waker_of None b
 
-    open_stage : is_ended (run_of s.world r).stage ≡ false
-    open_stage =
-        by (run_of s.world r).dropped (is_ended (run_of s.world r).stage)
-        (sym (over_is s.world.runs q.runs follows.runs r) ∙ unended)
-      where
-        by : (d e : Bool) → (d || e) ≡ false → e ≡ false
-        by false e is = is
-        by true e is = absurd cc
-
     own : InOwn s reached q quiet follows p r c b many steps new later lone
-    own = stands_in_own s reached q quiet follows p r c b many steps new later lone (run_of s.world r).stage refl open_stage
+    own = stands_in_own s reached q quiet follows p r c b many steps new later lone (run_of s.world r).stage refl (open_stage r unended)
 
     abbrev x : RunPoll
     x = x0 s reached q quiet follows p r c b many steps new later lone

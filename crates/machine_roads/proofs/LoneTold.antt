@@ -1,8 +1,8 @@
 -- Lone calls of which the first things to do are told these hints.
 use Rattle.std.proofs.Common.{◌≡◌, ℕ, ◌<◌, ◌==◌, ◌++◌, nat_lt, true, false, List, [], ◌∷◌, length}
 use Rattle.std.proofs.Common.{Some, None, Ok, sym, ap, subst, ◌∙◌, append-nil, get_or-set_same}
-use Rattle.std.specs.Prelude.{reverse}
 use Rattle.std.{proofs.Math.ListN.length-set}
+use Rattle.std.specs.Prelude.{reverse}
 use Rattle.executor_model.specs.declared.call.Call.{Call}
 use Rattle.executor_model.specs.declared.event.Event.TheVariants as event
 use Rattle.executor_model.specs.declared.op.Op.{Op}
@@ -111,8 +111,7 @@ module _ (Asked : World → Op → Type 0) (Fine : Machine → Type 0) (walks : 
       → are_onward_of p (Go p h ∷ steps) ≡ true → run_all (Go p h ∷ steps) now ≡ Ok new → stack new p ≡ [] → Rests p R new
   told_from now new reached there h o steps later todo free leads on made empty =
       let k = run-first (Go p h) steps now new made in
-      let its_top = (top_of (stack now p) o [] todo).0 in
-      let has = walks.gives now p reached there (walks.back (Go p h ∷ steps) now new reached made later) o its_top in
+      let has = walks.gives now p reached there (walks.back (Go p h ∷ steps) now new reached made later) (o ∷ []) todo in
       let m =
       onward_of Asked Fine walks p R now new reached there later (Go p h) steps
       (done (act p h o now.world).world ((act p h o now.world).next ++ [])) (goes p now there o [] todo h)
@@ -145,8 +144,7 @@ module _ (Asked : World → Op → Type 0) (Fine : Machine → Type 0) (walks : 
       let d : Done = begins p None c s.world in
       let now = after s (Begin p c) in
       let k2 = run-first (Go p g) (Go p h ∷ steps) now new k.1 in
-      let its_top = (top_of (stack now p) o [] b.todo).0 in
-      let has = walks.gives now p b.reached b.there (walks.back (Go p g ∷ Go p h ∷ steps) now new b.reached k.1 later) o its_top in
+      let has = walks.gives now p b.reached b.there (walks.back (Go p g ∷ Go p h ∷ steps) now new b.reached k.1 later) (o ∷ []) b.todo in
       let m = goes p now b.there o [] b.todo g in
       let e : Done = done (act p g o now.world).world ((act p g o now.world).next ++ []) in
       let to_x : e.next ≡ x ∷ [] = ap (λ w. (act p g o w).next ++ []) b.world ∙ then_x in

@@ -1,7 +1,7 @@
 -- A lone try, and a lone poll of a tick, with the ends of all the code that they come to: a poll, the drop of a future, and that of
 -- an output.
 use Rattle.std.proofs.Common.{◌≡◌, ℕ, ◌≤◌, ◌++◌, Bool, true, false, List, [], ◌∷◌, length}
-use Rattle.std.proofs.Common.{Option, Some, None, slice_get, refl, sym, ap, subst, ◌∙◌, arith}
+use Rattle.std.proofs.Common.{Some, None, refl, sym, ap, subst, ◌∙◌, arith}
 use Rattle.task_moves.specs.declared.moves.owed.Move.{Move}
 use Rattle.task_moves.specs.declared.moves.owed.Move.TheVariants as move
 use Rattle.executor_model.specs.declared.call.Call.TheVariants as call
@@ -23,18 +23,17 @@ use Rattle.executor_model.specs.Steps.{Machine, accepts, react, waker_of}
 use Rattle.executor_model.specs.World.{World, Done, done, task}
 use Rattle.executor_model.specs.World as world
 use Rattle.executor_model.proofs.Steps.Reached.{Reached, reached-more, run-first}
-use Rattle.plain_scheduler.specs.State.{Choice, Closed, Code, Drop, End, Future, Lose, Plain, Poll, Refusal, Taker, Tick, Try}
-use Rattle.plain_scheduler.specs.Lists.{on}
-use Rattle.plain_scheduler.specs.Moves.{task as plain_task}
+use Rattle.plain_scheduler.specs.State.{Choice, Closed, Code, Drop, End, Lose, Plain, Poll, Refusal, Taker, Tick, Try}
 use Rattle.plain_scheduler.specs.Calls as plain_calls
 use Rattle.plain_scheduler.specs.Calls.{does, Ends, EndsWith, Pends, PollTick, TryTick}
 use Rattle.machine_roads.specs.View.{Output, wakes}
 use Rattle.machine_roads.specs.Road.{Follows, waking_in}
 use Rattle.machine_roads.specs.Alone.{alone, Has}
 use Rattle.machine_roads.specs.Dropped.{Drops, IsEnding, answered, loses, rest_of, without_run}
-use Rattle.machine_roads.specs.Forgotten.{IsForgotten, IsLastPoll, StopsForgetting, unawaited, without_awaiter}
+use Rattle.machine_roads.specs.Forgotten.{IsForgotten, IsLastPoll, StopsForgetting, without_awaiter}
 use Rattle.machine_roads.specs.Lone.{EachLoneAlike, Ended, LoneTicksEnd, LoneTriesEnd, ends as ends_with, is_end, over}
 use Rattle.machine_roads.specs.Stopped.{Finally, IsInPoll, of_tick, of_try}
+use Rattle.machine_roads.proofs.Endings.{ending_as, forgotten_as, unawaited_in}
 use Rattle.machine_roads.proofs.Forgetting.{forgets_so, forgets_with, forgotten_by}
 use Rattle.machine_roads.proofs.Lists.{cons_is}
 use Rattle.machine_roads.proofs.LoneCalls.{each}
@@ -43,7 +42,6 @@ use Rattle.machine_roads.proofs.LoneTicks.{can_poll, may_begin}
 use Rattle.machine_roads.proofs.LyingDown.{polls_tick_so}
 use Rattle.machine_roads.proofs.Passing.{passes_end}
 use Rattle.machine_roads.proofs.Pending.{gives_so, pends_so}
-use Rattle.machine_roads.proofs.Puts.{put_at, put_by}
 use Rattle.machine_roads.proofs.RunEnding.{behind_dropped, behind_lost, drops, loses_with, lost_by}
 use Rattle.machine_roads.proofs.Standing.{Answered, Behind, InDrop, InPoll, IsGoing, IsTaken, Stands, StandsSo, Stays, StaysSo}
 use Rattle.machine_roads.proofs.Trying.{tries_so, yes}
@@ -98,17 +96,8 @@ module _ (p : ℕ) (new : Machine) (later : new.world.gone ≡ false) (last : Re
           ap (λ (codes : List (Code Output Waker)). record r { inside = codes })
           (ap (λ (codes : List (Code Output Waker)). Lose awaiter (Some taker) ∷ codes) (sym same) ∙ sym inside) in
           let ending0 : IsEnding m.world f awaiter outer =
-          record {
-            known = ending.known;
-            over = ending.over;
-            still = ending.still;
-            counted = ending.counted;
-            stored = ending.stored;
-            awaited = ending.awaited;
-            follows =
-                stands_in codes (without_run f m.world) r ending.follows
-                (sym (ap (λ codes. waking_in codes) inside ∙ ap (λ codes. waking_in codes) same));
-          } in
+          ending_as ending (stands_in codes (without_run f m.world) r ending.follows
+          (sym (ap (λ codes. waking_in codes) inside ∙ ap (λ codes. waking_in codes) same))) in
           let P : World → Type 0 = Leaves (does wakes c1 Ends inner) in
           let os = rest_of (task m.world f).awaiter f final ++ [] in
           let leads : Leads p (done m.world os) P =
@@ -167,20 +156,9 @@ module _ (p : ℕ) (new : Machine) (later : new.world.gone ≡ false) (last : Re
       (ap (λ (codes : List (Code Output Waker)). Drop f Closed taker ∷ codes) (sym same) ∙ sym x.so.inside) in
       let it_is = x.so.forgotten in
       let forgotten0 : IsForgotten m.world f outer =
-      record {
-        known = it_is.known;
-        entered = it_is.entered;
-        spent = it_is.spent;
-        unheld = it_is.unheld;
-        finished = it_is.finished;
-        closed = it_is.closed;
-        awaited = it_is.awaited;
-        follows =
-            subst (Follows (without_awaiter f m.world)) (unawaited_in f r) (stands_in codes (without_awaiter f m.world) (unawaited f r)
-            it_is.follows
-            (sym (ap (λ codes. waking_in codes) (put_by (λ p. p.inside) f (record (plain_task f r) { awaiter = None }) r (λ fs. refl))
-            ∙ (ap (λ codes. waking_in codes) x.so.inside ∙ ap (λ codes. waking_in codes) same))));
-      } in
+      forgotten_as codes it_is
+      (unawaited_in f codes (without_awaiter f m.world) r it_is.follows
+      (sym (ap (λ codes. waking_in codes) x.so.inside ∙ ap (λ codes. waking_in codes) same))) in
       let P : World → Type 0 = Leaves (does wakes c1 Ends inner) in
       let leads : Leads p (done m.world os) P =
       λ hints all rests.
@@ -196,16 +174,6 @@ module _ (p : ℕ) (new : Machine) (later : new.world.gone ≡ false) (last : Re
       subst Result is
       (once_more Ends inner refl
       (does wakes c1 Ends inner, over (does wakes c1 Ends inner), ended.inside, ended.follows))
-    where
-      unawaited_in : (f : ℕ) (r : Plain Output Waker)
-          → record (unawaited f r) { inside = codes } ≡ unawaited f (record r { inside = codes })
-      unawaited_in f r = by (slice_get r.futures f)
-        where
-          by : (o : Option (Future Output Waker))
-              → record (on o (λ x q. put_at f (record (plain_task f r) { awaiter = None }) x q) r) { inside = codes }
-              ≡ on o (λ x q. put_at f (record (plain_task f r) { awaiter = None }) x q) (record r { inside = codes })
-          by None = refl
-          by (Some x) = refl
 
   -- behind a poll
   at_end : (inside : List (Code Output Waker)) (w : World) (os : List Op) (now : List (Code Output Waker))

@@ -15,7 +15,7 @@ use Rattle.machine_roads.proofs.Beside.{go_append, has_user, may_go, of_two}
 use Rattle.machine_roads.proofs.Having.{appends_open, asks_open, has_unless}
 use Rattle.machine_roads.proofs.Lists.{clash}
 use Rattle.machine_roads.proofs.LoneCloses.{IsAny}
-use Rattle.machine_roads.proofs.LoneRuns.{Walks, both_true}
+use Rattle.machine_roads.proofs.LoneRuns.{Walks, both_true, of_top}
 use Rattle.machine_roads.proofs.Loose.{is_of_call}
 use Rattle.machine_roads.proofs.Tableless.{act_does}
 
@@ -41,8 +41,8 @@ module _ (s : Machine) (p : ℕ) (reached : Reached s) (there : p < length s.par
 
 pub of_calls : Walks HasOpen IsAny
 of_calls = record {
-  easy = record { ends = λ w r held fit opened. tt; outside = λ w x fit opened. tt };
-  gives = λ s p reached there any o is fit opened. has_in_open s p reached there opened o fit is;
+  easy = record { ends = λ w r held os fit opened. tt; outside = λ w x os fit opened. tt };
+  gives = of_top HasOpen IsAny (λ s p reached there any o is fit opened. has_in_open s p reached there opened o fit is);
   back = λ ts s new reached made any. tt;
 }
 

@@ -10,7 +10,7 @@ use Rattle.executor_model.specs.declared.op.Waker.{Waker}
 use Rattle.plain_scheduler.specs.State.{ARun, ATick, Calls, Choice, Closed, Code, Drop, Drops, Due, End, Future, Gave}
 use Rattle.plain_scheduler.specs.State.{Lose, Loses, Plain, Poll, Polls, Run, Running, Taker, Tick, Try}
 use Rattle.plain_scheduler.specs.Lists.{each, on, or, repeat, without}
-use Rattle.plain_scheduler.specs.Moves.{answers, appended, becomes, called, chosen, enters, given_back, is_common, is_kept, keeps, leaves}
+use Rattle.plain_scheduler.specs.Moves.{appended, becomes, called, chosen, enters, given_back, is_common, is_kept, keeps, leaves}
 use Rattle.plain_scheduler.specs.Moves.{let_go, looks, moved, put, see, task, tell, up}
 use Rattle.plain_scheduler.specs.Moves as plain
 use Rattle.plain_scheduler.specs.Takes as plain_takes
@@ -37,7 +37,7 @@ pub aside : IsAside sight
 aside = record { futures = λ q fs. refl; due = λ q f. refl; lying = λ q ls. refl; seen = λ q e. refl }
 
 module _ (c : Choice) where
-  keeps_sight : (r : ℕ) (test : Due → Bool) (q : Plain Output Waker) → sight (keeps r test q) ≡ sight q
+  pub keeps_sight : (r : ℕ) (test : Due → Bool) (q : Plain Output Waker) → sight (keeps r test q) ≡ sight q
   keeps_sight r test q = by (nat_lt (count_by (is_kept r) q.due) 512)
     where
       taken : (o : Option Due)
@@ -49,17 +49,17 @@ module _ (c : Choice) where
       by true = taken (find test q.due)
       by false = refl
 
-  repeats_sight : (n : ℕ) (h : Plain Output Waker → Plain Output Waker) → ((q : Plain Output Waker) → sight (h q) ≡ sight q)
+  pub repeats_sight : (n : ℕ) (h : Plain Output Waker → Plain Output Waker) → ((q : Plain Output Waker) → sight (h q) ≡ sight q)
       → (q : Plain Output Waker) → sight (repeat n h q) ≡ sight q
   repeats_sight zero h keep q = refl
   repeats_sight (suc n) h keep q = repeats_sight n h keep (h q) ∙ keep q
 
-  each_sight : {B : Type 0} (bs : List B) (h : B → Plain Output Waker → Plain Output Waker)
+  pub each_sight : {B : Type 0} (bs : List B) (h : B → Plain Output Waker → Plain Output Waker)
       → ((b : B) (q : Plain Output Waker) → sight (h b q) ≡ sight q) → (q : Plain Output Waker) → sight (each bs h q) ≡ sight q
   each_sight [] h keep q = refl
   each_sight (b ∷ bs) h keep q = each_sight bs h keep (h b q) ∙ keep b q
 
-  robbed_sight : (r : ℕ) (keeper : Option ℕ) (q : Plain Output Waker) → sight (plain_takes.robbed wakes c r keeper q) ≡ sight q
+  pub robbed_sight : (r : ℕ) (keeper : Option ℕ) (q : Plain Output Waker) → sight (plain_takes.robbed wakes c r keeper q) ≡ sight q
   robbed_sight r None q = refl
   robbed_sight r (Some k) q = by (r == k)
     where
@@ -67,10 +67,10 @@ module _ (c : Choice) where
       by true = refl
       by false = repeats_sight c.moves (keeps r (is_kept k)) (keeps_sight r (is_kept k)) q
 
-  tell_sight : (q : Plain Output Waker) → sight (tell wakes c q) ≡ sight q
+  pub tell_sight : (q : Plain Output Waker) → sight (tell wakes c q) ≡ sight q
   tell_sight q = tell_keeps sight aside c q
 
-  given_up_sight : (f : ℕ) (q : Plain Output Waker)
+  pub given_up_sight : (f : ℕ) (q : Plain Output Waker)
       → sight (plain_takes.given_up wakes c f (plain.changed (λ future. record future { is_dropped = true }) f q)) ≡ sight q
   given_up_sight f q = by marked.is_static ∙ was (slice_get q.futures f)
     where
@@ -276,7 +276,7 @@ module _ (c : Choice) where
     own = λ r a is. inl (ap (λ (s : Sight). suc (length s.inside)) same);
   }
 
-  called_sight : (o : Option Waker) (q : Plain Output Waker) → sight (on o (called wakes (tell wakes c)) q) ≡ sight q
+  pub called_sight : (o : Option Waker) (q : Plain Output Waker) → sight (on o (called wakes (tell wakes c)) q) ≡ sight q
   called_sight None q = refl
   called_sight (Some a) q = called_with sight aside (tell wakes c) (tell_sight c) a q
 

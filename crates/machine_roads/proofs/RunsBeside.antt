@@ -1,66 +1,38 @@
 -- Calls that aren't polls of runs, nor make one, leave the runs of the plain scheduler as they are.
-use Rattle.std.proofs.Common.{◌≡◌, ℕ, zero, suc, ◌++◌, Bool, true, false, List, [], ◌∷◌, length, nat_lt, Option, Some, None, if◌then◌else◌}
+use Rattle.std.proofs.Common.{◌≡◌, ℕ, zero, suc, ◌++◌, Bool, true, false, List, [], ◌∷◌, Option, Some, None, if◌then◌else◌}
 use Rattle.std.proofs.Common.{⊎_elim, slice_get, refl, ap, ◌∙◌}
 use Rattle.executor_parts.specs.declared.mark.Mark.{Mark}
 use Rattle.task_moves.specs.AbstractTask as abstract
 use Rattle.task_moves.specs.AbstractTask.{AbstractTask}
-use Rattle.task_moves.specs.AbstractTask.Polled.{Output as OutputOf, Cancelled as IsCancelled, Waits}
 use Rattle.executor_model.specs.declared.op.Waker.{Waker}
-use Rattle.plain_scheduler.specs.State.{ATick, Choice, Full, Lose, Loses, Made, NoMemory, Plain, Running, Tick, Try}
-use Rattle.plain_scheduler.specs.Lists.{each, on, or}
-use Rattle.plain_scheduler.specs.Moves.{answers, appended, becomes, called, copied, enters, let_go, put, see, task, tell}
+use Rattle.plain_scheduler.specs.State.{ATick, Choice, Lose, Loses, Made, NoMemory, Plain, Running, Tick, Try}
+use Rattle.plain_scheduler.specs.Lists.{each, or}
+use Rattle.plain_scheduler.specs.Moves.{answers, becomes, enters, put, see, task, tell}
 use Rattle.plain_scheduler.specs.Takes as plain_takes
-use Rattle.plain_scheduler.specs.Calls.{cancel, detach, does, entered, freed, handle_by, is_granted, living_from, registered}
+use Rattle.plain_scheduler.specs.Calls.{cancel, detach, does, freed, is_granted, living_from}
 use Rattle.plain_scheduler.specs.Calls.{Cancel, Copy, Detach, DropHandle, DropTick, Leak, NewRun, NewTick, PollHandle, PollTick, Release}
 use Rattle.plain_scheduler.specs.Calls.{Spawn}
 use Rattle.plain_scheduler.specs.Calls.{TryTick, Use, Wake}
 use Rattle.machine_roads.specs.View.{Output, wakes}
 use Rattle.machine_roads.specs.Stopped.{taken_by}
-use Rattle.machine_roads.proofs.Aside.{IsAside, becomes_keeps, called_with, copied_keeps, goes_keeps, leaves_keeps, tell_keeps}
+use Rattle.machine_roads.proofs.CallsAside.{cancelled_keeps, copy_keeps, poll_keeps, spawn_keeps, tick_keeps}
+use Rattle.machine_roads.proofs.Aside.{IsAside, becomes_keeps, leaves_keeps}
 use Rattle.machine_roads.proofs.Puts.{put_by}
 use Rattle.machine_roads.proofs.RunApart.{Sight, Took, sight, take_by}
 
 aside : IsAside (λ (q : Plain Output Waker). q.runs)
 aside = record { futures = λ q fs. refl; due = λ q f. refl; lying = λ q ls. refl; seen = λ q e. refl }
 
-tell_runs : (c : Choice) (q : Plain Output Waker) → (tell wakes c q).runs ≡ q.runs
-tell_runs c q = tell_keeps (λ q. q.runs) aside c q
-
 becomes_runs : (c : Choice) (f : ℕ) (new : AbstractTask Output Waker) (q : Plain Output Waker)
     → (becomes wakes (tell wakes c) f new q).runs ≡ q.runs
 becomes_runs c f new q = becomes_keeps (λ q. q.runs) aside c f new q
-
-called_runs : (c : Choice) (o : Option Waker) (q : Plain Output Waker) → (on o (called wakes (tell wakes c)) q).runs ≡ q.runs
-called_runs c None q = refl
-called_runs c (Some a) q = called_with (λ q. q.runs) aside (tell wakes c) (tell_runs c) a q
-
-goes_runs : (c : Choice) (o : Option Waker) (q : Plain Output Waker) → (on o (let_go wakes (tell wakes c)) q).runs ≡ q.runs
-goes_runs c o q = goes_keeps (λ q. q.runs) aside c o q
-
-copied_runs : (a : Waker) (q : Plain Output Waker) → (copied wakes a q).runs ≡ q.runs
-copied_runs a q = copied_keeps (λ q. q.runs) aside a q
-
-leaves_runs : (c : Choice) (t : ℕ) (q : Plain Output Waker) → (does wakes c (DropTick t) q).runs ≡ q.runs
-leaves_runs c t q = leaves_keeps (λ q. q.runs) aside c (ATick t) q
 
 module _ (c : Choice) (q : Plain Output Waker) where
   abbrev Stays : Plain Output Waker → Type 0
   Stays r = r.runs ≡ q.runs
 
-  put_stays : (f : ℕ) (new : AbstractTask Output Waker) → Stays (put f new q)
-  put_stays f new = put_by (λ p. p.runs) f new q (λ fs. refl)
-
   pub spawn_runs : (m : Mark) → Stays (does wakes c (Spawn m) q)
-  spawn_runs m = by (nat_lt (length (living_from 0 q.futures)) q.limit) (is_granted c.refusal)
-    where
-      next : Plain Output Waker
-      next = appended (length q.futures) (entered wakes c m q)
-
-      by : (a b : Bool)
-          → Stays (if a then (if b then answers Made (tell wakes c next) else answers NoMemory q) else answers Full q)
-      by true true = tell_runs c next
-      by true false = refl
-      by false b = refl
+  spawn_runs m = spawn_keeps (λ q. q.runs) aside c q m
 
   pub wake_runs : (f : ℕ) → Stays (does wakes c (Wake f) q)
   wake_runs f = becomes_runs c f (abstract.wake (task f q)) q
@@ -72,43 +44,19 @@ module _ (c : Choice) (q : Plain Output Waker) where
   release_runs f = becomes_runs c f (abstract.release (task f q)) q
 
   pub copy_runs : (f : ℕ) → Stays (does wakes c (Copy f) q)
-  copy_runs f = by (is_granted c.refusal)
-    where
-      by : (b : Bool) → Stays (if b then answers Made (put f (abstract.copy (task f q)) q) else answers NoMemory q)
-      by true = put_stays f (abstract.copy (task f q))
-      by false = refl
+  copy_runs f = copy_keeps (λ q. q.runs) aside c q f
 
   pub tick_runs : Stays (does wakes c NewTick q)
-  tick_runs = by (is_granted c.refusal)
-    where
-      by : (b : Bool) → Stays (if b then answers Made q else answers NoMemory q)
-      by true = refl
-      by false = refl
+  tick_runs = tick_keeps (λ q. q.runs) aside c q
 
   pub drop_runs : (t : ℕ) → Stays (does wakes c (DropTick t) q)
-  drop_runs t = leaves_runs c t q
+  drop_runs t = leaves_keeps (λ q. q.runs) aside c (ATick t) q
 
   pub poll_runs : (f : ℕ) (a : Waker) → Stays (does wakes c (PollHandle f a) q)
-  poll_runs f a = by (abstract.polled (task f q))
-    where
-      registers : (q1 : Plain Output Waker) (e : abstract.Left Output Waker)
-          → (on e.let_go (let_go wakes (tell wakes c)) (put f e.task q1)).runs ≡ q1.runs
-      registers q1 e =
-          goes_runs c e.let_go (put f e.task q1) ∙ put_by (λ p. p.runs) f e.task q1 (λ fs. refl)
-
-      whether : (b : Bool) → Stays (if b then registered wakes c f a (copied wakes a q) else answers NoMemory q)
-      whether true = registers (copied wakes a q) (abstract.poll a (task f (copied wakes a q))) ∙ copied_runs a q
-      whether false = refl
-
-      by : (e : abstract.Polled Output) → Stays (handle_by wakes c f a e q)
-      by (OutputOf v) = put_stays f (abstract.poll a (task f q)).task
-      by IsCancelled = refl
-      by Waits = whether (is_granted c.refusal)
+  poll_runs f a = poll_keeps (λ q. q.runs) aside c q f a
 
   cancelled_runs : (f : ℕ) → Stays (cancel wakes c f q)
-  cancelled_runs f =
-      let left = abstract.cancel (task f q) in
-      called_runs c left.called (becomes wakes (tell wakes c) f left.task q) ∙ becomes_runs c f left.task q
+  cancelled_runs f = cancelled_keeps (λ q. q.runs) aside c q f
 
   pub cancel_runs : (f : ℕ) → Stays (does wakes c (Cancel f) q)
   cancel_runs f = cancelled_runs f

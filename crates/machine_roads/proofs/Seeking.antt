@@ -26,7 +26,8 @@ use Rattle.executor_model.proofs.Quiet.Calls.{calling_of}
 use Rattle.executor_model.proofs.Steps.ByParts.{by-act}
 use Rattle.executor_model.proofs.Steps.Lift.{no_hint}
 use Rattle.executor_model.proofs.Steps.Lists.{weigh-append}
-use Rattle.executor_model.proofs.Steps.Parts.{PartsOf, Stay, by-begun, by-react, turns}
+use Rattle.executor_model.proofs.Steps.Parts.{Answers, Begins, Parts, Stay, Tells, by-begun, by-react, enters, lists, places, turns}
+use Rattle.executor_model.proofs.Steps.Parts.{uses_up}
 use Rattle.executor_model.specs.Acts.{copy_by, is_refused}
 use Rattle.executor_model.specs.Acts as acts
 use Rattle.executor_model.specs.ActsOfRuns.{call_by_reference, make_room_by, make_run_by, reschedule_by, wake_own}
@@ -142,8 +143,8 @@ no_turn (Op.Tick (TickOp.Search s)) none = absurd cc
 no_turn (Op.Run (RunOp.TakeTurn x)) none = absurd cc
 no_turn _ none = refl
 
-parts_stay : (p : ℕ) (o : Op) → turns o ≡ false → PartsOf Stays p o
-parts_stay p o none = record {
+parts_stay : (T : Event → Type 0) (turn place list enter : Bool) → turn ≡ false → Parts Stays T turn place list enter
+parts_stay T turn place list enter none = record {
   aside = λ w v same. ap (λ (x : Stay). x.urgent_turns) (sym same);
   both = λ w v x one two. two ∙ one;
   moved = λ w f s. refl;
@@ -157,7 +158,7 @@ parts_stay p o none = record {
 }
 
 pub turn_kept : (p : ℕ) (h : Hint) (o : Op) (w : World) → turns o ≡ false → Stays w (act p h o w).world
-turn_kept p h o w none = by-act Stays p h o w (parts_stay p o none)
+turn_kept p h o w none = by-act Stays p h o w (parts_stay (Tells p o) (turns o) (places o) (lists o) (enters o) none)
 
 turn_stays : (p : ℕ) (h : Hint) (o : Op) (w : World) → seeks o ≡ 0 → Stays w (act p h o w).world
 turn_stays p h o w none = turn_kept p h o w (no_turn o none)
@@ -217,33 +218,7 @@ begins_none p w here Call.DropExecutor still = absurd cc
 begins_none p w here c still = refl
 
 pub begins_turn : (p : ℕ) (w : World) (here : Option Waker) (c : Call) → (begun p w here c).world.urgent_turns ≡ w.urgent_turns
-begins_turn p w here c =
-    by-begun Stays p w here c
-    (record {
-      aside = λ w v same. ap (λ (x : Stay). x.urgent_turns) (sym same);
-      both = λ w v x one two. two ∙ one;
-      moved = λ w f s. refl;
-      stored = λ w f a. refl;
-      placed = λ w f b may. refl;
-      kept = λ w ws may. refl;
-      listed = λ w b table leaving waking may. refl;
-      entered = λ w s m may. refl;
-      turned = λ w n may. absurd cc;
-      tells = λ w e told. refl;
-    })
+begins_turn p w here c = by-begun Stays p w here c (parts_stay (Begins p c) false (uses_up c) false false refl)
 
 pub reacts_turn : (p : ℕ) (o : Op) (u : UserEnd) (w : World) → (react p o u w).world.urgent_turns ≡ w.urgent_turns
-reacts_turn p o u w =
-    by-react Stays p o u w
-    (record {
-      aside = λ w v same. ap (λ (x : Stay). x.urgent_turns) (sym same);
-      both = λ w v x one two. two ∙ one;
-      moved = λ w f s. refl;
-      stored = λ w f a. refl;
-      placed = λ w f b may. refl;
-      kept = λ w ws may. refl;
-      listed = λ w b table leaving waking may. refl;
-      entered = λ w s m may. refl;
-      turned = λ w n may. absurd cc;
-      tells = λ w e told. refl;
-    })
+reacts_turn p o u w = by-react Stays p o u w (parts_stay (Answers p o) false false false false refl)

@@ -1,9 +1,8 @@
--- What moves of wakers and handles do is the same whether somebody awaits a closed task without references or handle or not.
-use Rattle.std.proofs.Common.{◌≡◌, ℕ, ◌<◌, ◌==◌, ◌&&◌, ◌||◌, not, Bool, true, false, List, length}
-use Rattle.std.proofs.Common.{Option, Some, None, slice_set, refl, sym, ap, subst, ◌∙◌, get_or-set_same, get_or-set_other}
-use Rattle.task_moves.specs.declared.moves.owed.Move.{Move}
+-- What moves of wakers and handles of other tasks do is the same whether somebody awaits a closed task without references or handle or not,
+-- and what they ask for is there.
+use Rattle.std.proofs.Common.{◌≡◌, ℕ, ◌+◌, ◌<◌, ◌≤◌, ◌==◌, ◌++◌, ◌&&◌, not, Bool, true, false, List, [], ◌∷◌, length}
+use Rattle.std.proofs.Common.{Option, Some, None, refl, sym, ap, subst, arith}
 use Rattle.task_moves.specs.declared.moves.owed.Move.TheVariants as move
-use Rattle.task_moves.specs.declared.moves.owed.Moved.{Moved}
 use Rattle.task_moves.specs.declared.moves.state.State.{State}
 use Rattle.task_moves.specs.Moves as moves
 use Rattle.executor_model.specs.declared.op.Awaiter.{Awaiter}
@@ -13,41 +12,41 @@ use Rattle.executor_model.specs.declared.op.Op.TheVariants as op
 use Rattle.executor_model.specs.declared.op.Waker.{Waker}
 use Rattle.executor_model.specs.declared.op.Waker.TheVariants.{Task, Outside}
 use Rattle.executor_model.specs.declared.op.WakerOp.TheVariants as waker_op
-use Rattle.executor_model.specs.Acts.{is_last_waker, is_told}
-use Rattle.executor_model.specs.Acts.{move_by, move_task, stands_alone, told_of}
-use Rattle.executor_model.specs.Carried.{carried, owed_ops}
-use Rattle.executor_model.specs.World.{World, Done, among, awaiter_of, blank, done, put, put_awaiter}
+use Rattle.executor_model.specs.World.{World, Done, among, done, put}
 use Rattle.executor_model.specs.World as world
 use Rattle.machine_roads.specs.View.{waker_in}
 use Rattle.machine_roads.specs.Forgotten.{without_awaiter}
-use Rattle.machine_roads.proofs.Along.{DoesSo, all_fit}
 use Rattle.machine_roads.proofs.Handless.{off_and, or_so}
-use Rattle.machine_roads.proofs.Lists.{apart_of, length_set, set_apart, set_twice}
-use Rattle.machine_roads.proofs.Loose.{is_of_call}
+use Rattle.machine_roads.proofs.Lists.{length_set}
 use Rattle.machine_roads.proofs.Marks.{emptied_owes}
+use Rattle.task_moves.specs.LocalTask.{token}
+use Rattle.executor_model.specs.declared.call.Reply.TheVariants as reply
+use Rattle.executor_model.specs.declared.op.Hold.{Hold}
+use Rattle.executor_model.specs.declared.op.QueueOp.TheVariants as queue_op
+use Rattle.executor_model.specs.declared.op.SleeperOp.TheVariants as sleeper_op
+use Rattle.executor_model.specs.declared.step.Hint.{Hint}
+use Rattle.executor_model.specs.Acts.{copy_by, copy_waker}
+use Rattle.executor_model.specs.Acts.{is_refused}
+use Rattle.executor_model.specs.Acts.{takes_more}
+use Rattle.executor_model.specs.Doing.{act}
+use Rattle.executor_model.specs.Good.{IsKnownWaker}
+use Rattle.executor_model.specs.Steps.{waits}
+use Rattle.executor_model.specs.World.{World, Done, done, mark_of, put, queue_of}
+use Rattle.machine_roads.specs.Alone.{Has}
+use Rattle.machine_roads.proofs.Lists.{length_set, same_of}
+use Rattle.machine_roads.proofs.LoneRuns.{both_true}
+use Rattle.machine_roads.proofs.Hiding as hiding
+use Rattle.machine_roads.proofs.Hiding.{Hides, IsAside, aside_own, task_other, task_own}
+use Rattle.machine_roads.proofs.HidingActs.{appends_do, detach_does, not_on, others_do, outside_by, release_does, stays, writes}
+
+abbrev pub all_same : ℕ → ℕ
+all_same n = n
 
 -- the task as nobody awaits it
 abbrev pub hide : State → State
 hide s = record s { awaiter = false }
 
-abbrev pub is_from_outside : Waker → Bool
-is_from_outside (Task g) = false
-is_from_outside (Outside x) = true
-
 module _ (f : ℕ) (awaiter : Option Waker) where
-  -- what calls of other tasks do
-  abbrev pub is_aside : Op → Bool
-  is_aside (op.Handle (handle_op.LetGo g)) = false
-  is_aside (op.Waker (waker_op.CopyWaker g held)) = not (f == g)
-  is_aside (op.Handle (handle_op.Look g a)) = not (f == g) && is_from_outside a
-  is_aside (op.Handle (handle_op.CopyAwaiter g a)) = not (f == g) && is_from_outside a
-  is_aside (op.Handle (handle_op.Register g a k)) = not (f == g)
-  is_aside (op.Handle (handle_op.EndRegister g a k)) = not (f == g)
-  is_aside (op.Handle (handle_op.LookAgain g)) = not (f == g)
-  is_aside (op.Handle (handle_op.Notify g mine)) = not (f == g)
-  is_aside (op.Handle (handle_op.EndNotify g mine)) = not (f == g)
-  is_aside o = is_of_call o
-
   -- the task, of so many, with its entry in the table, and its awaiter, in the meantime
   pub record Owes (n : ℕ) (table : List ℕ) (s : State) (o : Option Awaiter) : Type 0 where
     pub known : f < n
@@ -57,190 +56,32 @@ module _ (f : ℕ) (awaiter : Option Waker) where
     pub unheld : s.handle ≡ false
     pub awaited : waker_in o ≡ awaiter
 
-  abbrev pub Kept : World → Type 0
-  Kept w = Owes (length w.tasks) w.table (world.task w f) (awaiter_of w f)
+  abbrev pub is_aside : Op → Bool
+  is_aside o = hiding.is_aside f all_same false Owes o
 
-  abbrev pub less : World → World
-  less w = without_awaiter f w
+  abbrev pub Kept : World → Type 0
+  Kept w = hiding.Kept f all_same false Owes w
 
   abbrev pub Does : Done → Done → Type 0
-  Does there here = DoesSo less is_aside Kept there here
+  Does there here = hiding.Does f all_same false Owes there here
 
-  abbrev pub fit_all : List Op → Bool
-  fit_all os = all_fit less is_aside Kept os
+  known : (w : World) → Kept w → f < length w.tasks
+  known w kept = kept.known
 
-  pub owes_by : (n m : ℕ) (table : List ℕ) (s t : State) (o u : Option Awaiter) → m ≡ n → t ≡ s → u ≡ o → Owes n table s o
-      → Owes m table t u
-  owes_by n m table s t o u many same one owes =
-      subst (λ n. Owes n table t u) (sym many)
-      (subst (λ s. Owes n table s u) (sym same) (subst (λ o. Owes n table s o) (sym one) owes))
-
-  -- another task, and its awaiter
-  pub task_other : (w : World) (g : ℕ) → (f == g) ≡ false → world.task (less w) g ≡ world.task w g
-  task_other w g apart = get_or-set_other w.tasks f g (hide (world.task w f)) blank (λ same. apart_of f g apart (sym same))
-
-  pub awaiter_other : (w : World) (g : ℕ) → (f == g) ≡ false → awaiter_of (less w) g ≡ awaiter_of w g
-  awaiter_other w g apart = get_or-set_other w.awaiters f g None None (λ same. apart_of f g apart (sym same))
-
-  pub task_own : (w : World) → f < length w.tasks → world.task (less w) f ≡ hide (world.task w f)
-  task_own w known = get_or-set_same w.tasks f (hide (world.task w f)) blank known
-
-  pub put_other : (w : World) (g : ℕ) (s : State) → (f == g) ≡ false → put (less w) g s ≡ less (put w g s)
-  put_other w g s apart =
-      ap (λ ts. record w { tasks = ts; awaiters = slice_set w.awaiters f None })
-      (set_apart w.tasks f g (hide (world.task w f)) s (apart_of f g apart))
-      ∙ ap (λ (x : State). put_awaiter (put (put w g s) f (hide x)) f None)
-      (sym (get_or-set_other w.tasks g f s blank (apart_of f g apart)))
-
-  pub put_own : (w : World) (s : State) → f < length w.tasks → put (less w) f (hide s) ≡ less (put w f s)
-  put_own w s known =
-      ap (λ ts. record w { tasks = ts; awaiters = slice_set w.awaiters f None })
-      (set_twice w.tasks f (hide (world.task w f)) (hide s) ∙ sym (set_twice w.tasks f s (hide s)))
-      ∙ ap (λ (x : State). put_awaiter (put (put w f s) f (hide x)) f None) (sym (get_or-set_same w.tasks f s blank known))
-
-  pub await_other : (w : World) (g : ℕ) (o : Option Awaiter) → (f == g) ≡ false → put_awaiter (less w) g o ≡ less (put_awaiter w g o)
-  await_other w g o apart =
-      ap (λ os. record w { tasks = slice_set w.tasks f (hide (world.task w f)); awaiters = os })
-      (set_apart w.awaiters f g None o (apart_of f g apart))
-
-  pub keeps_other : (w : World) (g : ℕ) (s : State) → (f == g) ≡ false → Kept w → Kept (put w g s)
-  keeps_other w g s apart kept =
-      owes_by (length w.tasks) (length (put w g s).tasks) w.table (world.task w f) (world.task (put w g s) f) (awaiter_of w f)
-      (awaiter_of w f) (length_set w.tasks g s) (get_or-set_other w.tasks g f s blank (apart_of f g apart)) refl kept
-
-  pub keeps_own : (w : World) (s : State) → Owes (length w.tasks) w.table s (awaiter_of w f) → Kept (put w f s)
-  keeps_own w s owes =
-      owes_by (length w.tasks) (length (put w f s).tasks) w.table s (world.task (put w f s) f) (awaiter_of w f) (awaiter_of w f)
-      (length_set w.tasks f s) (get_or-set_same w.tasks f s blank owes.known) refl owes
-
-  pub keeps_await : (w : World) (g : ℕ) (o : Option Awaiter) → (f == g) ≡ false → Kept w → Kept (put_awaiter w g o)
-  keeps_await w g o apart kept =
-      owes_by (length w.tasks) (length w.tasks) w.table (world.task w f) (world.task w f) (awaiter_of w f)
-      (awaiter_of (put_awaiter w g o) f) refl refl (get_or-set_other w.awaiters g f o None (apart_of f g apart)) kept
-
-  -- a move of a task, from the task here and from that there
-  pub record IsAside (m : Move) (g : ℕ) (s t : State) : Type 0 where
-    pub last : is_last_waker m t ≡ is_last_waker m s
-    pub tells : is_told m t ≡ is_told m s
-    pub owes : (there : Bool) → owed_ops there g (moves.after m t).owed ≡ owed_ops there g (moves.after m s).owed
-    pub fit : (there : Bool) → fit_all (owed_ops there g (moves.after m s).owed) ≡ true
-    pub puts : (u : World) → Kept u → world.task u g ≡ s → put (less u) g (moves.after m t).state ≡ less (put u g (moves.after m s).state)
-    pub keeps : (u : World) → Kept u → world.task u g ≡ s → Kept (put u g (moves.after m s).state)
-
-  pub moves_do : (m : Move) (p : ℕ) (v : World) (g : ℕ) (t : State) → stands_alone m ≡ true → Kept v → world.task (less v) g ≡ t
-      → IsAside m g (world.task v g) t → Does (move_task m p (less v) g) (move_task m p v g)
-  moves_do m p v g t alone kept there is =
-      subst (λ b. Does (move_by b m p (less v) g) (move_by b m p v g)) (sym alone)
-      (subst (λ d. Does d (carried (told_of (is_last_waker m s) (is_told m s) m p v g) g (moves.after m s))) (sym as_aside)
-      (by (is_last_waker m s) (is_told m s)))
-    where
-      s : State
-      s = world.task v g
-
-      made : Bool → Bool → Done
-      made l b = carried (told_of l b m p (less v) g) g (moves.after m t)
-
-      as_aside : carried (told_of (is_last_waker m (world.task (less v) g)) (is_told m (world.task (less v) g)) m p (less v) g) g
-          (moves.after m (world.task (less v) g))
-          ≡ made (is_last_waker m s) (is_told m s)
-      as_aside =
-          ap (λ x. carried (told_of (is_last_waker m x) (is_told m x) m p (less v) g) g (moves.after m x)) there
-          ∙ (ap (λ l. made l (is_told m t)) is.last ∙ ap (λ b. made (is_last_waker m s) b) is.tells)
-
-      moved : (u : World) → Kept u → world.task u g ≡ s
-          → Does (done (put (less u) g (moves.after m t).state) (owed_ops (among g u.table) g (moves.after m t).owed))
-          (done (put u g (moves.after m s).state) (owed_ops (among g u.table) g (moves.after m s).owed))
-      moved u kept same = record {
-        same =
-            ap (λ w. done w (owed_ops (among g u.table) g (moves.after m t).owed)) (is.puts u kept same)
-            ∙ ap (λ os. done (less (put u g (moves.after m s).state)) os) (is.owes (among g u.table));
-        kept = is.keeps u kept same;
-        fit = is.fit (among g u.table);
-      }
-
-      by : (l b : Bool) → Does (made l b) (carried (told_of l b m p v g) g (moves.after m s))
-      by true true = moved (told_of true true m p v g) kept refl
-      by true false = moved (told_of true false m p v g) kept refl
-      by false true = moved (told_of false true m p v g) kept refl
-      by false false = moved v kept refl
-
-  -- of another task
-  pub aside_other : (m : Move) (g : ℕ) (s : State) → (f == g) ≡ false
-      → ((there : Bool) → fit_all (owed_ops there g (moves.after m s).owed) ≡ true) → IsAside m g s s
-  aside_other m g s apart fit = record {
-    last = refl;
-    tells = refl;
-    owes = λ there. refl;
-    fit = fit;
-    puts = λ u kept same. put_other u g (moves.after m s).state apart;
-    keeps = λ u kept same. keeps_other u g (moves.after m s).state apart kept;
-  }
-
-  -- of this one
-  pub record Hides (s : State) (n m : Moved) : Type 0 where
-    pub state : n.state ≡ hide m.state
-    pub owed : (there : Bool) → owed_ops there f n.owed ≡ owed_ops there f m.owed
-    pub fits : (there : Bool) → fit_all (owed_ops there f m.owed) ≡ true
-    pub owing : (k : ℕ) (table : List ℕ) (o : Option Awaiter) → Owes k table s o → Owes k table m.state o
-
-  pub aside_own : (m : Move) (s : State) → is_last_waker m (hide s) ≡ is_last_waker m s → is_told m (hide s) ≡ is_told m s
-      → Hides s (moves.after m (hide s)) (moves.after m s) → IsAside m f s (hide s)
-  aside_own m s last tells hides = record {
-    last = last;
-    tells = tells;
-    owes = hides.owed;
-    fit = hides.fits;
-    puts = λ u kept same. ap (λ x. put (less u) f x) hides.state ∙ put_own u (moves.after m s).state kept.known;
-    keeps = λ u kept same.
-        keeps_own u (moves.after m s).state
-        (hides.owing (length u.tasks) u.table (awaiter_of u f)
-        (subst (λ x. Owes (length u.tasks) u.table x (awaiter_of u f)) same kept));
-  }
-
-  over_or : (b c : Bool) → b ≡ true → (b || c) ≡ true
-  over_or true c is = refl
-  over_or false c is = absurd cc
-
-  wakes_own : (s : State) → moves.is_over s ≡ true → Hides s (moves.wake_by_reference (hide s)) (moves.wake_by_reference s)
-  wakes_own s over =
-      subst (λ b. Hides s (moves.wake_by_reference_by b s.running (hide s)) (moves.wake_by_reference_by b s.running s))
-      (sym (over_or (moves.is_over s) s.scheduled over))
-      (record { state = refl; owed = λ there. refl; fits = λ there. refl; owing = λ k table o owes. owes })
-
-  abbrev used : Moved → Moved
-  used m = moves.moved m.state (record m.owed { next = Some move.Release })
-
-  uses_own : (s : State) → moves.is_over s ≡ true → Hides s (moves.wake (hide s)) (moves.wake s)
-  uses_own s over =
-      subst (λ b. Hides s (used (moves.wake_by_reference_by b s.running (hide s))) (used (moves.wake_by_reference_by b s.running s)))
-      (sym (over_or (moves.is_over s) s.scheduled over))
-      (record { state = refl; owed = λ there. refl; fits = λ there. refl; owing = λ k table o owes. owes })
-
-  cancels_own : (s : State) → moves.is_over s ≡ true → Hides s (moves.cancel (hide s)) (moves.cancel s)
-  cancels_own s over =
-      subst (λ b. Hides s (moves.cancel_by b (moves.is_going s) (hide s)) (moves.cancel_by b (moves.is_going s) s)) (sym over)
-      (record { state = refl; owed = λ there. refl; fits = λ there. refl; owing = λ k table o owes. owes })
-
-  pub wake_aside : (s : State) → moves.is_over s ≡ true → IsAside move.WakeByReference f s (hide s)
-  wake_aside s over = aside_own move.WakeByReference s refl refl (wakes_own s over)
-
-  pub use_aside : (s : State) → moves.is_over s ≡ true → IsAside move.Wake f s (hide s)
-  use_aside s over = aside_own move.Wake s refl refl (uses_own s over)
-
-  pub cancel_aside : (s : State) → moves.is_over s ≡ true → IsAside move.Cancel f s (hide s)
-  cancel_aside s over = aside_own move.Cancel s refl refl (cancels_own s over)
+  over : (w : World) → Kept w → moves.is_over (world.task w f) ≡ true
+  over w kept = or_so f (world.task w f).completed (world.task w f).closed kept.closed
 
   -- what is closed isn't forgotten
-  detaches_own : (s : State) → s.closed ≡ true → Hides s (moves.detach (hide s)) (moves.detach s)
+  detaches_own : (s : State) → s.closed ≡ true → Hides f all_same false Owes s (moves.detach (hide s)) (moves.detach s)
   detaches_own s closed =
-      subst (λ b. Hides s (moves.detach_by b ((s.references == 0) && not s.closed) (hide s))
+      subst (λ b. Hides f all_same false Owes s (moves.detach_by b ((s.references == 0) && not s.closed) (hide s))
       (moves.detach_by b ((s.references == 0) && not s.closed) s)) (sym (off_and f s.completed s.closed closed))
-      (subst (λ b. Hides s (moves.detach_by false b (hide s)) (moves.detach_by false b s))
+      (subst (λ b. Hides f all_same false Owes s (moves.detach_by false b (hide s)) (moves.detach_by false b s))
       (sym (off_and f (s.references == 0) s.closed closed))
       (record {
         state = refl;
         owed = λ there. refl;
-        fits = λ there. ap fit_all (emptied_owes there f (s.references == 0));
+        fits = λ there. ap (hiding.fit_all f all_same false Owes) (emptied_owes there f (s.references == 0));
         owing = λ k table o owes.
             record {
               known = owes.known;
@@ -252,8 +93,97 @@ module _ (f : ℕ) (awaiter : Option Waker) where
             };
       }))
 
-  pub detach_aside : (s : State) → s.closed ≡ true → IsAside move.Detach f s (hide s)
-  detach_aside s closed = aside_own move.Detach s refl refl (detaches_own s closed)
+  pub detach_aside : (s : State) → s.closed ≡ true → IsAside f all_same false Owes move.Detach f s (hide s)
+  detach_aside s closed = aside_own f all_same false Owes known move.Detach s refl refl (detaches_own s closed)
 
-  pub over_of : (s : State) → s.closed ≡ true → moves.is_over s ≡ true
-  over_of s closed = or_so f s.completed s.closed closed
+  -- a copy of another task's waker
+  copies_by : (w : World) (g : ℕ) (held : Hold) → (f == g) ≡ false → Kept w → (b : Bool)
+      → Does (copy_by b (without_awaiter f w) g held) (copy_by b w g held)
+  copies_by w g held apart kept true = stays f all_same false Owes known over w kept (op.End reply.NoMemory held ∷ []) refl
+  copies_by w g held apart kept false =
+      let os : List Op = op.End reply.Made held ∷ [] in
+      let s = world.task w g in
+      let t : State = record s { references = s.references + 1 } in
+      let rest : World → World = λ v. record v { wakers = w.wakers ++ Some g ∷ [] } in
+      subst
+      (λ (x : State). Does (done (rest (put (without_awaiter f w) g (record x { references = x.references + 1 }))) os)
+      (done (rest (put w g t)) os))
+      (sym (task_other f all_same w g apart))
+      (writes f all_same false Owes known over w g t rest os apart kept refl (λ kept. kept) refl)
+
+  copies_do : (w : World) (g : ℕ) (held : Hold) → (f == g) ≡ false → Kept w → (h : Hint)
+      → Does (copy_waker h (without_awaiter f w) g held) (copy_waker h w g held)
+  copies_do w g held apart kept h =
+      subst (λ (x : State). Does (copy_by (is_refused h x) (without_awaiter f w) g held) (copy_waker h w g held))
+      (sym (task_other f all_same w g apart)) (copies_by w g held apart kept (is_refused h (world.task w g)))
+
+  pub act_does : (p : ℕ) (h : Hint) (o : Op) (w : World) → is_aside o ≡ true → waits o ≡ false → Kept w → Has w o
+      → Does (act p h o (without_awaiter f w)) (act p h o w)
+  act_does p h (op.Move move.Release g) w fit free kept has = release_does f all_same false Owes known over p w g kept own
+    where
+      own : f ≡ g → IsAside f all_same false Owes move.Release f (world.task w f) (hide (world.task w f))
+      own is =
+          let held : token (world.task w f) < (world.task w f).references =
+          subst (λ k. token (world.task w k) < (world.task w k).references) (sym is) has.1 in
+          absurd (omega (arith, held, kept.spent))
+  act_does p h (op.Move move.Detach g) w fit free kept has =
+      detach_does f all_same false Owes known over p w g kept (λ is. detach_aside (world.task w f) kept.closed)
+  act_does p h (op.Queue (queue_op.Append g)) w fit free kept has =
+      appends_do f all_same false Owes known over p w kept (takes_more (queue_of w (mark_of w g)) w.limit) g has.1
+  act_does p h (op.Handle (handle_op.CopyAwaiter g (Outside x))) w fit free kept has =
+      outside_by f all_same false Owes known over p w kept g x (not_on (f == g) (both_true (not (f == g)) true fit).0) h.refused
+  act_does p h (op.Handle (handle_op.CopyAwaiter g (Task k))) w fit free kept has =
+      let no = (both_true (not (f == g)) false fit).1 in absurd cc
+  act_does p h (op.Waker (waker_op.CopyWaker g held)) w fit free kept has = copies_do w g held (not_on (f == g) fit) kept h
+  act_does p h o w fit free kept has = others_do f all_same false Owes known over p h o w refl fit free kept
+
+  -- what is asked for is there
+  known_less : (w : World) (g : ℕ) → g < length w.tasks → g < length (without_awaiter f w).tasks
+  known_less w g known = subst (λ n. g < n) (sym (length_set w.tasks f (hide (world.task w f)))) known
+
+  awaited_less : (w : World) (g : ℕ) → g < length w.awaiters → g < length (without_awaiter f w).awaiters
+  awaited_less w g known = subst (λ n. g < n) (sym (length_set w.awaiters f None)) known
+
+  waker_less : (w : World) (a : Waker) → IsKnownWaker w a → IsKnownWaker (without_awaiter f w) a
+  waker_less w (Task g) known = known_less w g known
+  waker_less w (Outside x) known = tt
+
+  of_task : (w : World) (g : ℕ) (P : State → Type 0) → Kept w → (P (world.task w g) → P (hide (world.task w g))) → P (world.task w g)
+      → P (world.task (without_awaiter f w) g)
+  of_task w g P kept so has = by (f == g) refl
+    where
+      by : (b : Bool) → (f == g) ≡ b → P (world.task (without_awaiter f w) g)
+      by true same =
+          let is = same_of f g same in
+          subst (λ k. P (world.task (without_awaiter f w) k)) is
+          (subst P (sym (task_own f all_same w kept.known)) (subst (λ k. P (hide (world.task w k))) (sym is) (so has)))
+      by false apart = subst P (sym (task_other f all_same w g apart)) has
+
+  pub has_less : (o : Op) (w : World) → is_aside o ≡ true → Kept w → Has w o → Has (without_awaiter f w) o
+  has_less (op.Move move.WakeByReference g) w fit kept has = (known_less w g has.0, has.1)
+  has_less (op.Move move.Wake g) w fit kept has = (known_less w g has.0, has.1)
+  has_less (op.Move move.Release g) w fit kept has =
+      (known_less w g has.0, of_task w g (λ t. token t < t.references) kept (λ x. x) has.1)
+  has_less (op.Move move.Cancel g) w fit kept has = (known_less w g has.0, has.1)
+  has_less (op.Move move.Detach g) w fit kept has =
+      (known_less w g has.0, of_task w g (λ t. token t ≤ t.references) kept (λ x. x) has.1)
+  has_less (op.Queue (queue_op.Append g)) w fit kept has = (known_less w g has.0, has.1)
+  has_less (op.Sleeper sleeper_op.ExchangeFlag) w fit kept has = has
+  has_less (op.Sleeper sleeper_op.HandOut) w fit kept has = has
+  has_less (op.Sleeper (sleeper_op.CallSleeper x)) w fit kept has = waker_less w x.waker has
+  has_less (op.Handle (handle_op.Look g a)) w fit kept has =
+      (known_less w g has.0, of_task w g (λ t. t.completed ≡ true → moves.is_going t ≡ false) kept (λ x. x) has.1)
+  has_less (op.Handle (handle_op.CopyAwaiter g (Task k))) w fit kept has =
+      (known_less w k has.0, of_task w k (λ t. token t ≤ t.references) kept (λ x. x) has.1)
+  has_less (op.Handle (handle_op.CopyAwaiter g (Outside x))) w fit kept has = has
+  has_less (op.Handle (handle_op.Register g a k)) w fit kept has = known_less w g has
+  has_less (op.Handle (handle_op.EndRegister g a k)) w fit kept has = (known_less w g has.0, awaited_less w g has.1)
+  has_less (op.Handle (handle_op.LookAgain g)) w fit kept has = known_less w g has
+  has_less (op.Handle (handle_op.Notify g mine)) w fit kept has = known_less w g has
+  has_less (op.Handle (handle_op.EndNotify g mine)) w fit kept has = (known_less w g has.0, awaited_less w g has.1)
+  has_less (op.Waker (waker_op.CopyWaker g held)) w fit kept has =
+      (known_less w g has.0, of_task w g (λ t. token t ≤ t.references) kept (λ x. x) has.1)
+  has_less (op.Waker (waker_op.CallAwaiter g a k)) w fit kept has = waker_less w a has
+  has_less (op.User o) w fit kept has = tt
+  has_less (op.End r held) w fit kept has = tt
+  has_less o w fit kept has = absurd cc

@@ -16,13 +16,13 @@ use Rattle.machine_roads.specs.Within.{untaken}
 use Rattle.machine_roads.proofs.DropPlaces.{loss_rests}
 use Rattle.machine_roads.proofs.Inmost.{rests_in}
 use Rattle.machine_roads.proofs.Lists.{clash}
-use Rattle.machine_roads.proofs.LoneRuns.{Walks}
+use Rattle.machine_roads.proofs.LoneRuns.{WalksBy}
 
 -- nothing is asked of what is done
-pub walks : Walks (λ w o. Unit {0}) (λ s. Unit {0})
+pub walks : WalksBy (λ w os. Unit {0}) (λ s. Unit {0})
 walks = record {
-  easy = record { ends = λ w r held. tt; outside = λ w x. tt };
-  gives = λ s p reached there fine o is. tt;
+  easy = record { ends = λ w r held os. tt; outside = λ w x os. tt };
+  gives = λ s p reached there fine os is. tt;
   back = λ ts s new reached made fine. tt;
 }
 

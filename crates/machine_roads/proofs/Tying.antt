@@ -19,7 +19,7 @@ use Rattle.executor_model.specs.World.{World, Done, done, log}
 use Rattle.executor_model.proofs.Steps.Lift.{topped}
 use Rattle.executor_model.proofs.SpawnWants.Tops.{flipped}
 use Rattle.executor_model.proofs.Table.Spawning.{top-last}
-use Rattle.machine_roads.specs.Alone.{alone, is_resting, one_by, Has, HasAllOf}
+use Rattle.machine_roads.specs.Alone.{alone, is_resting, one_by, Has, HasAllBy, HasFirst}
 
 abbrev later_of : List Op → List Op
 later_of [] = []
@@ -64,9 +64,11 @@ settles p w xs (o ∷ os) is =
     }
 
 -- whatever it is told from here on, where it rests it is so
+abbrev pub LeadsBy : (World → List Op → Type 0) → ℕ → Done → (Done → Type 0) → Type 0
+LeadsBy P p d R = (hints : List Hint) → HasAllBy P p hints d → is_resting (alone p hints d).next ≡ true → R (alone p hints d)
+
 abbrev pub LeadsSoOf : (World → Op → Type 0) → ℕ → Done → (Done → Type 0) → Type 0
-LeadsSoOf Asked p d R =
-    (hints : List Hint) → HasAllOf Asked p hints d → is_resting (alone p hints d).next ≡ true → R (alone p hints d)
+LeadsSoOf Asked p d R = LeadsBy (HasFirst Asked) p d R
 
 abbrev pub LeadsSo : ℕ → Done → (Done → Type 0) → Type 0
 LeadsSo p d R = LeadsSoOf Has p d R
@@ -82,38 +84,35 @@ abbrev pub no_hint : Hint
 no_hint = record { refused = false; same = false; start = 0 }
 
 -- of a call's end, and of the call of an outside waker, nothing is asked
-pub record IsEasy (Asked : World → Op → Type 0) : Type 0 where
-  pub ends : (w : World) (r : Reply) (held : Hold) → Asked w (op.End r held)
-  pub outside : (w : World) (x : ℕ) → Asked w (op.User (user_op.CallOutside x))
+pub record IsEasy (P : World → List Op → Type 0) : Type 0 where
+  pub ends : (w : World) (r : Reply) (held : Hold) (os : List Op) → P w (op.End r held ∷ os)
+  pub outside : (w : World) (x : ℕ) (os : List Op) → P w (op.User (user_op.CallOutside x) ∷ os)
 
-pub has_easy : IsEasy Has
-has_easy = record { ends = λ w r held. tt; outside = λ w x. tt }
-
-module _ (Asked : World → Op → Type 0) (easy : IsEasy Asked) (p : ℕ) (R : Done → Type 0) where
+module _ (P : World → List Op → Type 0) (easy : IsEasy P) (p : ℕ) (R : Done → Type 0) where
   -- a thing is done
-  pub leads_on : (h : Hint) (o : Op) (w : World) (os : List Op) → waits o ≡ false → Asked w o → LeadsSoOf Asked p (done w (o ∷ os)) R
-      → LeadsSoOf Asked p (done (act p h o w).world ((act p h o w).next ++ os)) R
+  pub leads_on : (h : Hint) (o : Op) (w : World) (os : List Op) → waits o ≡ false → P w (o ∷ os) → LeadsBy P p (done w (o ∷ os)) R
+      → LeadsBy P p (done (act p h o w).world ((act p h o w).next ++ os)) R
   leads_on h o w os goes has leads hints all rests =
       subst
-      (λ b. HasAllOf Asked p hints (one_by b p h o w os) → is_resting (alone p hints (one_by b p h o w os)).next ≡ true
+      (λ b. HasAllBy P p hints (one_by b p h o w os) → is_resting (alone p hints (one_by b p h o w os)).next ≡ true
       → R (alone p hints (one_by b p h o w os)))
       goes
       (λ all rests. leads (h ∷ hints) (has, all) rests)
       all rests
 
   -- the call of an outside waker ends
-  pub leads_outside : (x : ℕ) (w : World) (os : List Op) → LeadsSoOf Asked p (done w (op.User (user_op.CallOutside x) ∷ os)) R
-      → LeadsSoOf Asked p (done w os) R
-  leads_outside x w os leads hints all rests = leads (no_hint ∷ hints) (easy.outside w x, all) rests
+  pub leads_outside : (x : ℕ) (w : World) (os : List Op) → LeadsBy P p (done w (op.User (user_op.CallOutside x) ∷ os)) R
+      → LeadsBy P p (done w os) R
+  leads_outside x w os leads hints all rests = leads (no_hint ∷ hints) (easy.outside w x os, all) rests
 
   -- and a call, where its end is all that is left of it
-  pub leads_ended : (w : World) (os : List Op) → LeadsSoOf Asked p (done w os) R → LeadsSoOf Asked p (ended p w os) R
+  pub leads_ended : (w : World) (os : List Op) → LeadsBy P p (done w os) R → LeadsBy P p (ended p w os) R
   leads_ended w [] leads = leads
-  leads_ended w (op.End r held ∷ os) leads = λ hints all rests. leads (no_hint ∷ hints) (easy.ends w r held, all) rests
+  leads_ended w (op.End r held ∷ os) leads = λ hints all rests. leads (no_hint ∷ hints) (easy.ends w r held os, all) rests
   leads_ended w (o ∷ os) leads = leads
 
   -- where user code has to answer, it rests
-  pub leads_rest : (w : World) (os : List Op) → is_resting os ≡ true → LeadsSoOf Asked p (done w os) R → R (done w os)
+  pub leads_rest : (w : World) (os : List Op) → is_resting os ≡ true → LeadsBy P p (done w os) R → R (done w os)
   leads_rest w os rests leads = leads [] tt rests
 
 -- by a step to this part of the machine

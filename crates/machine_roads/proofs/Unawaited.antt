@@ -178,37 +178,6 @@ module _ (f : ℕ) (awaiter : Option Waker) where
       ap (λ y. becomes wakes more f y z) (c.so t phase closed)
       ∙ ap (λ (o : Option Bool). if is_some (info_from o) then more (appended f (put f new z)) else put f new z) (past_end t.infos)
 
-  becomes_so : (h : AbstractTask Output Waker → AbstractTask Output Waker) → Counts h → (more : Plain Output Waker → Plain Output Waker)
-      → Keeps more → (g : ℕ) → Keeps (λ z. becomes wakes more g (h (task g z)) z)
-  becomes_so h c more keeps g p q b = by (f == g) refl
-    where
-      by : (e : Bool) → (f == g) ≡ e → Bare (becomes wakes more g (h (task g p)) p) (becomes wakes more g (h (task g q)) q)
-      by true same =
-          let there = there_over p q b in
-          let here = here_over p q b in
-          subst (λ g. Bare (becomes wakes more g (h (task g p)) p) (becomes wakes more g (h (task g q)) q)) (same_of f g same)
-          (subst (λ z. Bare z (becomes wakes more f (h (task f q)) q))
-          (sym (own_put h c more p there.0 there.1
-          ∙ ap (λ n. put f (record (task f p) { wakers = c.many n }) p) (own_is p q b)))
-          (subst (λ z. Bare (put f (record (task f p) { wakers = c.many (task f q).wakers }) p) z)
-          (sym (own_put h c more q here.0 here.1)) (put_own p q b (c.many (task f q).wakers))))
-      by false apart =
-          subst (λ t. Bare (becomes wakes more g (h t) p) (becomes wakes more g (h (task g q)) q)) (sym (task_other p q b g apart))
-          (subst
-          (λ t. Bare (if is_some (info_of t (h (task g q))) then more (appended g (put g (h (task g q)) p)) else put g (h (task g q)) p)
-          (becomes wakes more g (h (task g q)) q)) (sym (task_other p q b g apart))
-          (whether (is_some (info_of (task g q) (h (task g q))))))
-        where
-          new : AbstractTask Output Waker
-          new = h (task g q)
-
-          whether : (e : Bool) → Bare (if e then more (appended g (put g new p)) else put g new p)
-              (if e then more (appended g (put g new q)) else put g new q)
-          whether true =
-              let m = put_other p q b g new apart in
-              keeps (appended g (put g new p)) (appended g (put g new q)) (append_so (put g new p) (put g new q) m g)
-          whether false = put_other p q b g new apart
-
   pub becomes_apart : (h : AbstractTask Output Waker → AbstractTask Output Waker) (more : Plain Output Waker → Plain Output Waker)
       → Keeps more → (g : ℕ) → (f == g) ≡ false → Keeps (λ z. becomes wakes more g (h (task g z)) z)
   becomes_apart h more keeps g apart p q b =
@@ -224,6 +193,22 @@ module _ (f : ℕ) (awaiter : Option Waker) where
           let m = put_other p q b g new apart in
           keeps (appended g (put g new p)) (appended g (put g new q)) (append_so (put g new p) (put g new q) m g)
       whether false = put_other p q b g new apart
+
+  becomes_so : (h : AbstractTask Output Waker → AbstractTask Output Waker) → Counts h → (more : Plain Output Waker → Plain Output Waker)
+      → Keeps more → (g : ℕ) → Keeps (λ z. becomes wakes more g (h (task g z)) z)
+  becomes_so h c more keeps g p q b = by (f == g) refl
+    where
+      by : (e : Bool) → (f == g) ≡ e → Bare (becomes wakes more g (h (task g p)) p) (becomes wakes more g (h (task g q)) q)
+      by true same =
+          let there = there_over p q b in
+          let here = here_over p q b in
+          subst (λ g. Bare (becomes wakes more g (h (task g p)) p) (becomes wakes more g (h (task g q)) q)) (same_of f g same)
+          (subst (λ z. Bare z (becomes wakes more f (h (task f q)) q))
+          (sym (own_put h c more p there.0 there.1
+          ∙ ap (λ n. put f (record (task f p) { wakers = c.many n }) p) (own_is p q b)))
+          (subst (λ z. Bare (put f (record (task f p) { wakers = c.many (task f q).wakers }) p) z)
+          (sym (own_put h c more q here.0 here.1)) (put_own p q b (c.many (task f q).wakers))))
+      by false apart = becomes_apart h more keeps g apart p q b
 
   -- wakes and wakers that go
   wake_is : (t : AbstractTask Output Waker) → t.closed ≡ true → abstract.wake t ≡ t

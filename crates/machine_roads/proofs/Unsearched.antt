@@ -43,25 +43,7 @@ off_takes c off = refl
 module _ (here : Option Waker) (w : World) (d : Choice) (q : Plain Output Waker) where
   begun_none : (c : Call) (x : plain.Call Output Waker) → IsCallIn here w c x → searches wakes d x q ≡ None
   begun_none c x (within.spawn m) = inside_none d x q (λ code q. refl) q.inside
-  begun_none c x within.try_tick = inside_none d x q (λ code q. refl) q.inside
-  begun_none c x within.is_empty = inside_none d x q (λ code q. refl) q.inside
-  begun_none c x (within.use_waker k f is) = inside_none d x q (λ code q. refl) q.inside
-  begun_none c x (within.wake k f is) = inside_none d x q (λ code q. refl) q.inside
-  begun_none c x (within.copy k f is) = inside_none d x q (λ code q. refl) q.inside
-  begun_none c x (within.release k f is) = inside_none d x q (λ code q. refl) q.inside
-  begun_none c x (within.keep f is) = inside_none d x q (λ code q. refl) q.inside
-  begun_none c x (within.wake_self f is) = inside_none d x q (λ code q. refl) q.inside
-  begun_none c x (within.poll_handle f b) = inside_none d x q (λ code q. refl) q.inside
-  begun_none c x (within.cancel f) = inside_none d x q (λ code q. refl) q.inside
-  begun_none c x (within.detach f) = inside_none d x q (λ code q. refl) q.inside
-  begun_none c x (within.drop_handle f) = inside_none d x q (λ code q. refl) q.inside
-  begun_none c x within.new_tick = inside_none d x q (λ code q. refl) q.inside
-  begun_none c x (within.poll_tick t b) = inside_none d x q (λ code q. refl) q.inside
-  begun_none c x (within.drop_tick t) = inside_none d x q (λ code q. refl) q.inside
-  begun_none c x within.new_run = inside_none d x q (λ code q. refl) q.inside
-  begun_none c x (within.poll_run r b) = inside_none d x q (λ code q. refl) q.inside
-  begun_none c x (within.drop_run r) = inside_none d x q (λ code q. refl) q.inside
-  begun_none c x within.leak = inside_none d x q (λ code q. refl) q.inside
+  begun_none c x is = inside_none d x q (λ code q. refl) q.inside
 
   -- so a try and a tick's poll leave the turn
   abbrev pub TurnSaid : Call → World → Type 0
@@ -98,28 +80,7 @@ module _ (here : Option Waker) (w : World) (d : Choice) (q : Plain Output Waker)
       → (called p hints c below under asks).urgent_turns ≡ turned (turns_of wakes d x q) w.urgent_turns
   turns_so p hints c below under x within.try_tick asks said = said
   turns_so p hints c below under x (within.poll_tick t b) asks said = said
-  turns_so p hints c below under x (within.spawn m) asks said = other p hints c below under asks x (within.spawn m) refl refl
-  turns_so p hints c below under x within.is_empty asks said = other p hints c below under asks x within.is_empty refl refl
-  turns_so p hints c below under x (within.use_waker k f is) asks said =
-      other p hints c below under asks x (within.use_waker k f is) refl refl
-  turns_so p hints c below under x (within.wake k f is) asks said = other p hints c below under asks x (within.wake k f is) refl refl
-  turns_so p hints c below under x (within.copy k f is) asks said = other p hints c below under asks x (within.copy k f is) refl refl
-  turns_so p hints c below under x (within.release k f is) asks said =
-      other p hints c below under asks x (within.release k f is) refl refl
-  turns_so p hints c below under x (within.keep f is) asks said = other p hints c below under asks x (within.keep f is) refl refl
-  turns_so p hints c below under x (within.wake_self f is) asks said =
-      other p hints c below under asks x (within.wake_self f is) refl refl
-  turns_so p hints c below under x (within.poll_handle f b) asks said =
-      other p hints c below under asks x (within.poll_handle f b) refl refl
-  turns_so p hints c below under x (within.cancel f) asks said = other p hints c below under asks x (within.cancel f) refl refl
-  turns_so p hints c below under x (within.detach f) asks said = other p hints c below under asks x (within.detach f) refl refl
-  turns_so p hints c below under x (within.drop_handle f) asks said = other p hints c below under asks x (within.drop_handle f) refl refl
-  turns_so p hints c below under x within.new_tick asks said = other p hints c below under asks x within.new_tick refl refl
-  turns_so p hints c below under x (within.drop_tick t) asks said = other p hints c below under asks x (within.drop_tick t) refl refl
-  turns_so p hints c below under x within.new_run asks said = other p hints c below under asks x within.new_run refl refl
-  turns_so p hints c below under x (within.poll_run r b) asks said = other p hints c below under asks x (within.poll_run r b) refl refl
-  turns_so p hints c below under x (within.drop_run r) asks said = other p hints c below under asks x (within.drop_run r) refl refl
-  turns_so p hints c below under x within.leak asks said = other p hints c below under asks x within.leak refl refl
+  turns_so p hints c below under x is asks said = other p hints c below under asks x is refl refl
 
   -- a call that begins
   pub begun_so : (p : ℕ) (hints : List Hint) (c : Call) (below : List Op) (under : is_resting below ≡ true) (x : plain.Call Output Waker)

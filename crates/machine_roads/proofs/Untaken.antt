@@ -31,8 +31,7 @@ use Rattle.machine_roads.specs.Untaken.{polls}
 use Rattle.machine_roads.proofs.Along.{goes_append, resting_goes}
 use Rattle.machine_roads.proofs.AlongBeside.{AlongBeside, along_beside, goes}
 use Rattle.machine_roads.proofs.InLoss.{calls_in_loss, loses_in_loss, loss_ends_in_loss}
-use Rattle.machine_roads.proofs.Owing.{Does, Kept, is_aside}
-use Rattle.machine_roads.proofs.OwingActs.{act_does}
+use Rattle.machine_roads.proofs.Owing.{Does, Kept, act_does, is_aside}
 
 module _ (f : ℕ) (awaiter : Option Waker) where
   abbrev Here : World → Type 0
@@ -79,7 +78,7 @@ module _ (f : ℕ) (awaiter : Option Waker) where
   begins_does p call.Keep w off apart owes = record { same = refl; kept = owes; fit = refl }
   begins_does p call.WakeSelf w off apart owes = record { same = refl; kept = owes; fit = refl }
   begins_does p (call.PollHandle g b) w off apart owes =
-      record { same = refl; kept = owes; fit = ap (λ b. not b && true) apart }
+      record { same = refl; kept = owes; fit = ap (λ b. (not b && true) && true) apart }
   begins_does p (call.Cancel g) w off apart owes = record { same = refl; kept = owes; fit = refl }
   begins_does p (call.Detach g) w off apart owes = record { same = refl; kept = owes; fit = refl }
   begins_does p (call.DropHandle g) w off apart owes = record { same = refl; kept = owes; fit = refl }

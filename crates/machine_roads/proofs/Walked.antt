@@ -21,12 +21,12 @@ use Rattle.executor_model.proofs.SpawnWants.Tops.{flipped}
 use Rattle.executor_model.proofs.Steps.Reached.{Reached, reached-step, run-first}
 use Rattle.executor_model.proofs.Steps.Stepping.{refusal-there}
 use Rattle.executor_laws.proofs.Termination.LoneEnds.{still-party}
-use Rattle.machine_roads.specs.Alone.{is_outside, is_resting, Has}
+use Rattle.machine_roads.specs.Alone.{is_outside, is_resting, Has, HasFirst}
 use Rattle.machine_roads.specs.Alike.{begins, upon}
 use Rattle.machine_roads.specs.Within.{calls_outside, rests_after, standing}
 use Rattle.machine_roads.proofs.Lists.{same_of}
-use Rattle.machine_roads.proofs.LoneRuns.{IsBefore, Walks, before, both_true, made_is, not_true, passed}
-use Rattle.machine_roads.proofs.Tying.{Goes, LeadsSo, LeadsSoOf, answers, ended, goes, leads_ended, leads_on, leads_outside, leads_rest}
+use Rattle.machine_roads.proofs.LoneRuns.{IsBefore, WalksBy, before, both_true, made_is, not_true, passed}
+use Rattle.machine_roads.proofs.Tying.{Goes, LeadsBy, LeadsSo, answers, ended, goes, leads_ended, leads_on, leads_outside, leads_rest}
 use Rattle.machine_roads.proofs.Tying.{none_of, settles, top_of}
 
 -- who has nothing to do does nothing
@@ -43,21 +43,21 @@ no_answer s p there e none may =
     sym (ap (λ xs. answer_refusal (top xs) e) (none_of (stack s p) none)) ∙ (sym (refusal-there s (Answer p e) there) ∙ may) in
     cc
 
-module _ (Asked : World → Op → Type 0) (Fine : Machine → Type 0) (walks : Walks Asked Fine) (p : ℕ) (R : Done → Type 0) (new : Machine)
+module _ (P : World → List Op → Type 0) (Fine : Machine → Type 0) (walks : WalksBy P Fine) (p : ℕ) (R : Done → Type 0) (new : Machine)
     (later : Fine new) where
   abbrev Walking : List Step → Machine → List Op → Type 0
   Walking ts s os =
-      Reached s → p < length s.parties → reverse (stack s p) ≡ os → LeadsSoOf Asked p (done s.world os) R → rests_after p ts s ≡ true
+      Reached s → p < length s.parties → reverse (stack s p) ≡ os → LeadsBy P p (done s.world os) R → rests_after p ts s ≡ true
       → run_all ts s ≡ Ok new → R (standing new p)
 
   -- behind a step that goes so
   pub step_on : (ts : List Step) → ((s : Machine) (os : List Op) → Walking ts s os) → (s : Machine) → Reached s → p < length s.parties
-      → (t : Step) (d : Done) → Goes p s (after s t) d → LeadsSoOf Asked p d R → refusal s t ≡ None → rests_after p ts (after s t) ≡ true
+      → (t : Step) (d : Done) → Goes p s (after s t) d → LeadsBy P p d R → refusal s t ≡ None → rests_after p ts (after s t) ≡ true
       → run_all ts (after s t) ≡ Ok new → R (standing new p)
   step_on ts onwards s reached there t d goes leads may rests made =
       onwards (after s t) (ended p d.world d.next).next (reached-step s t may reached) (still-party p s t there) goes.todo
-      (subst (λ w. LeadsSoOf Asked p (done w (ended p d.world d.next).next) R) (sym goes.world)
-      (leads_ended Asked walks.easy p R d.world d.next leads))
+      (subst (λ w. LeadsBy P p (done w (ended p d.world d.next).next) R) (sym goes.world)
+      (leads_ended P walks.easy p R d.world d.next leads))
       rests made
 
   pub walked : (ts : List Step) (s : Machine) (os : List Op) → Walking ts s os
@@ -65,7 +65,7 @@ module _ (Asked : World → Op → Type 0) (Fine : Machine → Type 0) (walks : 
       let same = made_is s new made in
       subst (λ (m : Machine). R (standing m p)) same
       (subst (λ xs. R (done s.world xs)) (sym is)
-      (leads_rest Asked walks.easy p R s.world os (ap (λ xs. is_resting xs) (sym is) ∙ rests) leads))
+      (leads_rest P walks.easy p R s.world os (ap (λ xs. is_resting xs) (sym is) ∙ rests) leads))
   walked (Begin q c ∷ ts) s os reached there is leads rests made = absurd cc
   walked (Go q h ∷ ts) s os reached there is leads rests made =
       let two = both_true (p == q) (rests_after p ts (after s (Go q h))) rests in
@@ -74,7 +74,7 @@ module _ (Asked : World → Op → Type 0) (Fine : Machine → Type 0) (walks : 
       by (walked ts) os is leads whole (subst (λ n. rests_after p ts (after s (Go n h)) ≡ true) at two.1)
     where
       by : ((s : Machine) (os : List Op) → Walking ts s os) → (os : List Op) → reverse (stack s p) ≡ os
-          → LeadsSoOf Asked p (done s.world os) R → run_all (Go p h ∷ ts) s ≡ Ok new
+          → LeadsBy P p (done s.world os) R → run_all (Go p h ∷ ts) s ≡ Ok new
           → rests_after p ts (after s (Go p h)) ≡ true → R (standing new p)
       by onwards [] is leads whole rests = absurd (no_go s p there h is (run-first (Go p h) ts s new whole).0)
       by onwards (o ∷ os) is leads whole rests =
@@ -85,9 +85,9 @@ module _ (Asked : World → Op → Type 0) (Fine : Machine → Type 0) (walks : 
           let free =
           not_true (waits o)
           (passed (not (waits o)) WrongAnswer (unless (not (is_locked_out s.world.lock o)) Waits None) may) in
-          let has = walks.gives s p reached there (walks.back (Go p h ∷ ts) s new reached whole later) o its_top in
+          let has = walks.gives s p reached there (walks.back (Go p h ∷ ts) s new reached whole later) (o ∷ os) is in
           step_on ts onwards s reached there (Go p h) (done (act p h o s.world).world ((act p h o s.world).next ++ os))
-          (goes p s there o os is h) (leads_on Asked walks.easy p R h o s.world os free has leads) k.0 rests k.1
+          (goes p s there o os is h) (leads_on P walks.easy p R h o s.world os free has leads) k.0 rests k.1
   walked (Answer q e ∷ ts) s os reached there is leads rests made =
       let two = both_true ((p == q) && calls_outside (top (stack s p))) (rests_after p ts (after s (Answer q e))) rests in
       let one = both_true (p == q) (calls_outside (top (stack s p))) two.0 in
@@ -98,17 +98,17 @@ module _ (Asked : World → Op → Type 0) (Fine : Machine → Type 0) (walks : 
       (run-first (Answer p e) ts s new whole).1
     where
       ends : ((s : Machine) (os : List Op) → Walking ts s os) → (o : Op) (os : List Op) → reverse (stack s p) ≡ o ∷ os
-          → LeadsSoOf Asked p (done s.world (o ∷ os)) R → is_outside o ≡ true
+          → LeadsBy P p (done s.world (o ∷ os)) R → is_outside o ≡ true
           → refusal s (Answer p e) ≡ None → rests_after p ts (after s (Answer p e)) ≡ true → run_all ts (after s (Answer p e)) ≡ Ok new
           → R (standing new p)
       ends onwards (op.User (user_op.CallOutside x)) os is leads outside may rests made =
           step_on ts onwards s reached there (Answer p e) (done s.world os)
           (answers p s there (op.User (user_op.CallOutside x)) os is e)
-          (leads_outside Asked walks.easy p R x s.world os leads) may rests made
+          (leads_outside P walks.easy p R x s.world os leads) may rests made
       ends onwards o os is leads outside may rests made = absurd cc
 
       by : ((s : Machine) (os : List Op) → Walking ts s os) → (os : List Op) → reverse (stack s p) ≡ os
-          → LeadsSoOf Asked p (done s.world os) R → refusal s (Answer p e) ≡ None
+          → LeadsBy P p (done s.world os) R → refusal s (Answer p e) ≡ None
           → calls_outside (top (stack s p)) ≡ true → rests_after p ts (after s (Answer p e)) ≡ true
           → run_all ts (after s (Answer p e)) ≡ Ok new → R (standing new p)
       by onwards [] is leads may outside rests made = absurd (no_answer s p there e is may)
@@ -117,7 +117,7 @@ module _ (Asked : World → Op → Type 0) (Fine : Machine → Type 0) (walks : 
 
   -- a call begins
   pub begun_leads_of : (c : Call) (ts : List Step) (s : Machine) → Reached s → p < length s.parties
-      → LeadsSoOf Asked p (upon (reverse (stack s p)) (begins p (mine (top (stack s p))) c s.world)) R
+      → LeadsBy P p (upon (reverse (stack s p)) (begins p (mine (top (stack s p))) c s.world)) R
       → rests_after p ts (after s (Begin p c)) ≡ true → run_all (Begin p c ∷ ts) s ≡ Ok new → R (standing new p)
   begun_leads_of c ts s reached there leads rests made =
       let k = run-first (Begin p c) ts s new made in
@@ -130,7 +130,7 @@ module _ (Asked : World → Op → Type 0) (Fine : Machine → Type 0) (walks : 
 
   -- user code ends
   pub answer_leads_of : (u : UserEnd) (o : Op) (os : List Op) (ts : List Step) (s : Machine) → Reached s → p < length s.parties
-      → reverse (stack s p) ≡ o ∷ os → LeadsSoOf Asked p (done (react p o u s.world).world ((react p o u s.world).next ++ os)) R
+      → reverse (stack s p) ≡ o ∷ os → LeadsBy P p (done (react p o u s.world).world ((react p o u s.world).next ++ os)) R
       → rests_after p ts (after s (Answer p u)) ≡ true → run_all (Answer p u ∷ ts) s ≡ Ok new → R (standing new p)
   answer_leads_of u o os ts s reached there is leads rests made =
       let k = run-first (Answer p u) ts s new made in
@@ -143,10 +143,10 @@ module _ (p : ℕ) (R : Done → Type 0) (new : Machine) (later : new.world.gone
       → LeadsSo p (upon (reverse (stack s p)) (begins p (mine (top (stack s p))) c s.world)) R
       → rests_after p ts (after s (Begin p c)) ≡ true → run_all (Begin p c ∷ ts) s ≡ Ok new → R (standing new p)
   begun_leads c ts s reached there leads rests made =
-      begun_leads_of Has IsBefore before p R new later c ts s reached there leads rests made
+      begun_leads_of (HasFirst Has) IsBefore before p R new later c ts s reached there leads rests made
 
   pub answer_leads : (u : UserEnd) (o : Op) (os : List Op) (ts : List Step) (s : Machine) → Reached s → p < length s.parties
       → reverse (stack s p) ≡ o ∷ os → LeadsSo p (done (react p o u s.world).world ((react p o u s.world).next ++ os)) R
       → rests_after p ts (after s (Answer p u)) ≡ true → run_all (Answer p u ∷ ts) s ≡ Ok new → R (standing new p)
   answer_leads u o os ts s reached there is leads rests made =
-      answer_leads_of Has IsBefore before p R new later u o os ts s reached there is leads rests made
+      answer_leads_of (HasFirst Has) IsBefore before p R new later u o os ts s reached there is leads rests made

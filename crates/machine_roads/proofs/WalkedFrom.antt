@@ -20,7 +20,7 @@ use Rattle.executor_model.specs.World.{World, Done, done}
 use Rattle.executor_model.proofs.Steps.Reached.{Reached, reached-step, run-first}
 use Rattle.executor_model.proofs.Steps.Stepping.{refusal-there}
 use Rattle.executor_laws.proofs.Termination.LoneEnds.{still-party}
-use Rattle.machine_roads.specs.Alone.{Has, HasAll, alone, is_outside, is_resting, one_by}
+use Rattle.machine_roads.specs.Alone.{Has, HasAll, HasFirst, alone, is_outside, is_resting, one_by}
 use Rattle.machine_roads.specs.Searching.{reads_list, start_at, start_of}
 use Rattle.machine_roads.specs.Within.{calls_outside, rests_after, standing}
 use Rattle.machine_roads.proofs.Lists.{same_of}
@@ -115,7 +115,7 @@ module _ (start p : ℕ) (R : Done → Type 0) where
             not_true (waits o)
             (passed (not (waits o)) WrongAnswer (unless (not (is_locked_out s.world.lock o)) Waits None) may) in
             let has =
-            before.gives s p reached there (gone_before (Go p h ∷ ts) s new reached whole later) o its_top in
+            before.gives s p reached there (gone_before (Go p h ∷ ts) s new reached whole later) (o ∷ os) is in
             let named : (if reads_list (o ∷ os) then h.start else start_at p (after s (Go p h)) ts) ≡ start =
             ap (λ xs. if reads_list xs then h.start else start_at p (after s (Go p h)) ts) (sym is) ∙ starts in
             ⊎_elim
@@ -136,7 +136,8 @@ module _ (start p : ℕ) (R : Done → Type 0) where
                 let lock = op.List (list_op.LockRead x) in
                 let named1 : h.start ≡ start =
                 ap (λ o. if reads_list (o ∷ os) then h.start else start_at p (after s (Go p h)) ts) (sym at) ∙ named in
-                walks.step_on Has IsBefore before p R new later ts (walks.walked Has IsBefore before p R new later ts) s reached there
+                walks.step_on (HasFirst Has) IsBefore before p R new later ts
+                (walks.walked (HasFirst Has) IsBefore before p R new later ts) s reached there
                 (Go p h) (done (act p h lock s.world).world ((act p h lock s.world).next ++ os))
                 (goes p s there lock os (is ∙ ap (λ o. o ∷ os) at) h)
                 (from_read h x s.world os named1 (subst (Has s.world) at has)

@@ -194,10 +194,14 @@ abbrev pub HasFirst : (World → Op → Type 0) → World → List Op → Type 0
 HasFirst Asked w [] = Unit {0}
 HasFirst Asked w (o ∷ os) = Asked w o
 
--- at each moment
+-- at each moment, of all that is left to do
+abbrev pub HasAllBy : (World → List Op → Type 0) → ℕ → List Hint → Done → Type 0
+HasAllBy P p [] d = Unit {0}
+HasAllBy P p (h ∷ hs) d = P d.world d.next × HasAllBy P p hs (one p h d)
+
+-- or of the first one
 abbrev pub HasAllOf : (World → Op → Type 0) → ℕ → List Hint → Done → Type 0
-HasAllOf Asked p [] d = Unit {0}
-HasAllOf Asked p (h ∷ hs) d = HasFirst Asked d.world d.next × HasAllOf Asked p hs (one p h d)
+HasAllOf Asked p hints d = HasAllBy (HasFirst Asked) p hints d
 
 abbrev pub HasAll : ℕ → List Hint → Done → Type 0
 HasAll p hints d = HasAllOf Has p hints d

@@ -32,7 +32,7 @@ module _ {X : Type 0} (t : X → Bool) where
       by true = one_more a (length (filter t xs))
       by false = no_more a (length (filter t xs))
 
-  counted_so : (xs : List X) → count_by t xs ≡ length (filter t xs)
+  pub counted_so : (xs : List X) → count_by t xs ≡ length (filter t xs)
   counted_so xs = folded 0 xs ∙ plain (length (filter t xs))
     where
       plain : (n : ℕ) → 0 + n ≡ n
@@ -50,7 +50,7 @@ module _ {X : Type 0} (t : X → Bool) where
       by true rest is = never (length (filter t xs)) is
       by false rest is = rest is
 
-  none_there : (xs : List X) → find t xs ≡ None → filter t xs ≡ []
+  pub none_there : (xs : List X) → find t xs ≡ None → filter t xs ≡ []
   none_there [] is = refl
   none_there (x ∷ xs) is = by (t x) (none_there xs) is
     where

@@ -7,6 +7,10 @@ pub mod Waits
 pub mod InOrder
 pub mod Altogether
 pub mod TakesDue
+pub mod Counts
+pub mod ComingBehind
+pub mod GivingBack
+pub mod Leaking
 pub mod Idle
 pub mod Over
 pub mod Begun

@@ -20,14 +20,14 @@ use Rattle.plain_laws.proofs.Calling.{MayBy, MayCall, MayCode, MayInside, MayNex
 abbrev pub over_of : Running → Bool
 over_of x = x.is_over
 
-at_elsewhere : {X Y : Type 0} (f : X → Y) (xs : List X) (i : ℕ) (y : X) (j : ℕ) → (i ≡ j → ⊥) → at f (slice_set xs i y) j ≡ at f xs j
+pub at_elsewhere : {X Y : Type 0} (f : X → Y) (xs : List X) (i : ℕ) (y : X) (j : ℕ) → (i ≡ j → ⊥) → at f (slice_set xs i y) j ≡ at f xs j
 at_elsewhere f [] i y j apart = refl
 at_elsewhere f (x ∷ xs) zero y zero apart = absurd (apart refl)
 at_elsewhere f (x ∷ xs) zero y (suc j) apart = refl
 at_elsewhere f (x ∷ xs) (suc i) y zero apart = refl
 at_elsewhere f (x ∷ xs) (suc i) y (suc j) apart = at_elsewhere f xs i y j (λ is. apart (ap suc is))
 
-other_number : (k j : ℕ) → (k == j) ≡ false → j ≡ k → ⊥
+pub other_number : (k j : ℕ) → (k == j) ≡ false → j ≡ k → ⊥
 other_number k j away is = clash (k == k) (is_itself k) (subst (λ i. (k == i) ≡ false) is away)
   where
     clash : (b : Bool) → b ≡ true → b ≡ false → ⊥

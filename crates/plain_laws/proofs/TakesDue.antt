@@ -61,10 +61,10 @@ chosen_found r c due some =
     (λ f. pick (Found due) is_due [] due (some_found is_due due) (λ g. absurd (clash (any is_due due) some g))))))
 
 module _ {T A : Type 0} (r n : ℕ) where
-  abbrev Counts : Plain T A → Type 0
+  abbrev pub Counts : Plain T A → Type 0
   Counts p = at taken_of p.runs r ≡ Some n
 
-  counts_last : Lasts Counts
+  pub counts_last : Lasts Counts
   counts_last =
       record {
         alike = λ p q one two three four good. subst (λ rs. at taken_of rs r ≡ Some n) three good;
@@ -84,38 +84,43 @@ module _ {T A : Type 0} (r n : ℕ) where
   keeps_counts k test p good =
       if_so Counts (nat_lt (count_by (is_kept k) p.due) 512) (moved k test p) p (moved_counts k test p good) good
 
-  module _ (wakes : A → Option ℕ) (c : Choice) (w : A) where
-    taken_counts : (d : Due)
-        → Keeps Counts (λ p. takes.kept wakes c r (tell wakes c (up wakes c (ARun r) (takes.robbed wakes c r d.keeper p))))
+  module _ (wakes : A → Option ℕ) (c : Choice) (j : ℕ) where
+    pub taken_counts : (d : Due)
+        → Keeps Counts (λ p. takes.kept wakes c j (tell wakes c (up wakes c (ARun j) (takes.robbed wakes c j d.keeper p))))
     taken_counts d p good =
-        let p1 = takes.robbed wakes c r d.keeper p in
-        let p2 = up wakes c (ARun r) p1 in
-        each_good Counts c.keeps (λ mark. keeps r (is_common mark)) (λ mark. keeps_counts r (is_common mark)) (tell wakes c p2)
+        let p1 = takes.robbed wakes c j d.keeper p in
+        let p2 = up wakes c (ARun j) p1 in
+        each_good Counts c.keeps (λ mark. keeps j (is_common mark)) (λ mark. keeps_counts j (is_common mark)) (tell wakes c p2)
         (tell_good Counts counts_last wakes c p2
-        (up_good Counts counts_last wakes c (ARun r) p1
-        (on_good Counts d.keeper (λ k p. cond (r == k) p (repeat c.moves (keeps r (is_kept k)) p))
+        (up_good Counts counts_last wakes c (ARun j) p1
+        (on_good Counts d.keeper (λ k p. cond (j == k) p (repeat c.moves (keeps j (is_kept k)) p))
         (λ k p good.
-        if_so Counts (r == k) p (repeat c.moves (keeps r (is_kept k)) p) good
-        (repeat_good Counts c.moves (keeps r (is_kept k)) (keeps_counts r (is_kept k)) p good))
+        if_so Counts (j == k) p (repeat c.moves (keeps j (is_kept k)) p) good
+        (repeat_good Counts c.moves (keeps j (is_kept k)) (keeps_counts j (is_kept k)) p good))
         p good)))
 
-counted_so : {T A : Type 0} (r n : ℕ) (p : Plain T A) → at taken_of p.runs r ≡ Some n
-    → at taken_of (runs (λ run. record run { taken = run.taken + 1 }) r p).runs r ≡ Some (n + 1)
-counted_so r n p good = by (slice_get p.runs r) refl good
+-- a run counts so many, and then so many
+pub now_counts : {T A : Type 0} (h : Running → Running) (r n m : ℕ) → ((x : Running) → x.taken ≡ n → (h x).taken ≡ m) → (p : Plain T A)
+    → at taken_of p.runs r ≡ Some n → at taken_of (runs h r p).runs r ≡ Some m
+now_counts h r n m then_so p good = by (slice_get p.runs r) refl good
   where
     by : (o : Option Running) → slice_get p.runs r ≡ o → or o (λ x. Some x.taken) None ≡ Some n
-        → at taken_of (on o (λ x p. record p { runs = slice_set p.runs r (record x { taken = x.taken + 1 }) }) p).runs r ≡ Some (n + 1)
+        → at taken_of (on o (λ x p. record p { runs = slice_set p.runs r (h x) }) p).runs r ≡ Some m
     by None is good = absurd cc
     by (Some x) is good =
-        ap (λ o. or o (λ (x : Running). Some x.taken) None) (set_there p.runs r (record x { taken = x.taken + 1 }) (ap is_some is))
-        ∙ ap (λ i. Some (i + 1)) (the_same is good)
+        ap (λ o. or o (λ (x : Running). Some x.taken) None) (set_there p.runs r (h x) (ap is_some is))
+        ∙ ap Some (then_so x (the_same is good))
       where
         the_same : slice_get p.runs r ≡ Some x → Some x.taken ≡ Some n → x.taken ≡ n
         the_same is good = cc
 
+pub counted_so : {T A : Type 0} (r n : ℕ) (p : Plain T A) → at taken_of p.runs r ≡ Some n
+    → at taken_of (runs (λ run. record run { taken = run.taken + 1 }) r p).runs r ≡ Some (n + 1)
+counted_so r n p good = now_counts (λ run. record run { taken = run.taken + 1 }) r n (n + 1) (λ x is. ap (λ i. i + 1) is) p good
+
 module _ {T A : Type 0} (wakes : A → Option ℕ) (c : Choice) (r : ℕ) (w : A) (n : ℕ) where
   -- a future is begun, as the run has counted it
-  abbrev Begun : Due → Plain T A → Type 0
+  abbrev pub Begun : Due → Plain T A → Type 0
   Begun d q = cond (nat_lt n (count r q)) (last_begun q.events) [] ≡ d.future ∷ []
 
   begun_so : (d : Due) (q : Plain T A) → at taken_of q.runs r ≡ Some (n + 1) → last_begun q.events ≡ d.future ∷ [] → Begun d q
@@ -132,7 +137,7 @@ module _ {T A : Type 0} (wakes : A → Option ℕ) (c : Choice) (r : ℕ) (w : A
       (put_good (λ p. at taken_of p.runs r ≡ Some (n + 1)) (counts_last r (n + 1)) wakes f (abstract.begin_run (task f p)) p good)
       (last_of q.events (Polls f)))
 
-  take_begins : (p : Plain T A) → at taken_of p.runs r ≡ Some n → any is_due p.due ≡ true
+  pub take_begins : (p : Plain T A) → at taken_of p.runs r ≡ Some n → any is_due p.due ≡ true
       → (d : Due) × (Begun d (takes.take wakes c (Run r w) p) × (any (λ (e : Due). d.future == e.future) p.due ≡ true))
   take_begins p good some =
       by (find test p.due) refl (chosen_found r c p.due some)
@@ -152,7 +157,7 @@ module _ {T A : Type 0} (wakes : A → Option ℕ) (c : Choice) (r : ℕ) (w : A
           let p4 = takes.kept wakes c r (tell wakes c (up wakes c (ARun r) (takes.robbed wakes c r d.keeper p1))) in (
             d,
             (
-              run_begun d (takes.counted wakes c r p4) (counted_so r n p4 (taken_counts r n wakes c w d p1 good)),
+              run_begun d (takes.counted wakes c r p4) (counted_so r n p4 (taken_counts r n wakes c r d p1 good)),
               found_due (chosen (looks c (Run r w)) p.due) p.due d is,
             ),
           )

@@ -2,5 +2,6 @@
 //! call: a law is a function without a body, whose contract is the law.
 #![tactic(auto)]
 
+pub mod coming;
 pub mod order;
 pub mod searches;

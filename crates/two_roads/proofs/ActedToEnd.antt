@@ -1,7 +1,9 @@
 -- From the executor's drop on no call looks for a future: what the machine's steps begin and answer, and what it refuses, says it all.
-use Rattle.std.proofs.Common.{◌≡◌, ℕ, ◌≤◌, ◌++◌, true, false, List, [], ◌∷◌, length, map, Option, Some, None, refl, sym, ap, ◌∙◌}
+use Rattle.std.proofs.Common.{◌≡◌, ℕ, ◌≤◌, ◌++◌, true, false, List, [], ◌∷◌, length, map, Option, Some, None, refl, sym, ap, subst, ◌∙◌}
 use Rattle.executor_model.specs.declared.op.Waker.{Waker}
+use Rattle.executor_model.specs.Quiet.{IsQuiet}
 use Rattle.executor_model.specs.Steps.{Machine}
+use Rattle.executor_model.proofs.Steps.Reached.{Reached}
 use Rattle.solo.specs.declared.names.SoloWaker.{SoloWaker}
 use Rattle.solo.specs.declared.owed.Lent.{Lent}
 use Rattle.solo.specs.declared.solo.Solo.{Solo}
@@ -11,7 +13,8 @@ use Rattle.plain_scheduler.specs.Calls as calls
 use Rattle.plain_scheduler.specs.Calls.{Call, course, does}
 use Rattle.plain_scheduler.specs.Searches.{searches_inside}
 use Rattle.plain_laws.specs.Searches.{looks_first}
-use Rattle.machine_roads.specs.DropActs.{DropActAlike, StandsDropping}
+use Rattle.machine_roads.specs.DropActs.{AreDropActs, DropActAlike, StandsDropping}
+use Rattle.machine_roads.specs.Road.{Follows}
 use Rattle.machine_roads.specs.Seeing.{heard_in, shown as shown_alike}
 use Rattle.machine_roads.specs.View.{Output, wakes as wakes_in}
 use Rattle.machine_roads.specs.Within.{Act, standing}
@@ -25,6 +28,7 @@ use Rattle.two_roads.specs.Together.{nothing, numbered}
 use Rattle.two_roads.proofs.Acted.{IsAside, aside_alike, one_same}
 use Rattle.two_roads.proofs.Both.{wakes_so}
 use Rattle.two_roads.proofs.Calling.{calls_same}
+use Rattle.two_roads.proofs.DropAtRest.{drop_acts_rest}
 use Rattle.two_roads.proofs.InDrop.{drop_acts_seen, drop_seen}
 use Rattle.two_roads.proofs.Refusing.{Lie, lie_in_drop}
 
@@ -128,6 +132,24 @@ module _ {T X : Type 0} (number : X → ℕ) where
       ∙ ap (course wakes_in (drop_acts_by a.left go.0 acts go.3)) (sym go.1.so)
 
   -- from the executor's drop on
+  module _ (a : Act) (later : List Act) (r : Plain Output Waker) (p : Plain T (SoloWaker X)) (x : Choice × Call T (SoloWaker X))
+      (xs : List (Choice × Call T (SoloWaker X))) (is : renamed nothing (numbered number) p ≡ r) (are : EndOfSteps number a later p (x ∷ xs))
+      (tell : AllAside (x ∷ xs) p)
+      (on : StandsDropping (standing a.left a.party) (does wakes_in x.0 calls.DropExecutor r)
+      × DropActAlike a.left (does wakes_in x.0 calls.DropExecutor r) later) where
+    pub end_same : renamed nothing (numbered number) (course wakes (x ∷ xs) p)
+        ≡ course wakes_in (drop_acts_by a.left (does wakes_in x.0 calls.DropExecutor r) later on.1)
+        (does wakes_in x.0 calls.DropExecutor r)
+    end_same =
+        let r1 : Plain Output Waker = does wakes_in x.0 calls.DropExecutor r in
+        let one : renamed nothing (numbered number) (does wakes x.0 x.1 p) ≡ r1 =
+        ap (λ (call : Call T (SoloWaker X)). renamed nothing (numbered number) (does wakes x.0 call p)) are.0
+        ∙ (calls_same nothing (numbered number) wakes wakes_in (wakes_so number) x.0 x.0 calls.DropExecutor p
+        (record { refusal = refl; tells = tell.1; tells_so = tell.1; takes = tt })
+        ∙ ap (λ (z : Plain Output Waker). does wakes_in x.0 calls.DropExecutor z) is) in
+        drop_acted a.left r1 later on.1 (does wakes x.0 x.1 p) xs (lie_in_drop (standing a.left a.party) r1 on.0) one are.1
+        tell.2
+
   pub ends_acted : (a : Act) (later : List Act) (r : Plain Output Waker) (p : Plain T (SoloWaker X))
       (ends : List (Choice × Call T (SoloWaker X))) → renamed nothing (numbered number) p ≡ r → EndOfSteps number a later p ends
       → AllAside ends p
@@ -138,13 +160,19 @@ module _ {T X : Type 0} (number : X → ℕ) where
   ends_acted a later r p [] is are tell on = absurd are
   ends_acted a later r p (x ∷ xs) is are tell on =
       let r1 : Plain Output Waker = does wakes_in x.0 calls.DropExecutor r in
-      let one : renamed nothing (numbered number) (does wakes x.0 x.1 p) ≡ r1 =
-      ap (λ (call : Call T (SoloWaker X)). renamed nothing (numbered number) (does wakes x.0 call p)) are.0
-      ∙ (calls_same nothing (numbered number) wakes wakes_in (wakes_so number) x.0 x.0 calls.DropExecutor p
-      (record { refusal = refl; tells = tell.1; tells_so = tell.1; takes = tt })
-      ∙ ap (λ (z : Plain Output Waker). does wakes_in x.0 calls.DropExecutor z) is) in
       drop_acts_seen a.left r1 later (on x.0).1 (drop_seen (standing a.left a.party) r1 (on x.0).0)
-      ∙ ap (λ (z : Plain Output Waker). map shown_alike z.events)
-      (sym
-      (drop_acted a.left r1 later (on x.0).1 (does wakes x.0 x.1 p) xs (lie_in_drop (standing a.left a.party) r1 (on x.0).0) one are.1
-      tell.2))
+      ∙ ap (λ (z : Plain Output Waker). map shown_alike z.events) (sym (end_same a later r p x xs is are tell (on x.0)))
+
+  -- and once no call is in progress any more both stand alike
+  pub ends_rest : (a : Act) (later : List Act) (r : Plain Output Waker) (p : Plain T (SoloWaker X))
+      (ends : List (Choice × Call T (SoloWaker X))) → renamed nothing (numbered number) p ≡ r → EndOfSteps number a later p ends
+      → AllAside ends p
+      → ((d : Choice) → StandsDropping (standing a.left a.party) (does wakes_in d calls.DropExecutor r)
+      × DropActAlike a.left (does wakes_in d calls.DropExecutor r) later)
+      → Reached a.left → AreDropActs a.left later → IsQuiet (left_of a.left later).world.trace
+      → Follows (left_of a.left later).world (renamed nothing (numbered number) (course wakes ends p))
+  ends_rest a later r p [] is are tell on reached they quiet = absurd are
+  ends_rest a later r p (x ∷ xs) is are tell on reached they quiet =
+      let r1 : Plain Output Waker = does wakes_in x.0 calls.DropExecutor r in
+      subst (λ z. Follows (left_of a.left later).world z) (sym (end_same a later r p x xs is are tell (on x.0)))
+      (drop_acts_rest later a.left a.party r1 reached (on x.0).0 (on x.0).1 they quiet)

@@ -7,7 +7,6 @@ use Rattle.executor_parts.specs.declared.mark.Mark.TheVariants.{Plain as PlainMa
 use Rattle.plain_scheduler.specs.State.{ARun, Choice, Due, Plain, Run}
 use Rattle.plain_scheduler.specs.Lists.{any, without}
 use Rattle.plain_scheduler.specs.Moves.{chosen, is_common, is_kept, keeps, looks, up}
-use Rattle.plain_scheduler.specs.Takes as takes
 use Rattle.plain_scheduler.specs.Searches.{Search, finds}
 use Rattle.plain_scheduler.specs.Usual.{IsKeptByOthers, TakesAsUsual, beside, is_64th, keeping, next_ones, of_both, places, share}
 use Rattle.plain_scheduler.specs.Usual.{up_and_told}

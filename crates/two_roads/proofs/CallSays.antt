@@ -5,7 +5,6 @@ use Rattle.solo.specs.declared.owed.Lent.{Lent}
 use Rattle.solo.specs.declared.solo.Solo.{Solo}
 use Rattle.solo.specs.Lines.{mark_of_turn}
 use Rattle.plain_scheduler.specs.State.{Choice, Event, Plain}
-use Rattle.plain_scheduler.specs.Calls as calls
 use Rattle.plain_scheduler.specs.Calls.{Call}
 use Rattle.plain_laws.specs.Searches.{looks_first}
 use Rattle.machine_roads.proofs.Lists.{clash}

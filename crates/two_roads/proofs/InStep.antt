@@ -57,7 +57,7 @@ pub rest_still : (p : ℕ) (s : Machine) (t : Step) → party_of t ≡ p → ((q
     → stack (after_step s t) q ≡ []
 rest_still p s t its rest q apart = get_or-set_other s.parties (party_of t) q _ [] (λ same. apart (same ∙ its)) ∙ rest q apart
 
-abbrev OthersRest : ℕ → Machine → Type 0
+abbrev pub OthersRest : ℕ → Machine → Type 0
 OthersRest p s = (q : ℕ) → ¬ (q ≡ p) → stack s q ≡ []
 
 fewer : (n m t : ℕ) → n ≡ m → m < t → n ≤ t

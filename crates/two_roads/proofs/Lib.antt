@@ -1,8 +1,8 @@
 pub mod Words
 pub mod WaitingTasks
+pub mod CountsMore
 pub mod HandedOut
 pub mod OnlyBegun
-pub mod IdleActs
 pub mod TakenInActs
 pub mod PollsShown
 pub mod Tasks
@@ -20,6 +20,7 @@ pub mod StepAlike
 pub mod Plainly
 pub mod PlainCalls
 pub mod Both
+pub mod GoesIdle
 pub mod Inner
 pub mod InDrop
 pub mod Refusing
@@ -28,4 +29,9 @@ pub mod Acted
 pub mod ActedToEnd
 pub mod InStep
 pub mod InStepToEnd
+pub mod RefusedAlike
 pub mod Wished
+pub mod LoneActs
+pub mod AtRest
+pub mod DropAtRest
+pub mod Meeting

@@ -29,10 +29,12 @@ use Rattle.plain_scheduler.specs.State.{Run, Taker, Who, Yes}
 use Rattle.plain_scheduler.specs.Lists.{or}
 use Rattle.plain_scheduler.specs.Calls as calls
 use Rattle.plain_scheduler.specs.Calls.{Call, course, does, is_granted, new}
-use Rattle.plain_laws.specs.Order.{count, innermost_leads_to, last_begun, leaves_to, takes_alone}
+use Rattle.plain_laws.specs.Coming.{IsPart, has, lacks, no_more}
+use Rattle.plain_laws.specs.Order.{innermost_leads_to, last_begun, leaves_to, takes_alone}
 use Rattle.plain_laws.proofs.Words.{assoc, both_true, is_itself, map_both, same_number}
 use Rattle.plain_laws.proofs.InOrder.{last_of}
 use Rattle.solo_laws.specs.Alike.{cancelled, copies, lets_go, replaced_by}
+use Rattle.solo_laws.specs.Counting.{counts_of}
 use Rattle.solo_laws.specs.Courses.{Acts, Leads, Makes, cancels, copies as copies_it, detaches, drops_handle, ends_closed, ends_given}
 use Rattle.solo_laws.specs.Courses.{gives, leads, leaks, looks, loses, makes, makes_no_run, makes_no_tick, makes_run, makes_tick}
 use Rattle.solo_laws.specs.Courses.{over_dropped, over_polled, own_ready, pends, polls, refuses, releases, run_dropped, run_drops}
@@ -51,10 +53,8 @@ use Rattle.solo_laws.specs.Running.{drain_shows, more_left, told_left}
 use Rattle.solo_laws.specs.Shown.{call_shows, cancel_shows, detach_shows, drop_shows, end_shows, found_as, leak_shows, loses_or}
 use Rattle.solo_laws.specs.Shown.{answer_in, ended_in, polled_as, rings, rings_of, rings_without}
 use Rattle.solo_laws.specs.Tabled.{named}
-use Rattle.solo_laws.proofs.Following.Tallied.{Tallied, since}
 use Rattle.solo_laws.proofs.Showing.Courses.{Known, leads_alike, new_known}
-use Rattle.solo_laws.proofs.Showing.StillTallied.{empty_handed}
-use Rattle.two_roads.specs.InOrder.{IsPart, handed, handed_with, has, lacks, no_more, polls_in}
+use Rattle.two_roads.specs.InOrder.{handed, handed_with, polls_in}
 
 module _ {T A : Type 0} where
   polls_both : (xs ys : List (Event T A)) → polls_in (xs ++ ys) ≡ polls_in xs ++ polls_in ys
@@ -209,105 +209,91 @@ module _ {F T X : Type 0} where
   wake_none (Outside x) s = refl
 
 -- a run that goes on shows none, or takes one whose poll is shown last
-data Shows {T X : Type 0} (Less : Type 0) (runner : Runner) (owner : Owner) : List (Event T (SoloWaker X)) → Owner → Type 0 where
-  shows_none : (es : List (Event T (SoloWaker X))) (now : Owner) → polls_in es ≡ [] → Shows Less runner owner es now
-  shows_one : (xs : List (Event T (SoloWaker X))) (f : ℕ) → Less → polls_in xs ≡ []
-      → Shows Less runner owner (xs ++ Polls f ∷ []) (taken_by_run runner owner)
+data Shows {T X : Type 0} (runner : Runner) (owner : Owner) : List (Event T (SoloWaker X)) → Owner → Type 0 where
+  shows_none : (es : List (Event T (SoloWaker X))) (now : Owner) → polls_in es ≡ [] → Shows runner owner es now
+  shows_one : (xs : List (Event T (SoloWaker X))) (f : ℕ) → polls_in xs ≡ []
+      → Shows runner owner (xs ++ Polls f ∷ []) (taken_by_run runner owner)
 
 module _ {F : Type 0} (T : Type 0) {X : Type 0} (runner : Runner) (owner : Owner) where
-  found_show : (Less : Type 0) → Less → (o : Option X) (found : Found F)
-      → Shows {T = T} Less runner owner (rings o ++ found_as found) (taken_by_run runner owner)
-  found_show Less less o Nothing = shows_none (rings o ++ Answers No ∷ []) (taken_by_run runner owner) (rings_none o (Answers No ∷ []) refl)
-  found_show Less less o (FoundPoll lent future) = shows_one (rings o) lent.task.number less (ring_none T o)
-  found_show Less less o (FoundDrop lent future) =
+  found_show : (o : Option X) (found : Found F)
+      → Shows {T = T} runner owner (rings o ++ found_as found) (taken_by_run runner owner)
+  found_show o Nothing = shows_none (rings o ++ Answers No ∷ []) (taken_by_run runner owner) (rings_none o (Answers No ∷ []) refl)
+  found_show o (FoundPoll lent future) = shows_one (rings o) lent.task.number (ring_none T o)
+  found_show o (FoundDrop lent future) =
       shows_none (rings o ++ Drops lent.task.number ∷ []) (taken_by_run runner owner) (rings_none o (Drops lent.task.number ∷ []) refl)
-  found_show Less less o Gone = shows_none (rings o ++ []) (taken_by_run runner owner) (rings_none o [] refl)
+  found_show o Gone = shows_none (rings o ++ []) (taken_by_run runner owner) (rings_none o [] refl)
 
-  tick_show : (Less : Type 0) → Less → (out : Ticked F X) → Shows {T = T} Less runner owner (tick_shows out) (taken_by_run runner owner)
-  tick_show Less less out = found_show Less less out.sleeper (found_in out.look)
+  tick_show : (out : Ticked F X) → Shows {T = T} runner owner (tick_shows out) (taken_by_run runner owner)
+  tick_show out = found_show out.sleeper (found_in out.look)
 
 module _ {F T X : Type 0} (its : ℕ → Lent) (owner : Owner) (c : Choice) (runner : Runner) (w : SoloWaker X) where
-  searches_show : (Less : Type 0) → Less → (s : Solo F T X) (p : Plain T (SoloWaker X)) (shown : List (Event T (SoloWaker X)))
-      (now : Owner) (z : Solo F T X) → Searches its owner c runner w s p shown now z → Shows Less runner owner shown now
-  searches_show Less less s p shown now z (takes_own start task first keeps_are life) =
-      tick_show T runner owner Less less
+  searches_show : (s : Solo F T X) (p : Plain T (SoloWaker X)) (shown : List (Event T (SoloWaker X)))
+      (now : Owner) (z : Solo F T X) → Searches its owner c runner w s p shown now z → Shows runner owner shown now
+  searches_show s p shown now z (takes_own start task first keeps_are life) =
+      tick_show T runner owner
       (runs.found_answer runner (ticker_of owner.number (ARun runner.number) p.lying) None task false
       (steals.own_popped runner.number s)).ticked
-  searches_show Less less s p shown now z (takes_common start task first found turn keeps_are life) =
-      tick_show T runner owner Less less
+  searches_show s p shown now z (takes_common start task first found turn keeps_are life) =
+      tick_show T runner owner
       (runs.found_answer runner (ticker_of owner.number (ARun runner.number) p.lying) None task false
       (searched_further runner.number s)).ticked
-  searches_show Less less s p shown now z (robs_another start task first found turn finds robs moves keeps_are life) =
-      tick_show T runner owner Less less
+  searches_show s p shown now z (robs_another start task first found turn finds robs moves keeps_are life) =
+      tick_show T runner owner
       (runs.found_answer runner (ticker_of owner.number (ARun runner.number) p.lying) None task false
       (steals.walked runner.number start (searched_none runner.number s))).ticked
-  searches_show Less less s p shown now z (rests first second missed turn granted names more life) =
+  searches_show s p shown now z (rests first second missed turn granted names more life) =
       shows_none shown now
       (rings_none (run_rest_answer runner.number first second (ticker_of owner.number (ARun runner.number) p.lying) w s).sleeper
       (Answers Pending ∷ []) refl)
-  searches_show Less less s p shown now z (is_refused start missed turn refused) = shows_none shown now refl
-  searches_show Less less s p shown now z (lies_refused first second missed turn refused names again more life) =
+  searches_show s p shown now z (is_refused start missed turn refused) = shows_none shown now refl
+  searches_show s p shown now z (lies_refused first second missed turn refused names again more life) =
       shows_none shown now refl
 
   runs_on_show : (s : Solo F T X) (p : Plain T (SoloWaker X)) (shown : List (Event T (SoloWaker X))) (now : Owner) (z : Solo F T X)
-      → RunsOn its owner c runner w s p shown now z → Shows (owner.gives_way runner.number ≡ false) runner owner shown now
+      → RunsOn its owner c runner w s p shown now z → Shows runner owner shown now
   runs_on_show s p shown now z (looks_on shown' now' z' goes how) =
-      searches_show (owner.gives_way runner.number ≡ false) goes s p shown' now' z' how
+      searches_show s p shown' now' z' how
   runs_on_show s p shown now z (gives_way enough names life) = shows_none shown now (wake_none w s)
 
--- then the plain scheduler's run counts one more
-counts_up : (a b : ℕ) → nat_lt a 200 ≡ true → choose (nat_lt a 199) (a + 1) 0 ≡ since b
-    → nat_lt b 200 ≡ not (choose (nat_lt a 199) false true) → nat_lt a b ≡ true
-counts_up a b less = by (nat_lt a 199)
+-- then the run has counted another
+counted_on : (n : ℕ) → (n == choose (nat_lt n 63) (n + 1) 0) ≡ false
+counted_on n = by (nat_lt n 63) refl
   where
-    by : (x : Bool) → choose x (a + 1) 0 ≡ since b → nat_lt b 200 ≡ not (choose x false true) → nat_lt a b ≡ true
-    by true count few = let same = count ∙ ap (λ y. cond y b 0) few in grind (arith, nat_tests, same)
-    by false count enough = grind (arith, nat_tests, less, enough)
+    by : (b : Bool) → nat_lt n 63 ≡ b → (n == choose b (n + 1) 0) ≡ false
+    by true less = grind (arith, nat_tests)
+    by false enough = grind (arith, enough, nat_tests)
 
-module _ {T X : Type 0} (runner : Runner) (owner : Owner) (p q : Plain T (SoloWaker X)) (has_it : HasRunner runner owner)
-    (t : Tallied owner.runner owner.gives_way p)
-    (u : Tallied (taken_by_run runner owner).runner (taken_by_run runner owner).gives_way q)
-    (less : nat_lt (count runner.number p) 200 ≡ true) where
-  its_count : runner.taken ≡ count runner.number p
-  its_count =
-      sym (ap (λ (x : Runner). x.taken) has_it)
-      ∙ (t.taken runner.number ∙ ap (λ b. cond b (count runner.number p) 0) less)
-
-  up : nat_lt (count runner.number p) (count runner.number q) ≡ true
-  up =
-      let r = runner.number in
-      counts_up (count r p) (count r q) less
-      (ap (λ n. choose (nat_lt n 199) (n + 1) 0) (sym its_count)
-      ∙ (sym (ap (λ b. (cond b (runs.taken (runs.counted runner)) (owner.runner r)).taken) (is_itself r)) ∙ u.taken r))
-      (u.gives_way r
-      ∙ (ap (λ b. not (cond b (runs.gives_way runner) (owner.gives_way r))) (is_itself r)
-      ∙ ap (λ n. not (choose (nat_lt n 199) false true)) its_count))
+one_more : (runner : Runner) (owner : Owner) → HasRunner runner owner
+    → (counts_of owner runner.number == counts_of (taken_by_run runner owner) runner.number) ≡ false
+one_more runner owner has_it =
+    ap (λ (x : Runner). x.counted == counts_of (taken_by_run runner owner) runner.number) has_it
+    ∙ (ap (λ b. runner.counted == (cond b (runs.taken (runs.counted runner)) (owner.runner runner.number)).counted)
+    (is_itself runner.number)
+    ∙ counted_on runner.counted)
 
 -- of one call
-data Polled1 {T X : Type 0} (r : ℕ) (p q : Plain T (SoloWaker X)) : List (Event T (SoloWaker X)) → Type 0 where
-  polls_none : (es : List (Event T (SoloWaker X))) → polls_in es ≡ [] → Polled1 r p q es
-  polls_one : (xs : List (Event T (SoloWaker X))) (f : ℕ) → polls_in xs ≡ [] → nat_lt (count r p) (count r q) ≡ true
-      → Polled1 r p q (xs ++ Polls f ∷ [])
+data Polled1 {T X : Type 0} (r : ℕ) (before now : Owner) : List (Event T (SoloWaker X)) → Type 0 where
+  polls_none : (es : List (Event T (SoloWaker X))) → polls_in es ≡ [] → Polled1 r before now es
+  polls_one : (xs : List (Event T (SoloWaker X))) (f : ℕ) → polls_in xs ≡ [] → (counts_of before r == counts_of now r) ≡ false
+      → Polled1 r before now (xs ++ Polls f ∷ [])
 
 never : {X : Type 0} → false ≡ true → X
 never is = absurd cc
 
 module _ {T X : Type 0} (r : ℕ) where
-  from_shows : (runner : Runner) (owner : Owner) (p q : Plain T (SoloWaker X)) (Less : Type 0) → (r == runner.number) ≡ true
-      → HasRunner runner owner → Tallied owner.runner owner.gives_way p
-      → (Less → nat_lt (count runner.number p) 200 ≡ true) → (now : Owner) (shown : List (Event T (SoloWaker X)))
-      → Tallied now.runner now.gives_way q → Shows Less runner owner shown now → Polled1 r p q shown
-  from_shows runner owner p q Less is has_it t less now shown u (shows_none es now' none) = polls_none es none
-  from_shows runner owner p q Less is has_it t less now shown u (shows_one xs f so none) =
+  from_shows : (runner : Runner) (owner : Owner) → (r == runner.number) ≡ true → HasRunner runner owner → (now : Owner)
+      (shown : List (Event T (SoloWaker X))) → Shows runner owner shown now → Polled1 r owner now shown
+  from_shows runner owner is has_it now shown (shows_none es now' none) = polls_none es none
+  from_shows runner owner is has_it now shown (shows_one xs f none) =
       polls_one xs f none
-      (subst (λ k. nat_lt (count k p) (count k q) ≡ true) (sym (same_number r runner.number is))
-      (up runner owner p q has_it t u (less so)))
+      (subst (λ k. (counts_of owner k == counts_of (taken_by_run runner owner) k) ≡ false) (sym (same_number r runner.number is))
+      (one_more runner owner has_it))
 
-  behind : (p q : Plain T (SoloWaker X)) (xs ys : List (Event T (SoloWaker X))) → polls_in xs ≡ [] → Polled1 r p q ys
-      → Polled1 r p q (xs ++ ys)
-  behind p q xs ys none (polls_none es nothing) = polls_none (xs ++ es) (both_none xs es none nothing)
-  behind p q xs ys none (polls_one zs f nothing more) =
-      subst (λ es. Polled1 r p q es) (assoc xs zs (Polls f ∷ [])) (polls_one (xs ++ zs) f (both_none xs zs none nothing) more)
+  behind : (before now : Owner) (xs ys : List (Event T (SoloWaker X))) → polls_in xs ≡ [] → Polled1 r before now ys
+      → Polled1 r before now (xs ++ ys)
+  behind before now xs ys none (polls_none es nothing) = polls_none (xs ++ es) (both_none xs es none nothing)
+  behind before now xs ys none (polls_one zs f nothing more) =
+      subst (λ es. Polled1 r before now es) (assoc xs zs (Polls f ∷ [])) (polls_one (xs ++ zs) f (both_none xs zs none nothing) more)
 
   here_so : (stage : Stage T (SoloWaker X)) (k : ℕ) (w : SoloWaker X) (rest : List (Code T (SoloWaker X))) (call : Call T (SoloWaker X))
       → IsEnding stage call → leaves_to r call (code_at stage (Run k w) ∷ rest) ≡ true → ((r == k) ≡ true) × (tries call ≡ false)
@@ -334,66 +320,62 @@ module _ {T X : Type 0} where
   every q fs = fs
 
 module _ {T X : Type 0} (its : ℕ → Lent) (r : ℕ) where
-  one_part : (seen shown : List (Event T (SoloWaker X))) (p q : Plain T (SoloWaker X)) → Polled1 r p q shown
-      → IsPart (map (named its) (polls_in shown)) (handed_with its r every (seen ++ shown) p q)
-  one_part seen shown p q (polls_none es none) =
-      subst (λ l. IsPart (map (named its) l) (handed_with its r every (seen ++ es) p q)) (sym none)
-      (part_none (handed_with its r every (seen ++ es) p q))
-  one_part seen shown p q (polls_one xs f none more) =
+  one_part : (before now : Owner) (seen shown : List (Event T (SoloWaker X))) (q : Plain T (SoloWaker X)) → Polled1 r before now shown
+      → IsPart (map (named its) (polls_in shown)) (handed_with its r every before now (seen ++ shown) q)
+  one_part before now seen shown q (polls_none es none) =
+      subst (λ l. IsPart (map (named its) l) (handed_with its r every before now (seen ++ es) q)) (sym none)
+      (part_none (handed_with its r every before now (seen ++ es) q))
+  one_part before now seen shown q (polls_one xs f none more) =
       let last : last_begun (seen ++ (xs ++ Polls f ∷ [])) ≡ f ∷ [] =
       ap (λ es. last_begun es) (sym (assoc seen xs (Polls f ∷ []))) ∙ last_of (seen ++ xs) (Polls f) in
-      subst (λ l. IsPart (map (named its) l) (handed_with its r every (seen ++ (xs ++ Polls f ∷ [])) p q))
+      subst (λ l. IsPart (map (named its) l) (handed_with its r every before now (seen ++ (xs ++ Polls f ∷ [])) q))
       (sym (polls_both xs (Polls f ∷ []) ∙ ap (λ l. l ++ f ∷ []) none))
       (subst (λ l. IsPart (named its f ∷ []) (map (named its) l))
-      (sym (ap (λ b. cond b (last_begun (seen ++ (xs ++ Polls f ∷ []))) []) more ∙ last))
+      (sym (ap (λ b. cond b [] (last_begun (seen ++ (xs ++ Polls f ∷ [])))) more ∙ last))
       (has (named its f) [] [] no_more))
 
 module _ {F T X : Type 0} (its : ℕ → Lent) (r : ℕ) where
   acts_show : (owner : Owner) (c : Choice) (s : Solo F T X) (p : Plain T (SoloWaker X)) (now : Owner) (z : Solo F T X)
-      (call : Call T (SoloWaker X)) (shown : List (Event T (SoloWaker X))) (q : Plain T (SoloWaker X)) → Known its owner s p
-      → Tallied now.runner now.gives_way q → leaves_to r call p.inside ≡ true → Acts its owner c s p call shown now z
-      → Polled1 r p q shown
-  acts_show owner c s p now z call shown q known u may (makes call' shown' z' how) =
+      (call : Call T (SoloWaker X)) (shown : List (Event T (SoloWaker X))) → leaves_to r call p.inside ≡ true
+      → Acts its owner c s p call shown now z → Polled1 r owner now shown
+  acts_show owner c s p now z call shown may (makes call' shown' z' how) =
       polls_none shown' (makes_none its c s z' p call' shown' (not_try r call' p.inside may) how)
-  acts_show owner c s p now z call shown q known u may (makes_tick t new granted) = polls_none shown refl
-  acts_show owner c s p now z call shown q known u may (tick_takes t w task lives found first life) = never may
-  acts_show owner c s p now z call shown q known u may (tick_rests t w lives none first granted names more life) = never may
-  acts_show owner c s p now z call shown q known u may (makes_run granted few) = polls_none shown refl
-  acts_show owner c s p now z call shown q known u may (makes_no_run refused) = polls_none shown refl
-  acts_show owner c s p now z call shown q known u may (run_polled runner w going free) = polls_none shown refl
-  acts_show owner c s p now z call shown q known u may (over_polled k w over) = polls_none shown refl
-  acts_show owner c s p now z call shown q known u may (own_ready k w v rest stands_in) = polls_none shown refl
-  acts_show owner c s p now z call shown q known u may (run_looks runner w rest shown' now' z' its_runner is how) =
-      let out = record p { inside = rest } in
-      let less = empty_handed owner.runner owner.gives_way runner.number w rest p is known.once known.tallied in
-      from_shows r runner owner p q (Unit {0}) (sym (ap (λ cs. innermost_leads_to r cs) is) ∙ may) its_runner known.tallied (λ so. less)
-      now' shown' u (searches_show its owner c runner w (Unit {0}) tt s out shown' now' z' how)
-  acts_show owner c s p now z call shown q known u may
+  acts_show owner c s p now z call shown may (makes_tick t new granted) = polls_none shown refl
+  acts_show owner c s p now z call shown may (tick_takes t w task lives found first life) = never may
+  acts_show owner c s p now z call shown may (tick_rests t w lives none first granted names more life) = never may
+  acts_show owner c s p now z call shown may (makes_run granted few) = polls_none shown refl
+  acts_show owner c s p now z call shown may (makes_no_run refused) = polls_none shown refl
+  acts_show owner c s p now z call shown may (run_polled runner w going free) = polls_none shown refl
+  acts_show owner c s p now z call shown may (over_polled k w over) = polls_none shown refl
+  acts_show owner c s p now z call shown may (own_ready k w v rest stands_in) = polls_none shown refl
+  acts_show owner c s p now z call shown may (run_looks runner w rest shown' now' z' its_runner is how) =
+      from_shows r runner owner (sym (ap (λ cs. innermost_leads_to r cs) is) ∙ may) its_runner now' shown'
+      (searches_show its owner c runner w s (record p { inside = rest }) shown' now' z' how)
+  acts_show owner c s p now z call shown may
       (run_goes_on stage runner w rest call' first others now' y z' o is ends how on) =
       let tried = in_try stage rest p in
       let here = here_so r stage runner.number w rest call' ends (subst (λ cs. leaves_to r call' cs ≡ true) is may) in
       let none =
       first_none first (Answers Yes ∷ []) (makes_none its c s y tried call' (first ++ Answers Yes ∷ []) here.1 how) in
-      behind r p q first others none
-      (from_shows r runner owner p q (owner.gives_way runner.number ≡ false) here.0 o known.tallied
-      (λ goes. known.tallied.gives_way runner.number ∙ ap not goes) now' others u
+      behind r owner now' first others none
+      (from_shows r runner owner here.0 o now' others
       (runs_on_show its owner c runner w y (record (does wakes c call' tried) { events = p.events ++ first }) others now' z' on))
-  acts_show owner c s p now z call shown q known u may (run_drops stage k w rest call' first f z' is ends how) =
+  acts_show owner c s p now z call shown may (run_drops stage k w rest call' first f z' is ends how) =
       polls_none shown (makes_none its c s z' (in_try stage rest p) call' (first ++ Drops f ∷ []) (ends_no_try r stage call' ends) how)
-  acts_show owner c s p now z call shown q known u may (run_loses stage k w rest call' first v z' is ends how) =
+  acts_show owner c s p now z call shown may (run_loses stage k w rest call' first v z' is ends how) =
       polls_none shown (makes_none its c s z' (in_try stage rest p) call' (first ++ Loses v ∷ []) (ends_no_try r stage call' ends) how)
-  acts_show owner c s p now z call shown q known u may (run_dropped k going free) = polls_none shown refl
-  acts_show owner c s p now z call shown q known u may (over_dropped k over) = polls_none shown refl
-  acts_show owner c s p now z call shown q known u may (run_leaves runner answer rest stands_in life) =
+  acts_show owner c s p now z call shown may (run_dropped k going free) = polls_none shown refl
+  acts_show owner c s p now z call shown may (over_dropped k over) = polls_none shown refl
+  acts_show owner c s p now z call shown may (run_leaves runner answer rest stands_in life) =
       let ticker = ticker_of owner.number (ARun runner.number) p.lying in
       polls_none shown
       (both_none (drain_shows (suc (count_of_own runner.number s.runs)) (runs.leave_answer runner ticker s) (runs.left runner s))
       (Answers answer ∷ [])
       (drain_none (suc (count_of_own runner.number s.runs)) (runs.leave_answer runner ticker s) (runs.left runner s)) refl)
-  acts_show owner c s p now z call shown q known u may (makes_no_tick refused) = polls_none shown refl
-  acts_show owner c s p now z call shown q known u may (tick_refused t w lives none first refused) = never may
-  acts_show owner c s p now z call shown q known u may (tick_lies_refused t w lives none first refused names again more life) = never may
-  acts_show owner c s p now z call shown q known u may (tick_leaves t lives life) =
+  acts_show owner c s p now z call shown may (makes_no_tick refused) = polls_none shown refl
+  acts_show owner c s p now z call shown may (tick_refused t w lives none first refused) = never may
+  acts_show owner c s p now z call shown may (tick_lies_refused t w lives none first refused names again more life) = never may
+  acts_show owner c s p now z call shown may (tick_leaves t lives life) =
       polls_none shown
       (rings_none (ticks.leave_answer (ticker_of owner.number (ATick t) p.lying) s).told.sleeper (Answers Done ∷ []) refl)
 
@@ -407,10 +389,10 @@ module _ {F T X : Type 0} (its : ℕ → Lent) (r : ℕ) where
       let one =
       leads_alike its ((c, call) ∷ []) begun now s' y p' (some ++ []) known
       (leads c call [] begun now now s' y y p' some [] many acts (stays now y q)) in
-      let first = one_part its r seen some p' q (acts_show begun c s' p' now y call some q known one.0.tallied both.0 acts) in
-      subst (λ l. IsPart l (handed_with its r every (seen ++ some) p' q ++ handed its r every (seen ++ some) how))
+      let first = one_part its r begun now seen some q (acts_show begun c s' p' now y call some both.0 acts) in
+      subst (λ l. IsPart l (handed_with its r every begun now (seen ++ some) q ++ handed its r every (seen ++ some) how))
       (sym (ap (map (named its)) (polls_both some others) ∙ map_both (named its) (polls_in some) (polls_in others)))
-      (part_both (map (named its) (polls_in some)) (handed_with its r every (seen ++ some) p' q) (map (named its) (polls_in others))
+      (part_both (map (named its) (polls_in some)) (handed_with its r every begun now (seen ++ some) q) (map (named its) (polls_in others))
       (handed its r every (seen ++ some) how) first (all_part rest now later y z' q others (seen ++ some) one.0 both.1 how))
 
   pub polls_part : (limit : ℕ) (kind : Kind) (is_static : Bool) (calls_before cs : List (Choice × Call T (SoloWaker X)))

@@ -14,24 +14,30 @@ use Rattle.plain_scheduler.specs.State.{NoMemory, Pending, Plain, Polls, Ready, 
 use Rattle.plain_scheduler.specs.Lists.{any}
 use Rattle.plain_scheduler.specs.Moves.{is_common, is_kept}
 use Rattle.plain_scheduler.specs.Calls.{Call, course, does, new}
-use Rattle.plain_laws.specs.Order.{InOrder, InWholeOrder, IsAlone, IsOnlyBegun, all_came, all_came_with, all_go_idle, all_taken, begun_by}
-use Rattle.plain_laws.specs.Order.{came, came_with, count, is_kept_of, is_others, is_unkept, is_urgent, last_begun, line}
-use Rattle.plain_laws.specs.Order.{of_mark, taken, took, whole_line}
-use Rattle.plain_laws.proofs.Words.{Each, filter_none, map_both, none_as}
+use Rattle.plain_laws.specs.Order.{InOrder, InWholeOrder, IsAlone, IsOnlyBegun, all_came, all_came_with, all_taken, begun_by}
+use Rattle.plain_laws.specs.Order.{came, came_with, count, is_kept_of, is_others, is_over, is_unkept, is_urgent, last_begun, leaves_to}
+use Rattle.plain_laws.specs.Order.{line}
+use Rattle.plain_laws.specs.Order.{of_mark, taken, takes_alone, took, whole_line}
+use Rattle.plain_laws.proofs.Words.{Each, both_true, filter_none, map_both, none_as}
 use Rattle.plain_laws.proofs.Lines.{kept_by_other}
 use Rattle.plain_laws.proofs.Begun.{only_one}
 use Rattle.plain_laws.proofs.Marked.{IsMarked, Marked, are_marked, mark_of as its_mark}
-use Rattle.plain_laws.proofs.InOrder.{in_order}
+use Rattle.plain_laws.proofs.InOrder.{in_order, one_so}
 use Rattle.plain_laws.proofs.Altogether.{ArePlain, all_in_order, are_plain, unkept_so, were_plain}
+use Rattle.machine_roads.specs.Choosing.{has_counted}
 use Rattle.machine_roads.specs.DropActs.{plain_behind}
 use Rattle.machine_roads.specs.Road.{Follows, counted_anew, run_view}
 use Rattle.machine_roads.specs.Seeing.{heard_in, shown as shown_alike}
 use Rattle.machine_roads.specs.View.{Output, wakes}
-use Rattle.machine_roads.specs.Within.{Act, ActAlike, standing}
+use Rattle.machine_roads.specs.Within.{Act, ActAlike, AreActs, standing}
+use Rattle.machine_roads.proofs.Runs.{over_is}
 use Rattle.solo_laws.proofs.Following.Lists.{length_map}
 use Rattle.two_roads.specs.Acting.{acts_by, left_of}
-use Rattle.two_roads.specs.ActsInOrder.{IsAloneInActs, all_wait_in, come_in, line_of_all, line_of_mark, taken_in, taken_with, wait_in}
+use Rattle.two_roads.specs.ActsInOrder.{IsAloneInActs, IsOnlyBegunInActs, all_wait_in, come_in, line_of_all, line_of_mark, taken_in}
+use Rattle.two_roads.specs.ActsInOrder.{taken_with, wait_in}
 use Rattle.two_roads.proofs.Both.{course_of_both}
+use Rattle.two_roads.proofs.CountsMore.{counts_more}
+use Rattle.two_roads.proofs.GoesIdle.{all_idle}
 use Rattle.two_roads.proofs.InDrop.{acts_come}
 use Rattle.two_roads.proofs.Inner.{seen_in}
 use Rattle.two_roads.proofs.WaitingTasks.{others_none, there_below}
@@ -120,44 +126,69 @@ module _ (w : World) (p : Plain Output Waker) (so : Follows w p) where
       (subst (λ n. r < n)
       (sym (length_map run_view w.runs) ∙ (ap (λ (rs : List Running). length rs) so.runs ∙ length_map counted_anew p.runs)) below)
 
+turned_round : (b : Bool) (xs : List ℕ) → cond (not b) [] xs ≡ cond b xs []
+turned_round true xs = refl
+turned_round false xs = refl
+
 -- what is taken in acts, of what is looked at, is what the plain scheduler takes in its calls
-module _ (r : ℕ) (of : Plain Output Waker → List ℕ → List ℕ) where
-  abbrev takes_in : List (Choice × Call Output Waker) → Plain Output Waker → List ℕ
-  takes_in [] p = []
-  takes_in (c ∷ cs) p = of (does wakes c.0 c.1 p) (took r p (does wakes c.0 c.1 p)) ++ takes_in cs (does wakes c.0 c.1 p)
+module _ (r : ℕ) where
+  -- where the run is there and alone takes
+  abbrev TakesOn : Plain Output Waker → List (Choice × Call Output Waker) → Type 0
+  TakesOn p cs =
+      Marked p × (is_some (slice_get p.runs r) ≡ true) × (any (is_others r) p.due ≡ false) × (takes_alone wakes r cs p ≡ true)
 
-  taken_one : (a : Act) (q z : Plain Output Waker) → heard_in a.left.world.trace ≡ map shown_alike z.events
-      → taken_with r of a.left.world.trace q z ≡ of z (took r q z)
-  taken_one a q z seen =
-      ap (λ l. of z (cond (nat_lt (count r q) (count r z)) l []))
-      (ap (λ es. last_begun es) seen ∙ last_so z.events)
+  goes_on : (s : Machine) (q : Plain Output Waker) (a : Act) (acts : List Act) (go : ActAlike s q (a ∷ acts))
+      → TakesOn q (acts_by s q (a ∷ acts) go) → TakesOn go.0 (acts_by a.left go.0 acts go.3)
+  goes_on s q a acts go on =
+      let cs = acts_by a.left go.0 acts go.3 in
+      let both = both_true (leaves_to r go.1.made q.inside) (takes_alone wakes r cs (does wakes go.1.choice go.1.made q)) on.3 in
+      let one = one_so r wakes go.1.choice go.1.made q on.0 on.1 on.2 both.0 in
+      subst (λ z. TakesOn z cs) go.1.so (one.marked, one.is_there, one.alone, both.1)
 
-  taken_in_so : (s : Machine) (q : Plain Output Waker) (acts : List Act) (go : ActAlike s q acts)
-      → taken_in r of s q acts go ≡ takes_in (acts_by s q acts go) q
-  taken_in_so s q [] go = refl
-  taken_in_so s q (a ∷ acts) go =
-      ap (λ l. l ++ taken_in r of a.left go.0 acts go.3) (taken_one a q go.0 (seen_in (standing a.left a.party) go.0 go.2))
-      ∙ (ap (λ l. of go.0 (took r q go.0) ++ l) (taken_in_so a.left go.0 acts go.3)
-      ∙ subst (λ z. of go.0 (took r q go.0) ++ takes_in (acts_by a.left go.0 acts go.3) go.0
-      ≡ of z (took r q z) ++ takes_in (acts_by a.left go.0 acts go.3) z) (sym go.1.so) refl)
+  module _ (of : Plain Output Waker → List ℕ → List ℕ) where
+    abbrev takes_in : List (Choice × Call Output Waker) → Plain Output Waker → List ℕ
+    takes_in [] p = []
+    takes_in (c ∷ cs) p = of (does wakes c.0 c.1 p) (took r p (does wakes c.0 c.1 p)) ++ takes_in cs (does wakes c.0 c.1 p)
 
-  module _ (waiting : Plain Output Waker → List ℕ) where
-    abbrev came_one : Plain Output Waker → Plain Output Waker → List ℕ
-    came_one p q = drop (length (waiting p)) (of q (took r p q) ++ waiting q)
+    taken_one : (s : Machine) (q : Plain Output Waker) (a : Act) (acts : List Act) (go : ActAlike s q (a ∷ acts))
+        → is_some (slice_get q.runs r) ≡ true → taken_with r of s.world a.left.world go.0 ≡ of go.0 (took r q go.0)
+    taken_one s q a acts go there =
+        let z = go.0 in
+        let it = go.1 in
+        let more : (has_counted s.world r == has_counted a.left.world r) ≡ not (nat_lt (count r q) (count r z)) =
+        subst (λ z. (has_counted s.world r == has_counted a.left.world r) ≡ not (nat_lt (count r q) (count r z))) it.so
+        (counts_more wakes it.choice r it.made q (has_counted s.world) there (has_counted a.left.world r) (it.chooses.counted r)) in
+        ap (λ b. of z (cond b [] (last_begun (heard_in a.left.world.trace)))) more
+        ∙ (ap (of z) (turned_round (nat_lt (count r q) (count r z)) (last_begun (heard_in a.left.world.trace)))
+        ∙ ap (λ l. of z (cond (nat_lt (count r q) (count r z)) l []))
+        (ap (λ es. last_begun es) (seen_in (standing a.left a.party) z go.2) ∙ last_so z.events))
 
-    abbrev comes_in : List (Choice × Call Output Waker) → Plain Output Waker → List ℕ
-    comes_in [] p = []
-    comes_in (c ∷ cs) p = came_one p (does wakes c.0 c.1 p) ++ comes_in cs (does wakes c.0 c.1 p)
+    taken_in_so : (s : Machine) (q : Plain Output Waker) (acts : List Act) (go : ActAlike s q acts) → TakesOn q (acts_by s q acts go)
+        → taken_in r of s q acts go ≡ takes_in (acts_by s q acts go) q
+    taken_in_so s q [] go on = refl
+    taken_in_so s q (a ∷ acts) go on =
+        ap (λ l. l ++ taken_in r of a.left go.0 acts go.3) (taken_one s q a acts go on.1)
+        ∙ (ap (λ l. of go.0 (took r q go.0) ++ l) (taken_in_so a.left go.0 acts go.3 (goes_on s q a acts go on))
+        ∙ subst (λ z. of go.0 (took r q go.0) ++ takes_in (acts_by a.left go.0 acts go.3) go.0
+        ≡ of z (took r q z) ++ takes_in (acts_by a.left go.0 acts go.3) z) (sym go.1.so) refl)
 
-    come_in_so : (s : Machine) (q : Plain Output Waker) (acts : List Act) (go : ActAlike s q acts)
-        → come_in r of waiting s q acts go ≡ comes_in (acts_by s q acts go) q
-    come_in_so s q [] go = refl
-    come_in_so s q (a ∷ acts) go =
-        ap (λ l. drop (length (waiting q)) (l ++ waiting go.0) ++ come_in r of waiting a.left go.0 acts go.3)
-        (taken_one a q go.0 (seen_in (standing a.left a.party) go.0 go.2))
-        ∙ (ap (λ l. came_one q go.0 ++ l) (come_in_so a.left go.0 acts go.3)
-        ∙ subst (λ z. came_one q go.0 ++ comes_in (acts_by a.left go.0 acts go.3) go.0
-        ≡ came_one q z ++ comes_in (acts_by a.left go.0 acts go.3) z) (sym go.1.so) refl)
+    module _ (waiting : Plain Output Waker → List ℕ) where
+      abbrev came_one : Plain Output Waker → Plain Output Waker → List ℕ
+      came_one p q = drop (length (waiting p)) (of q (took r p q) ++ waiting q)
+
+      abbrev comes_in : List (Choice × Call Output Waker) → Plain Output Waker → List ℕ
+      comes_in [] p = []
+      comes_in (c ∷ cs) p = came_one p (does wakes c.0 c.1 p) ++ comes_in cs (does wakes c.0 c.1 p)
+
+      come_in_so : (s : Machine) (q : Plain Output Waker) (acts : List Act) (go : ActAlike s q acts) → TakesOn q (acts_by s q acts go)
+          → come_in r of waiting s q acts go ≡ comes_in (acts_by s q acts go) q
+      come_in_so s q [] go on = refl
+      come_in_so s q (a ∷ acts) go on =
+          ap (λ l. drop (length (waiting q)) (l ++ waiting go.0) ++ come_in r of waiting a.left go.0 acts go.3)
+          (taken_one s q a acts go on.1)
+          ∙ (ap (λ l. came_one q go.0 ++ l) (come_in_so a.left go.0 acts go.3 (goes_on s q a acts go on))
+          ∙ subst (λ z. came_one q go.0 ++ comes_in (acts_by a.left go.0 acts go.3) go.0
+          ≡ came_one q z ++ comes_in (acts_by a.left go.0 acts go.3) z) (sym go.1.so) refl)
 
 abbrev every : Plain Output Waker → List ℕ → List ℕ
 every q fs = fs
@@ -234,18 +265,21 @@ module _ (limit : ℕ) (kind : Kind) (parties : ℕ) (before acts : List Act)
         takes_alone = alone.takes_alone;
       }
 
+  takes_on : TakesOn r q calls
+  takes_on = (marked, is_alone.is_there, is_alone.keeps_alone, is_alone.takes_alone)
+
   pub acts_in_order : (m : Mark)
       → taken_in r (of_mark m) s q acts on ++ wait_in m r (left_of s acts).world
       ≡ wait_in m r s.world ++ come_in r (of_mark m) (line_of_mark m r) s q acts on
   acts_in_order m =
-      ap (λ l. l ++ wait_in m r (left_of s acts).world) (taken_in_so r (of_mark m) s q acts on ∙ taken_same r m calls q)
+      ap (λ l. l ++ wait_in m r (left_of s acts).world) (taken_in_so r (of_mark m) s q acts on takes_on ∙ taken_same r m calls q)
       ∙ (ap (λ l. taken wakes m r calls q ++ l)
       (wait_so (left_of s acts).world z ends marked_then m r ∙ ap (λ (p : Plain Output Waker). line m r p.due) (sym z_is))
       ∙ (subst (λ p. IsAlone wakes r calls p → InOrder wakes r calls p) q_is
       (λ so. in_order r wakes limit (is_static_kind kind) calls_before calls so) is_alone m
       ∙ (ap (λ l. l ++ came wakes m r calls q) (sym (wait_so s.world q begins marked m r))
       ∙ ap (λ l. wait_in m r s.world ++ l)
-      (sym (come_in_so r (of_mark m) (line_of_mark m r) s q acts on ∙ came_same r m calls q)))))
+      (sym (come_in_so r (of_mark m) (line_of_mark m r) s q acts on takes_on ∙ came_same r m calls q)))))
 
   pub all_acts_in_order : any is_urgent z.futures ≡ false
       → taken_in r every s q acts on ++ all_wait_in r (left_of s acts).world
@@ -255,7 +289,7 @@ module _ (limit : ℕ) (kind : Kind) (parties : ℕ) (before acts : List Act)
       let plain_now =
       were_plain r wakes calls q marked is_alone.is_there is_alone.keeps_alone is_alone.takes_alone
       (subst (λ (p : Plain Output Waker). ArePlain p.futures) (sym z_is) plain_then) in
-      ap (λ l. l ++ all_wait_in r (left_of s acts).world) (taken_in_so r every s q acts on ∙ all_taken_same r calls q)
+      ap (λ l. l ++ all_wait_in r (left_of s acts).world) (taken_in_so r every s q acts on takes_on ∙ all_taken_same r calls q)
       ∙ (ap (λ l. all_taken wakes r calls q ++ l)
       (all_wait_so (left_of s acts).world z ends (unkept_so z marked_then plain_then) r
       ∙ ap (λ (p : Plain Output Waker). whole_line r p.due) (sym z_is))
@@ -264,24 +298,29 @@ module _ (limit : ℕ) (kind : Kind) (parties : ℕ) (before acts : List Act)
       (subst (λ (p : Plain Output Waker). any is_urgent p.futures ≡ false) (sym z_is) none)
       ∙ (ap (λ l. l ++ all_came wakes r calls q) (sym (all_wait_so s.world q begins (unkept_so q marked plain_now) r))
       ∙ ap (λ l. all_wait_in r s.world ++ l)
-      (sym (come_in_so r every (line_of_all r) s q acts on ∙ all_came_same r calls q)))))
+      (sym (come_in_so r every (line_of_all r) s q acts on takes_on ∙ all_came_same r calls q)))))
 
 -- and nothing stands in the own queue of another run where one alone is begun
-pub none_begun : (limit : ℕ) (kind : Kind) (parties : ℕ) (before : List Act)
-    (go : ActAlike (start limit kind parties) (new limit (is_static_kind kind)) before) (r : ℕ)
-    → all_go_idle wakes (acts_by (start limit kind parties) (new limit (is_static_kind kind)) before go) (new limit (is_static_kind kind))
-    ≡ true
-    → IsOnlyBegun wakes r (acts_by (start limit kind parties) (new limit (is_static_kind kind)) before go) (new limit (is_static_kind kind))
+pub none_begun : (limit : ℕ) (kind : Kind) (parties : ℕ) (before : List Act) → AreActs (start limit kind parties) before
+    → (go : ActAlike (start limit kind parties) (new limit (is_static_kind kind)) before) (r : ℕ)
+    → IsOnlyBegunInActs r (acts_by (start limit kind parties) (new limit (is_static_kind kind)) before go)
+    (left_of (start limit kind parties) before).world
     → Follows (left_of (start limit kind parties) before).world
     (plain_behind before (start limit kind parties) (new limit (is_static_kind kind)) go)
     → (k : ℕ) → (r == k) ≡ false → own_of (left_of (start limit kind parties) before).world k ≡ []
-none_begun limit kind parties before go r idle only follows k away =
+none_begun limit kind parties before are go r only follows k away =
     let first : Plain Output Waker = new limit (is_static_kind kind) in
     let cs = acts_by (start limit kind parties) first before go in
     let q = plain_behind before (start limit kind parties) first go in
+    let come = acts_come before (start limit kind parties) first go in
+    let begun : IsOnlyBegun wakes r cs first =
+    λ j polled going.
+    only j polled
+    (sym (over_is (left_of (start limit kind parties) before).world.runs q.runs follows.runs j)
+    ∙ (sym (ap (λ (p : Plain Output Waker). is_over j p) come) ∙ going)) in
     let none : any (is_others r) q.due ≡ false =
-    subst (λ (p : Plain Output Waker). any (is_others r) p.due ≡ false) (acts_come before (start limit kind parties) first go)
-    (only_one wakes limit (is_static_kind kind) cs r idle only) in
+    subst (λ (p : Plain Output Waker). any (is_others r) p.due ≡ false) come
+    (only_one wakes limit (is_static_kind kind) cs r (all_idle limit kind parties before are go) begun) in
     follows.kept k
     ∙ ap (map (λ (d : Due). d.future))
     (filter_none (is_kept k) (is_kept k) (λ d is. is) q.due

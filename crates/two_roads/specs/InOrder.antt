@@ -1,5 +1,5 @@
 -- In which order a run takes futures from an executor of one owner, read off its queues and what it shows.
-use Rattle.std.specs.Prelude.{◌≡◌, ℕ, ◌<◌, ◌==◌, nat_lt, true, false, if◌then◌else◌, List, [], ◌∷◌, ◌++◌, length, map, filter, drop}
+use Rattle.std.specs.Prelude.{◌≡◌, ℕ, ◌<◌, ◌==◌, true, false, if◌then◌else◌, List, [], ◌∷◌, ◌++◌, length, map, filter, drop}
 use Rattle.std.specs.Prelude.{None, is_some}
 use Rattle.executor_parts.specs.declared.mark.Mark.{Mark}
 use Rattle.executor_parts.specs.declared.mark.Mark.TheVariants.{Plain as PlainMark}
@@ -14,7 +14,8 @@ use Rattle.solo.specs.OwnQueues.{first_of, queue_of}
 use Rattle.plain_scheduler.specs.State.{Choice, Event, Plain, Polls}
 use Rattle.plain_scheduler.specs.Lists.{or}
 use Rattle.plain_scheduler.specs.Calls.{Call, does}
-use Rattle.plain_laws.specs.Order.{count, last_begun, takes_alone, was_polled}
+use Rattle.plain_laws.specs.Order.{last_begun, takes_alone, was_polled}
+use Rattle.solo_laws.specs.Counting.{counts_of}
 use Rattle.solo_laws.specs.Courses.{Leads, leads, stays}
 use Rattle.solo_laws.specs.Owner.{Owner}
 use Rattle.solo_laws.specs.Road.{wakes}
@@ -25,12 +26,6 @@ abbrev pub polls_in : {T A : Type 0} → List (Event T A) → List ℕ
 polls_in [] = []
 polls_in (Polls f ∷ es) = f ∷ polls_in es
 polls_in (_ ∷ es) = polls_in es
-
--- some of another list, in its order
-pub data IsPart {A : Type 0} : List A → List A → Type 0 where
-  no_more : IsPart [] []
-  has : (x : A) (xs ys : List A) → IsPart xs ys → IsPart (x ∷ xs) (x ∷ ys)
-  lacks : (y : A) (xs ys : List A) → IsPart xs ys → IsPart xs (y ∷ ys)
 
 module _ {F T X : Type 0} where
   -- the mark of a task
@@ -62,9 +57,9 @@ module _ {F T X : Type 0} where
 
 -- of what run r takes in a call, and of what waits for it, these are looked at
 module _ {T X : Type 0} (its : ℕ → Lent) (r : ℕ) (of : Plain T (SoloWaker X) → List ℕ → List ℕ) where
-  -- the future that the run was handed with a call, if it counts one more behind it: the one whose poll or drop was shown last
-  abbrev pub handed_with : List (Event T (SoloWaker X)) → Plain T (SoloWaker X) → Plain T (SoloWaker X) → List Task
-  handed_with seen p q = map (named its) (of q (if nat_lt (count r p) (count r q) then last_begun seen else []))
+  -- the task that the run was handed with a call, if it has counted another since: the one whose poll or drop was shown last
+  abbrev pub handed_with : Owner → Owner → List (Event T (SoloWaker X)) → Plain T (SoloWaker X) → List Task
+  handed_with before now seen q = map (named its) (of q (if counts_of before r == counts_of now r then [] else last_begun seen))
 
   module _ {F : Type 0} where
     -- what it was handed in a list of calls, in order, by what was shown before it and in it
@@ -72,7 +67,7 @@ module _ {T X : Type 0} (its : ℕ → Lent) (r : ℕ) (of : Plain T (SoloWaker 
         {shown : List (Event T (SoloWaker X))} → List (Event T (SoloWaker X)) → Leads its cs before s p shown after z → List Task
     handed seen (stays owner s p) = []
     handed seen (leads c call rest before now after s y z p shown others many acts how) =
-        handed_with (seen ++ shown) p (does wakes c call p) ++ handed (seen ++ shown) how
+        handed_with before now (seen ++ shown) (does wakes c call p) ++ handed (seen ++ shown) how
 
     -- what came in it: it stands behind as many as waited before the call
     abbrev pub come : (Solo F T X → List Task) → {cs : List (Choice × Call T (SoloWaker X))} {before after : Owner} {s z : Solo F T X}
@@ -80,7 +75,7 @@ module _ {T X : Type 0} (its : ℕ → Lent) (r : ℕ) (of : Plain T (SoloWaker 
         → Leads its cs before s p shown after z → List Task
     come wait seen (stays owner s p) = []
     come wait seen (leads c call rest before now after s y z p shown others many acts how) =
-        drop (length (wait s)) (handed_with (seen ++ shown) p (does wakes c call p) ++ wait y) ++ come wait (seen ++ shown) how
+        drop (length (wait s)) (handed_with before now (seen ++ shown) (does wakes c call p) ++ wait y) ++ come wait (seen ++ shown) how
 
     -- what it was handed, and behind it what waits, is what waited before, and behind it what came since
     abbrev pub HandsInOrder : (Solo F T X → List Task) → {cs : List (Choice × Call T (SoloWaker X))} {before after : Owner}

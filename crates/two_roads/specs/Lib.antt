@@ -5,5 +5,7 @@ pub mod Plainly
 pub mod Together
 pub mod Refusing
 pub mod Acting
+pub mod Happening
 pub mod Turns
 pub mod Wishing
+pub mod LoneActs

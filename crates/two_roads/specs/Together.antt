@@ -1,31 +1,18 @@
 -- The step machine, one party at a time alone, and the executor of one owner, by the same calls.
-use Rattle.std.specs.Prelude.{◌≡◌, ℕ, List, [], ◌∷◌, ◌++◌, map}
+use Rattle.std.specs.Prelude.{◌≡◌, ℕ, List, [], ◌∷◌, map}
 use Rattle.executor_model.specs.declared.op.Waker.{Waker}
 use Rattle.executor_model.specs.declared.op.Waker.TheVariants.{Task as TaskWaker, Outside as OutsideWaker}
 use Rattle.executor_model.specs.Steps.{Machine}
 use Rattle.solo.specs.declared.names.SoloWaker.{SoloWaker}
 use Rattle.solo.specs.declared.names.SoloWaker.TheVariants.{Task as OfTask, Outside}
-use Rattle.plain_scheduler.specs.State.{Choice, Event, Plain}
-use Rattle.plain_scheduler.specs.Calls.{Call}
-use Rattle.machine_roads.specs.Course.{GoAlike, Lone}
-use Rattle.machine_roads.specs.Lone.{Ended, ends as ends_with, over}
+use Rattle.plain_scheduler.specs.State.{Event, Plain}
+use Rattle.machine_roads.specs.Course.{Lone}
 use Rattle.machine_roads.specs.Road.{Follows}
 use Rattle.machine_roads.specs.Seeing.{heard_in, shown as shown_alike}
 use Rattle.machine_roads.specs.View.{Output}
 use Rattle.two_roads.specs.Renaming.{event_as, renamed}
 
--- the ends of user code, one after the other, each with what is chosen
-abbrev pub ends_by : {q r : Plain Output Waker} → Ended q r → List (Choice × Call Output Waker)
-ends_by (over q) = []
-ends_by (ends_with c e q r is many rest) = (c, e) ∷ ends_by rest
-
--- the calls of the plain scheduler that a list of lone calls is
-abbrev pub made_by : (s : Machine) (q : Plain Output Waker) (ls : List Lone) → GoAlike s q ls → List (Choice × Call Output Waker)
-made_by s q [] go = []
-made_by s q (l ∷ ls) go =
-    (go.1.1.choice, go.1.1.made) ∷ (ends_by go.1.1.ended ++ made_by l.left go.1.0 ls go.1.2)
-
--- the machine that they leave
+-- the machine that lone calls leave
 abbrev pub left_by : Machine → List Lone → Machine
 left_by s [] = s
 left_by s (l ∷ ls) = left_by l.left ls

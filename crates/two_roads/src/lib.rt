@@ -2,6 +2,7 @@
 //! the same polls, answers and drops. There is nothing to call: a law is a function without a body, whose contract is the law.
 #![tactic(auto)]
 
+pub mod happening;
 pub mod names;
 pub mod order;
 pub mod together;

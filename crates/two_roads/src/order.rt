@@ -6,9 +6,9 @@ ghost use Rattle.executor_model.specs.World.{own_of};
 ghost use Rattle.executor_model.specs.declared.kind.Kind.{Kind as MachineKind};
 ghost use Rattle.machine_roads.specs.DropActs.{plain_behind};
 ghost use Rattle.machine_roads.specs.Road.{Follows};
-ghost use Rattle.machine_roads.specs.View.{wakes as wakes_in};
 ghost use Rattle.machine_roads.specs.Within.{Act, ActAlike, AreActs};
-ghost use Rattle.plain_laws.specs.Order.{IsOnlyBegun, is_urgent, of_mark, takes_alone};
+ghost use Rattle.plain_laws.specs.Coming.{IsPart};
+ghost use Rattle.plain_laws.specs.Order.{is_urgent, of_mark, takes_alone};
 ghost use Rattle.plain_scheduler.specs.Calls.{Call, course, new};
 ghost use Rattle.plain_scheduler.specs.Lists.{any};
 ghost use Rattle.plain_scheduler.specs.State.{Choice, Event, Who};
@@ -23,13 +23,14 @@ ghost use Rattle.solo_laws.specs.Owner.{Owner, new_owner};
 ghost use Rattle.solo_laws.specs.Road.{wakes};
 ghost use Rattle.solo_laws.specs.Tabled.{named};
 ghost use Rattle.two_roads.specs.Acting.{acts_by, left_of};
-ghost use Rattle.two_roads.specs.ActsInOrder.{IsAloneInActs, all_wait_in, come_in, line_of_all, line_of_mark, taken_in, wait_in};
-ghost use Rattle.two_roads.specs.InOrder.{HandsInOrder, IsAloneIn, IsOnlyBegunIn, IsPart, all_wait, handed, polls_in, waits};
+ghost use Rattle.two_roads.specs.ActsInOrder.{IsAloneInActs, IsOnlyBegunInActs, all_wait_in, come_in, line_of_all, line_of_mark, taken_in, wait_in};
+ghost use Rattle.two_roads.specs.InOrder.{HandsInOrder, IsAloneIn, IsOnlyBegunIn, all_wait, handed, polls_in, waits};
 
 /// Where a list of calls has led from a new executor of one owner on, nothing stands in the own queue of another run, and in the calls
 /// that go on run r alone takes futures and doesn't go, it is handed the tasks of each mark in the order in which they were queued: what
 /// it was handed, and behind it what waits, is what waited before, and behind it what came since. For a run wait the tasks in its own
-/// queue, and behind them those in the executor's. What it was handed is what is shown last, to be polled or dropped.
+/// queue, and behind them those in the executor's. What it was handed with a call, if it has counted another since, is what is shown last,
+/// to be polled or dropped: it counts each that it is handed, and with every 64th begins anew.
 pub fn tasks_are_handed_in_order<F, T, X>()
     ensures { (its : ℕ → Lent) (limit : ℕ) (kind : Kind) (is_static : Bool) (calls cs : List (Choice × Call T (SoloWaker X)))
         (first middle last : Solo F T X) (shown others : List (Event T (SoloWaker X))) (number : Who → ℕ) (before after : Owner) (r : ℕ)
@@ -73,8 +74,9 @@ pub fn only_begun_runs_have_tasks<F, T, X>()
 {}
 
 /// So it is with the futures that a run of the machine takes, where one party of a new machine at a time begins calls, also in polls and
-/// drops, and user code answers and ends. What it takes is what the trace tells of last, as polled or dropped. Who waits is read off the
-/// machine's queues where the acts begin and where they end: both stand alike there, so in no drop in which a call still owes something.
+/// drops, and user code answers and ends. What it takes in an act, if it has counted another since, is what the trace tells of last. Who
+/// waits is read off the machine's queues where the acts begin and where they end: both stand alike there, so in no drop in which a call
+/// still owes something.
 pub fn futures_are_taken_in_order()
     ensures { (limit : ℕ) (kind : MachineKind) (parties : ℕ) (before acts : List Act)
         (go : ActAlike (start limit kind parties) (new limit (is_static_kind kind)) before)
@@ -100,11 +102,10 @@ pub fn plain_futures_are_taken_in_order()
 
 /// Nothing stands in the own queue of another run of the machine where r is the only one that was polled and isn't over.
 pub fn only_begun_runs_have_futures()
-    ensures { (limit : ℕ) (kind : MachineKind) (parties : ℕ) (before : List Act)
-        (go : ActAlike (start limit kind parties) (new limit (is_static_kind kind)) before) (r : ℕ)
+    ensures { (limit : ℕ) (kind : MachineKind) (parties : ℕ) (before : List Act) → AreActs (start limit kind parties) before
+        → (go : ActAlike (start limit kind parties) (new limit (is_static_kind kind)) before) (r : ℕ)
         → let s = left_of (start limit kind parties) before in
-        let calls = acts_by (start limit kind parties) (new limit (is_static_kind kind)) before go in
-        AreActs (start limit kind parties) before → IsOnlyBegun wakes_in r calls (new limit (is_static_kind kind))
+        IsOnlyBegunInActs r (acts_by (start limit kind parties) (new limit (is_static_kind kind)) before go) s.world
         → Follows s.world (plain_behind before (start limit kind parties) (new limit (is_static_kind kind)) go)
         → (k : ℕ) → (r == k) ≡ false → own_of s.world k ≡ [] }
 {}

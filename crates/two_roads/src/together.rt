@@ -5,7 +5,7 @@ ghost use Rattle.executor_model.specs.Steps.{is_static_kind, start};
 ghost use Rattle.executor_model.specs.declared.call.Call.TheVariants.{DropExecutor as DropsExecutor};
 ghost use Rattle.executor_model.specs.declared.step.Step.TheVariants.{Begin};
 ghost use Rattle.executor_model.specs.declared.kind.Kind.{Kind as MachineKind};
-ghost use Rattle.machine_roads.specs.Course.{GoAlike, Lone};
+ghost use Rattle.machine_roads.specs.Course.{AreLone, Lone};
 ghost use Rattle.machine_roads.specs.DropActs.{AreDropActs, DropActAlike, StandsDropping, left_by as left_by_acts, plain_behind};
 ghost use Rattle.machine_roads.specs.Seeing.{heard_in};
 ghost use Rattle.machine_roads.specs.View.{wakes as wakes_in};
@@ -21,43 +21,47 @@ ghost use Rattle.solo_laws.specs.Closing.{IsClosed};
 ghost use Rattle.solo_laws.specs.Courses.{Leads};
 ghost use Rattle.solo_laws.specs.LastCalls.{LastCalls};
 ghost use Rattle.queue_steps.specs.ClosableQueue.{most_accepted};
-ghost use Rattle.solo_laws.specs.Making.{Goes, MayGo, MayHeed, Wish, by_number, queued_by};
+ghost use Rattle.solo_laws.specs.LastMaking.{HappenLast, MayDrop};
+ghost use Rattle.solo_laws.specs.Making.{Goes, MayGo, Wish, by_number, queued_by};
 ghost use Rattle.solo_laws.specs.Owner.{Owner, new_owner};
 ghost use Rattle.solo_laws.specs.Road.{wakes};
 ghost use Rattle.solo_laws.specs.Tabled.{Stands};
 ghost use Rattle.two_roads.specs.Acting.{AreOfSteps, EndOfSteps, acts_by, drop_acts_by, left_of};
+ghost use Rattle.two_roads.specs.LoneActs.{acts_of, cut_of, first_act};
 ghost use Rattle.two_roads.specs.Renaming.{AreSame};
-ghost use Rattle.two_roads.specs.Together.{TellsOf, as_heard, left_by, made_by, nothing, numbered};
-ghost use Rattle.two_roads.specs.Wishing.{AreWishesOfSteps};
+ghost use Rattle.two_roads.specs.Together.{TellsOf, as_heard, left_by, nothing, numbered};
+ghost use Rattle.two_roads.specs.Wishing.{AreLastWishesOfSteps, AreRefusedAlike, AreWishesOfSteps, EndRefusedSo};
 
-/// A list of lone calls of a new machine is one of the plain scheduler's, and so is a list of calls of a new executor of one owner.
-/// Where these are the same calls, with the same ends of polls and drops and the same refusals, both then stand where one plain
-/// scheduler does, and the machine's trace tells of the polls, drops, calls of wakers and answers that the executor shows, in order.
+/// A list of lone calls of a new machine is one of acts, each up to where user code has to answer: where these are a list of calls of a new
+/// executor of one owner, both then stand where one plain scheduler does, and the machine's trace tells of the polls, drops, calls of wakers
+/// and answers that the executor shows, in order. So each call is to be what the machine's step begins or answers, memory refused to it as
+/// in the act, and a run that robs another to look for whom from the same word on; nothing is asked of what else they choose.
 pub fn both_show_alike<F, T, X>()
     ensures { (its : ℕ → Lent) (number : X → ℕ) (limit : ℕ) (kind : MachineKind) (solo_kind : Kind) (parties : ℕ) (ls : List Lone)
-        (go : GoAlike (start limit kind parties) (new limit (is_static_kind kind)) ls) (calls : List (Choice × Call T (SoloWaker X)))
-        (first last : Solo F T X) (shown : List (Event T (SoloWaker X))) (before : Who → ℕ) (after : Owner) → IsNew limit solo_kind first
-        → counts solo_kind ≡ not (is_static_kind kind)
-        → Leads its calls (new_owner before) first (new limit (is_static_kind kind)) shown after last
-        → AreSame nothing (numbered number) wakes calls (new limit (is_static_kind kind))
-        (made_by (start limit kind parties) (new limit (is_static_kind kind)) ls go)
+        (calls : List (Choice × Call T (SoloWaker X))) (first last : Solo F T X) (shown : List (Event T (SoloWaker X)))
+        (before : Who → ℕ) (after : Owner) → AreLone (start limit kind parties) ls
+        → IsNew limit solo_kind first → counts solo_kind ≡ not (is_static_kind kind)
+        → (led : Leads its calls (new_owner before) first (new limit (is_static_kind kind)) shown after last)
+        → AreOfSteps number (start limit kind parties) (acts_of (start limit kind parties) ls) led
         → let p = course wakes calls (new limit (is_static_kind kind)) in
         Stands its last p × TellsOf number (left_by (start limit kind parties) ls) p shown }
 {}
 
 /// And so it is where these lists end with the executor's drop, with what is called while its futures are dropped and behind that.
 pub fn both_end_alike<F, T, X>()
-    ensures { (its : ℕ → Lent) (number : X → ℕ) (limit : ℕ) (kind : MachineKind) (solo_kind : Kind) (parties : ℕ) (ls : List Lone)
-        (go : GoAlike (start limit kind parties) (new limit (is_static_kind kind)) ls)
-        (calls ends : List (Choice × Call T (SoloWaker X))) (first middle last : Solo F T X)
-        (shown others : List (Event T (SoloWaker X))) (before : Who → ℕ) (after : Owner) → IsNew limit solo_kind first
-        → counts solo_kind ≡ not (is_static_kind kind)
-        → Leads its calls (new_owner before) first (new limit (is_static_kind kind)) shown after middle
+    ensures { (its : ℕ → Lent) (number : X → ℕ) (limit : ℕ) (kind : MachineKind) (solo_kind : Kind) (parties : ℕ) (ls more : List Lone)
+        (drop : Lone) (calls ends : List (Choice × Call T (SoloWaker X))) (first middle last : Solo F T X)
+        (shown others : List (Event T (SoloWaker X))) (before : Who → ℕ) (after : Owner)
+        → AreLone (start limit kind parties) ls → drop.call ≡ DropsExecutor → AreLone (left_by (start limit kind parties) ls) (drop ∷ more)
+        → IsNew limit solo_kind first → counts solo_kind ≡ not (is_static_kind kind)
+        → (led : Leads its calls (new_owner before) first (new limit (is_static_kind kind)) shown after middle)
         → LastCalls its middle (course wakes calls (new limit (is_static_kind kind))) ends others last
-        → AreSame nothing (numbered number) wakes (calls ++ ends) (new limit (is_static_kind kind))
-        (made_by (start limit kind parties) (new limit (is_static_kind kind)) ls go)
+        → AreOfSteps number (start limit kind parties) (acts_of (start limit kind parties) ls) led
+        → let s = left_by (start limit kind parties) ls in
+        EndOfSteps number (first_act s drop) ((cut_of s drop).later ++ acts_of drop.left more)
+        (course wakes calls (new limit (is_static_kind kind))) ends
         → let p = course wakes (calls ++ ends) (new limit (is_static_kind kind)) in
-        IsClosed its last p × TellsOf number (left_by (start limit kind parties) ls) p (shown ++ others) }
+        IsClosed its last p × TellsOf number (left_by drop.left more) p (shown ++ others) }
 {}
 
 /// So it is with calls one inside another, as a poll makes them: where the calls that the machine's parties begin, and the answers of
@@ -115,18 +119,31 @@ pub fn calls_show_alike<F, T, X>()
 {}
 
 /// And there is such a list of calls for each list of wishes that are the machine's acts, where the executor's owner may make each of these
-/// calls where those before it have led, and nothing but memory refuses them: the machine's trace tells of what it shows. What the calls
-/// may queue together is no more than a queue accepts in its life: a call 15 tasks at most, and many calls none; a leak six for each future
-/// that came before it; and a new run 3 * 512, for the 512 that it may give back as it goes.
+/// calls where those before it have led. Where memory is refused in it as in the acts, the machine's trace tells of what it shows. What the
+/// calls may queue together is no more than a queue accepts in its life: a call 15 tasks at most, and many calls none; a leak six for each
+/// future that came before it; and a new run 3 * 512, for the 512 that it may give back as it goes.
 pub fn wished_calls_show_alike<F, T, X>()
     ensures { (future : F) (number : X → ℕ) (limit : ℕ) (kind : MachineKind) (solo_kind : Kind) (parties : ℕ) (acts : List Act)
         (xs : List (Wish T (SoloWaker X))) (first : Solo F T X) (before : Who → ℕ) → AreActs (start limit kind parties) acts
         → IsNew limit solo_kind first → counts solo_kind ≡ not (is_static_kind kind)
         → AreWishesOfSteps number (start limit kind parties) acts xs → queued_by 0 xs ≤ most_accepted
         → MayGo by_number xs (new_owner before) first (new limit (is_static_kind kind))
-        → MayHeed by_number xs (new_owner before) first (new limit (is_static_kind kind))
         → (go : Goes by_number xs (new_owner before) first (new limit (is_static_kind kind)))
-        × (heard_in (left_of (start limit kind parties) acts).world.trace ≡ as_heard number go.shown) }
+        × (AreRefusedAlike (start limit kind parties) acts go.leads
+        → heard_in (left_of (start limit kind parties) acts).world.trace ≡ as_heard number go.shown) }
+{}
+
+/// Once no call is in progress any more the machine also stands where one plain scheduler does, and with it the executor.
+pub fn calls_rest_alike<F, T, X>()
+    ensures { (its : ℕ → Lent) (number : X → ℕ) (limit : ℕ) (kind : MachineKind) (solo_kind : Kind) (parties : ℕ) (acts : List Act)
+        (calls : List (Choice × Call T (SoloWaker X))) (first last : Solo F T X) (shown : List (Event T (SoloWaker X)))
+        (before : Who → ℕ) (after : Owner) → AreActs (start limit kind parties) acts
+        → IsQuiet (left_of (start limit kind parties) acts).world.trace
+        → IsNew limit solo_kind first → counts solo_kind ≡ not (is_static_kind kind)
+        → (led : Leads its calls (new_owner before) first (new limit (is_static_kind kind)) shown after last)
+        → AreOfSteps number (start limit kind parties) acts led
+        → let p = course wakes calls (new limit (is_static_kind kind)) in
+        Stands its last p × TellsOf number (left_of (start limit kind parties) acts) p shown }
 {}
 
 /// And so to the end: from the executor's drop on, once no call is in progress any more, with the calls made in the drops of its futures
@@ -140,9 +157,45 @@ pub fn calls_end_alike<F, T, X>()
         → counts solo_kind ≡ not (is_static_kind kind)
         → (led : Leads its calls (new_owner before) first (new limit (is_static_kind kind)) shown after middle)
         → LastCalls its middle (course wakes calls (new limit (is_static_kind kind))) ends others last
-        → (course wakes calls (new limit (is_static_kind kind))).inside ≡ []
         → AreOfSteps number (start limit kind parties) acts led
         → EndOfSteps number a later (course wakes calls (new limit (is_static_kind kind))) ends
         → IsClosed its last (course wakes (calls ++ ends) (new limit (is_static_kind kind)))
         × (heard_in (left_of a.left later).world.trace ≡ as_heard number (shown ++ others)) }
+{}
+
+/// Once no call is in progress there any more the machine also stands where the plain scheduler does, behind that drop.
+pub fn calls_rest_at_the_end<F, T, X>()
+    ensures { (its : ℕ → Lent) (number : X → ℕ) (limit : ℕ) (kind : MachineKind) (solo_kind : Kind) (parties : ℕ) (acts : List Act)
+        (a : Act) (later : List Act) (calls ends : List (Choice × Call T (SoloWaker X))) (first middle last : Solo F T X)
+        (shown others : List (Event T (SoloWaker X))) (before : Who → ℕ) (after : Owner) → AreActs (start limit kind parties) acts
+        → IsQuiet (left_by_acts (start limit kind parties) acts).world.trace → IsAct (left_by_acts (start limit kind parties) acts) a
+        → a.first ≡ Begin a.party DropsExecutor → AreDropActs a.left later → IsNew limit solo_kind first
+        → counts solo_kind ≡ not (is_static_kind kind)
+        → (led : Leads its calls (new_owner before) first (new limit (is_static_kind kind)) shown after middle)
+        → LastCalls its middle (course wakes calls (new limit (is_static_kind kind))) ends others last
+        → AreOfSteps number (start limit kind parties) acts led
+        → EndOfSteps number a later (course wakes calls (new limit (is_static_kind kind))) ends
+        → IsQuiet (left_of a.left later).world.trace
+        → let p = course wakes (calls ++ ends) (new limit (is_static_kind kind)) in
+        IsClosed its last p × TellsOf number (left_of a.left later) p (shown ++ others) }
+{}
+
+/// And there are such lists of calls for each list of wishes that are the machine's acts up to the executor's drop, and for each that are
+/// those behind its begin, where the owner may make each of the first, and may drop the executor and make each of the others, wherever those
+/// before them have led. Where memory is refused in them as in the acts, the machine's trace tells of what they show.
+pub fn wished_calls_end_alike<F, T, X>()
+    ensures { (future : F) (number : X → ℕ) (limit : ℕ) (kind : MachineKind) (solo_kind : Kind) (parties : ℕ) (acts : List Act)
+        (a : Act) (later : List Act) (xs ends : List (Wish T (SoloWaker X))) (x : Wish T (SoloWaker X)) (first : Solo F T X)
+        (before : Who → ℕ) → AreActs (start limit kind parties) acts
+        → IsQuiet (left_by_acts (start limit kind parties) acts).world.trace → IsAct (left_by_acts (start limit kind parties) acts) a
+        → a.first ≡ Begin a.party DropsExecutor → AreDropActs a.left later → IsNew limit solo_kind first
+        → counts solo_kind ≡ not (is_static_kind kind)
+        → AreWishesOfSteps number (start limit kind parties) acts xs → AreLastWishesOfSteps number a.left later ends
+        → queued_by 0 xs ≤ most_accepted → MayGo by_number xs (new_owner before) first (new limit (is_static_kind kind))
+        → ((go : Goes by_number xs (new_owner before) first (new limit (is_static_kind kind)))
+        → MayDrop by_number go.after (course wakes go.calls (new limit (is_static_kind kind))) x ends)
+        → (go : Goes by_number xs (new_owner before) first (new limit (is_static_kind kind)))
+        × (last : HappenLast by_number go.after (course wakes go.calls (new limit (is_static_kind kind))) (x ∷ ends))
+        × (AreRefusedAlike (start limit kind parties) acts go.leads → EndRefusedSo a later (course wakes go.calls (new limit (is_static_kind kind))) last.calls
+        → heard_in (left_of a.left later).world.trace ≡ as_heard number (go.shown ++ last.shown)) }
 {}

@@ -108,7 +108,7 @@ module _ {F T X : Type 0} (its : ℕ → Lent) (number : Who → ℕ) (s : Solo 
           sym some ∙ (trying.nothing (named its) c s p turn both.0 (none_common c.first p.due none nor)).0 in absurd cc
 
   -- it finds none: no future without a keeper is due
-  none_sought : solo.sought s ≡ None → find (trying.test (named its) c s p turn both.0) p.due ≡ None
+  pub none_sought : solo.sought s ≡ None → find (trying.test (named its) c s p turn both.0) p.due ≡ None
   none_sought none = by (find (trying.test (named its) c s p turn both.0) p.due) refl
     where
       by : (o : Option Due) → find (trying.test (named its) c s p turn both.0) p.due ≡ o → o ≡ None

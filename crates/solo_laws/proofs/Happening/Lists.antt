@@ -70,7 +70,7 @@ none_has {F} n (e ∷ es) held home (f ∷ fs) rows below =
     by false other rest = rest
 
 -- new queues have accepted none
-none_yet : (limit n : ℕ) → n ≤ most_accepted → (mark : Mark) → count_of (line_of mark (new_lines limit)).accepted + n ≤ most_accepted
+pub none_yet : (limit n : ℕ) → n ≤ most_accepted → (mark : Mark) → count_of (line_of mark (new_lines limit)).accepted + n ≤ most_accepted
 none_yet limit n most mark = which mark (by (limit == 1))
   where
     by : (b : Bool) → count_of (if b then None else Some 0) + n ≤ most_accepted
@@ -83,16 +83,21 @@ none_yet limit n most mark = which mark (by (limit == 1))
     which Urgent is = is
 
 -- a future that comes is counted, and a run
-counts_futures : {T X : Type 0} (came : ℕ) (call : Call T (SoloWaker X)) → comes call ≤ queues_at_most came 0 call
+pub counts_futures : {T X : Type 0} (came : ℕ) (call : Call T (SoloWaker X)) → comes call ≤ queues_at_most came 0 call
 counts_futures came (Spawn mark) = omega arith
 counts_futures came call = omega arith
 
-counts_runs : {T X : Type 0} (call : Call T (SoloWaker X)) → begins call ≤ gives_back call
+pub none_yet_came : {T X : Type 0} (came : ℕ) (call : Call T (SoloWaker X)) → queues_at_most 0 0 call ≤ queues_at_most came 0 call
+none_yet_came came Leak = omega arith
+none_yet_came came call = omega arith
+
+pub counts_runs : {T X : Type 0} (call : Call T (SoloWaker X)) → begins call ≤ gives_back call
 counts_runs NewRun = omega arith
 counts_runs call = omega arith
 
 module _ {F T X : Type 0} where
-  next_free : (owner : Owner) (s : Solo F T X) (p : Plain T (SoloWaker X)) → Known by_number owner s p → IsVacant (length p.futures) s.cells
+  pub next_free : (owner : Owner) (s : Solo F T X) (p : Plain T (SoloWaker X)) → Known by_number owner s p → IsVacant (length p.futures)
+      s.cells
       → NextIsFree by_number owner s p
   next_free owner s p known vacant = record {
     number = refl;
@@ -103,7 +108,7 @@ module _ {F T X : Type 0} where
   }
 
   -- runs are polled by known wakers still
-  still_known : (owner : Owner) (s : Solo F T X) (p : Plain T (SoloWaker X)) (now : Owner) (z : Solo F T X) (c : Choice)
+  pub still_known : (owner : Owner) (s : Solo F T X) (p : Plain T (SoloWaker X)) (now : Owner) (z : Solo F T X) (c : Choice)
       (x : Wish T (SoloWaker X)) → Allows by_number owner s p x.refusal x.name x.call → WakersAreKnown by_number owner s p
       → WakersAreKnown by_number now z (does wakes c x.call p)
   still_known owner s p now z c x may all =
@@ -122,7 +127,7 @@ module _ {F T X : Type 0} where
       polls call its = tt
 
   -- what a call queues is counted, and what the runs that go on may give back
-  pays : (came : ℕ) (owner : Owner) (s : Solo F T X) (p : Plain T (SoloWaker X)) → Known by_number owner s p → FewKept p.due
+  pub pays : (came : ℕ) (owner : Owner) (s : Solo F T X) (p : Plain T (SoloWaker X)) → Known by_number owner s p → FewKept p.due
       → (c : Choice) (call : Call T (SoloWaker X))
       → queues_at_most came (left_in by_number owner s p p.inside) call + 3 * 512 * goers (does wakes c call p).runs
       ≤ queues_at_most came 0 call + gives_back call + 3 * 512 * goers p.runs
@@ -136,6 +141,28 @@ module _ {F T X : Type 0} where
       by call less = omega (arith, less)
 
   -- what a call may queue may come, where so many more may
+  pub has_life : (came k : ℕ) (owner : Owner) (s : Solo F T X) (p : Plain T (SoloWaker X)) → Known by_number owner s p
+      → FewKept p.due → length p.futures ≤ came → (c : Choice) (call : Call T (SoloWaker X))
+      → queues_at_most came 0 call + gives_back call ≤ k → HasLife (k + 3 * 512 * goers p.runs) s.lines
+      → HasLife (queues_at_most (length s.table.entries) (left_in by_number owner s p p.inside) call) s.lines
+  has_life came k owner s p known kept before c call most life =
+      fewer (queues_at_most (length s.table.entries) (left_in by_number owner s p p.inside) call) (k + 3 * 512 * goers p.runs) s.lines
+      (enough call most (pays came owner s p known kept c call)) life
+    where
+      enough : (call : Call T (SoloWaker X)) → queues_at_most came 0 call + gives_back call ≤ k
+          → queues_at_most came (left_in by_number owner s p p.inside) call + 3 * 512 * goers (does wakes c call p).runs
+          ≤ queues_at_most came 0 call + gives_back call + 3 * 512 * goers p.runs
+          → queues_at_most (length s.table.entries) (left_in by_number owner s p p.inside) call ≤ k + 3 * 512 * goers p.runs
+      enough Leak most paid = (let few = few_entries by_number s p known.stands in omega (arith, few, before, most))
+      enough call most paid = omega (arith, most, paid)
+
+  pub has_number : (k : ℕ) (owner : Owner) (s : Solo F T X) (p : Plain T (SoloWaker X)) (call : Call T (SoloWaker X))
+      → queues_at_most 0 0 call + gives_back call ≤ k → length p.futures + k ≤ most_accepted → length p.runs + k ≤ most_accepted
+      → HasNumber by_number owner s p call
+  has_number k owner s p (Spawn mark) most futures runs = omega (arith, futures, most)
+  has_number k owner s p NewRun most futures runs = omega (arith, runs, most)
+  has_number k owner s p call most futures runs = tt
+
   may_call : (came n k : ℕ) (owner : Owner) (s : Solo F T X) (p : Plain T (SoloWaker X)) → Known by_number owner s p
       → FewKept p.due → length p.futures ≤ came → (c : Choice) (x : Wish T (SoloWaker X))
       → Allows by_number owner s p x.refusal x.name x.call → k ≡ queues_at_most came 0 x.call + gives_back x.call + n
@@ -143,23 +170,9 @@ module _ {F T X : Type 0} where
       → MayCall by_number owner s p x
   may_call came n k owner s p known kept before c x may is life futures runs = record {
     allowed = may;
-    life =
-        fewer (queues_at_most (length s.table.entries) (left_in by_number owner s p p.inside) x.call) (k + 3 * 512 * goers p.runs) s.lines
-        (enough x.call is (pays came owner s p known kept c x.call)) life;
-    number = numbered x.call is;
+    life = has_life came k owner s p known kept before c x.call (omega (arith, is)) life;
+    number = has_number k owner s p x.call (let least = none_yet_came came x.call in omega (arith, is, least)) futures runs;
   }
-    where
-      enough : (call : Call T (SoloWaker X)) → k ≡ queues_at_most came 0 call + gives_back call + n
-          → queues_at_most came (left_in by_number owner s p p.inside) call + 3 * 512 * goers (does wakes c call p).runs
-          ≤ queues_at_most came 0 call + gives_back call + 3 * 512 * goers p.runs
-          → queues_at_most (length s.table.entries) (left_in by_number owner s p p.inside) call ≤ k + 3 * 512 * goers p.runs
-      enough Leak is paid = (let few = few_entries by_number s p known.stands in omega (arith, few, before, is))
-      enough call is paid = omega (arith, is, paid)
-
-      numbered : (call : Call T (SoloWaker X)) → k ≡ queues_at_most came 0 call + gives_back call + n → HasNumber by_number owner s p call
-      numbered (Spawn mark) is = omega (arith, futures, is)
-      numbered NewRun is = omega (arith, runs, is)
-      numbered call is = tt
 
   -- memory is refused as was wished, where nothing else refuses a call
   heeds_so : (owner : Owner) (s : Solo F T X) (p : Plain T (SoloWaker X)) → Known by_number owner s p → (x : Wish T (SoloWaker X))

@@ -1,6 +1,6 @@
-use Rattle.two_roads.proofs.Both.{together}
+use Rattle.two_roads.proofs.AtRest.{lone_together}
 use Rattle.two_roads.proofs.together.both_show_alike.Goals as goal
 
 pub returns : goal.returns
-returns g c its number limit kind solo_kind parties ls go calls first last shown before after is_new counted led are =
-    together number limit kind parties ls go its solo_kind first last is_new counted calls before after shown led are
+returns g c its number limit kind solo_kind parties ls calls first last shown before after lone is_new counted led of =
+    lone_together its number limit kind solo_kind parties calls first last shown before after is_new counted led ls lone of

@@ -6,6 +6,7 @@ pub mod BehindTake
 pub mod Enlisting
 pub mod TicksLiving
 pub mod TicksBehind
+pub mod CopiesBehind
 pub mod Still
 pub mod Counted
 pub mod Seeking

@@ -73,7 +73,7 @@ heard_both [] fs = refl
 heard_both (e ∷ es) fs =
     ap (λ xs. heard e ++ xs) (heard_both es fs) ∙ sym (append_assoc (heard e) (heard_in es) (heard_in fs))
 
-heard_more : (es : Trace) (e : Event) → heard_in (es ++ e ∷ []) ≡ heard_in es ++ heard e
+pub heard_more : (es : Trace) (e : Event) → heard_in (es ++ e ∷ []) ≡ heard_in es ++ heard e
 heard_more es e = heard_both es (e ∷ []) ∙ ap (λ xs. heard_in es ++ xs) (append-nil (heard e))
 
 -- one of them leaves
@@ -213,7 +213,7 @@ module _ (s : Machine) (reached : Reached s) (p : ℕ) (q : Plain Output Waker) 
   under : is_resting below ≡ true
   under = rests_alike (standing s p) q stands
 
-  began : (R : World → Type 0) (c : Call) (ts : List Step) → p < length s.parties → rests_after p ts (after s (Begin p c)) ≡ true
+  pub began : (R : World → Type 0) (c : Call) (ts : List Step) → p < length s.parties → rests_after p ts (after s (Begin p c)) ≡ true
       → run_all (Begin p c ∷ ts) s ≡ Ok new
       → ((hints : List Hint) → let d = upon below (begins_alike p (mine (top (stack s p))) c s.world) in
       is_resting (alone p hints d).next ≡ true → R (alone p hints d).world)
@@ -352,7 +352,7 @@ module _ (s : Machine) (reached : Reached s) (p : ℕ) (q : Plain Output Waker) 
           (due_none os (let all_none = ap (weigh alters) (sym is) ∙ none_in (standing s p) q stands in omega (arith, all_none)))) t
           ∙ reacts_lives p o u s.world t) rests made
 
-  there_of : (t : Step) (ts : List Step) → party_of t ≡ p → run_all (t ∷ ts) s ≡ Ok new → p < length s.parties
+  pub there_of : (t : Step) (ts : List Step) → party_of t ≡ p → run_all (t ∷ ts) s ≡ Ok new → p < length s.parties
   there_of t ts its made =
       subst (λ n. n < length s.parties) its
       (is_within (party_of t) (length s.parties)

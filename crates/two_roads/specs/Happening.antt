@@ -1,5 +1,5 @@
 -- Acts of the machine, as calls that the owner of an executor makes.
-use Rattle.std.specs.Prelude.{◌≡◌, ℕ, ◌+◌, ◌*◌, ◌<◌, true, false, List, [], ◌∷◌, length, Some, None}
+use Rattle.std.specs.Prelude.{◌≡◌, ℕ, nat_lt, ◌+◌, ◌*◌, ◌^◌, ◌<◌, true, false, List, [], ◌∷◌, length, Some, None}
 use Rattle.executor_model.specs.declared.call.Call.TheVariants as call
 use Rattle.executor_model.specs.declared.step.Step.{Step}
 use Rattle.executor_model.specs.declared.step.Step.TheVariants.{Begin}
@@ -13,16 +13,16 @@ use Rattle.solo.specs.declared.names.SoloWaker.TheVariants.{Task as OfTask, Outs
 use Rattle.solo.specs.declared.solo.Solo.{Solo}
 use Rattle.solo.specs.Solo.{sought}
 use Rattle.task_moves.specs.AbstractTask as abstract
+use Rattle.task_moves.specs.LocalTask.{references_of}
 use Rattle.plain_scheduler.specs.Moves.{task}
-use Rattle.plain_scheduler.specs.State.{Choice, Event, Plain, Who}
+use Rattle.plain_scheduler.specs.State.{Choice, Event, Plain, Refusal, Who}
 use Rattle.plain_scheduler.specs.Calls.{Call, Copy, Ends, Pends, PollHandle, PollTick, Spawn, does, is_granted, new}
 use Rattle.plain_scheduler.specs.Searches.{Search, finds, searches}
 use Rattle.machine_roads.specs.Seeing.{heard_in}
 use Rattle.machine_roads.specs.View.{Output}
 use Rattle.machine_roads.specs.Within.{Act, IsMade}
 use Rattle.solo_laws.specs.Courses.{Acts, Leads}
-use Rattle.solo_laws.specs.Heeding.{IsCopied}
-use Rattle.solo_laws.specs.Making.{HasNoRoom, HasNumber, WakersAreKnown, by_number, left_in, may_copy, queues_at_most}
+use Rattle.solo_laws.specs.Making.{HasNoRoom, HasNumber, WakersAreKnown, by_number, left_in, queues_at_most}
 use Rattle.solo_laws.specs.Owner.{Owner, has_tick, new_owner}
 use Rattle.solo_laws.specs.Road.{HasLife, apart, wakes}
 use Rattle.solo_laws.specs.Tabled.{named}
@@ -46,23 +46,30 @@ pub record NamesAlike {F T X : Type 0} (s : Machine) (owner : Owner) (y : Solo F
   pub ticks : (t : ℕ) → has_tick t owner ≡ lives (tick_of s.world t)
   pub once : apart owner.ticks ≡ true
 
-module _ {F T X : Type 0} (number : X → ℕ) (s : Machine) (a : Act) (owner : Owner) (y : Solo F T X) (p : Plain T (SoloWaker X)) where
-  -- a copy of a task's waker is refused in the act if the task has as many references as it may, and only then
-  abbrev pub CopiesAlike : SoloWaker X → Type 0
-  CopiesAlike (OfTask t) = is_granted (refused_in s a) ≡ may_copy (OfTask t) y
-  CopiesAlike (Outside x) = Unit {0}
+module _ {T X : Type 0} where
+  -- somebody has a waker of a task, or it is queued or polled; and it has two references fewer than it may
+  abbrev pub MayBeCopied : SoloWaker X → Plain T (SoloWaker X) → Type 0
+  MayBeCopied (OfTask t) q = (0 < references_of (task t.number q)) × (references_of (task t.number q) + 1 < 2 ^ 40)
+  MayBeCopied (Outside x) q = Unit {0}
 
-  -- a run that searches in vain may have copies of its waker
+  -- a copy of a task's waker is refused where the task has as many references as it may, and only there
+  abbrev pub IsRefusedIfMany : Refusal → SoloWaker X → Plain T (SoloWaker X) → Type 0
+  IsRefusedIfMany refusal (OfTask t) q =
+      (0 < references_of (task t.number q)) × (is_granted refusal ≡ nat_lt (references_of (task t.number q)) (2 ^ 40))
+  IsRefusedIfMany refusal (Outside x) q = Unit {0}
+
+module _ {F T X : Type 0} (number : X → ℕ) (s : Machine) (a : Act) (owner : Owner) (y : Solo F T X) (p : Plain T (SoloWaker X)) where
+  -- of the waker of a run that searches in vain copies may be had
   abbrev pub VainCanCopy : Call T (SoloWaker X) → Type 0
   VainCanCopy call =
-      (c : Choice) (x : Search T (SoloWaker X)) → searches wakes c call p ≡ Some x → finds x ≡ false → IsCopied by_number x.at x.waker
+      (c : Choice) (x : Search T (SoloWaker X)) → searches wakes c call p ≡ Some x → finds x ≡ false → MayBeCopied x.waker x.at
 
   -- memory for a future is refused in it only if the executor has no room
   abbrev pub FitsMemory : Call T (SoloWaker X) → Type 0
   FitsMemory (Spawn mark) = is_granted (refused_in s a) ≡ false → HasNoRoom by_number owner y p
-  FitsMemory (Copy f) = CopiesAlike (OfTask (named by_number f))
-  FitsMemory (PollHandle f w) = has_to_wait (abstract.polled (task f p)) ≡ true → CopiesAlike w
-  FitsMemory (PollTick t w) = sought y ≡ None → IsCopied by_number p w
+  FitsMemory (Copy f) = IsRefusedIfMany (refused_in s a) (OfTask (named by_number f)) p
+  FitsMemory (PollHandle f w) = has_to_wait (abstract.polled (task f p)) ≡ true → IsRefusedIfMany (refused_in s a) w p
+  FitsMemory (PollTick t w) = sought y ≡ None → MayBeCopied w p
   FitsMemory Pends = VainCanCopy Pends
   FitsMemory Ends = VainCanCopy Ends
   FitsMemory call = Unit {0}

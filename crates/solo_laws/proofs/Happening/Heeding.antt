@@ -1,6 +1,6 @@
 -- Memory is refused as was wished, where nothing else refuses a call.
 use Rattle.std.proofs.Common.{◌≡◌, ℕ, ◌+◌, ◌<◌, ◌^◌, nat_lt, Bool, true, false}
-use Rattle.std.proofs.Common.{slice_get, Option, Some, None, refl, sym, ap, subst, ◌∙◌, arith}
+use Rattle.std.proofs.Common.{slice_get, length, Option, Some, None, refl, sym, ap, subst, ◌∙◌, arith}
 use Rattle.std.proofs.lemmas.Bool.Decides.{nat_tests}
 use Rattle.executor_parts.specs.Sleepers.{listed as listed_anew, position_of}
 use Rattle.task_moves.specs.AbstractTask as abstract
@@ -82,10 +82,11 @@ module _ {T X : Type 0} where
 
 module _ {F T X : Type 0} (its : ℕ → Lent) (s : Solo F T X) (p : Plain T (SoloWaker X)) (r : Follows (named its) s p) where
   -- it is there, as the plain scheduler has it
-  here : (f : ℕ) → CanBeCopied its p f → (v : Kept T X) × (found (named its f) s.cells ≡ Some v) × (v.task ≡ task f p)
-  here f can =
-      let x = get_below p.futures f can.0 in
-      by x.0 x.1 (found (named its f) s.cells) refl (subst (TaskIs (found (named its f) s.cells)) x.1 (r.tasks f can.0))
+  pub here : (f : ℕ) → f < length p.futures → 0 < references_of (task f p)
+      → (v : Kept T X) × (found (named its f) s.cells ≡ Some v) × (v.task ≡ task f p)
+  here f came some =
+      let x = get_below p.futures f came in
+      by x.0 x.1 (found (named its f) s.cells) refl (subst (TaskIs (found (named its f) s.cells)) x.1 (r.tasks f came))
     where
       none_left : (t : AbstractTask T (SoloWaker X)) → IsOver t → 0 < references_of t → ⊥
       none_left t over less =
@@ -96,19 +97,28 @@ module _ {F T X : Type 0} (its : ℕ → Lent) (s : Solo F T X) (p : Plain T (So
       by : (x : Future T (SoloWaker X)) → slice_get p.futures f ≡ Some x → (o : Option (Kept T X)) → found (named its f) s.cells ≡ o
           → TaskIs o (Some x) → (v : Kept T X) × (found (named its f) s.cells ≡ Some v) × (v.task ≡ task f p)
       by x is None none over =
-          absurd (none_left x.task over (subst (λ (t : AbstractTask T (SoloWaker X)). 0 < references_of t) (task_is f p x is) can.1))
-      by x is (Some v) some of = (v, some, of.task ∙ sym (task_is f p x is))
+          absurd (none_left x.task over (subst (λ (t : AbstractTask T (SoloWaker X)). 0 < references_of t) (task_is f p x is) some))
+      by x is (Some v) there of = (v, there, of.task ∙ sym (task_is f p x is))
+
+  -- it may be copied where it has fewer references than it may
+  pub may_hold_by : (f : ℕ) → f < length p.futures → 0 < references_of (task f p)
+      → solo.may_hold (named its f) s ≡ nat_lt (references_of (task f p)) (2 ^ 40)
+  may_hold_by f came some =
+      let it = here f came some in
+      asks_found cells.may_hold false (named its f) s.cells
+      ∙ (ap (of_found cells.may_hold false) it.1
+      ∙ ap (λ (t : AbstractTask T (SoloWaker X)). nat_lt (references_of t) (2 ^ 40)) it.2)
 
   pub may_once : (f : ℕ) → CanBeCopied its p f → solo.may_hold (named its f) s ≡ true
   may_once f can =
-      let it = here f can in
+      let it = here f can.0 can.1 in
       asks_found cells.may_hold false (named its f) s.cells
       ∙ (ap (of_found cells.may_hold false) it.1 ∙ copied_once it.0 (task f p) it.2 can.2)
 
   may_twice : (f : ℕ) → CanBeCopied its p f → (z : Solo F T X) → z.cells ≡ cells.changed cells.held (named its f) s.cells
       → solo.may_hold (named its f) z ≡ true
   may_twice f can z same =
-      let it = here f can in
+      let it = here f can.0 can.1 in
       ap (λ cs. cells.asked cells.may_hold false (named its f) cs) same
       ∙ (asks_found cells.may_hold false (named its f) (cells.changed cells.held (named its f) s.cells)
       ∙ (ap (of_found cells.may_hold false) (found_here cells.held (named its f) s.cells)

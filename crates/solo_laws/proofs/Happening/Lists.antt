@@ -96,9 +96,8 @@ counts_runs NewRun = omega arith
 counts_runs call = omega arith
 
 module _ {F T X : Type 0} where
-  pub next_free : (owner : Owner) (s : Solo F T X) (p : Plain T (SoloWaker X)) → Known by_number owner s p → IsVacant (length p.futures)
-      s.cells
-      → NextIsFree by_number owner s p
+  pub next_free : (owner : Owner) (s : Solo F T X) (p : Plain T (SoloWaker X)) → Known by_number owner s p
+      → IsVacant (length p.futures) s.cells → NextIsFree by_number owner s p
   next_free owner s p known vacant = record {
     number = refl;
     key = vacant (length p.futures) (omega arith);

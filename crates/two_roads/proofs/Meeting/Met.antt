@@ -41,7 +41,7 @@ use Rattle.two_roads.proofs.Acted.{seen_so, tells_at}
 use Rattle.two_roads.proofs.Inner.{seen_in}
 use Rattle.two_roads.proofs.InStep.{OthersRest, rest_still, steps_same}
 use Rattle.two_roads.proofs.Meeting.Allowed.{FitsSpawn, allowed}
-use Rattle.two_roads.proofs.Meeting.Refused.{refusal_same}
+use Rattle.two_roads.proofs.Meeting.Refused.{KnowsOf, refusal_same}
 use Rattle.two_roads.proofs.Meeting.TicksMet.{behind, of_ticks}
 use Rattle.two_roads.proofs.Meeting.Said as said
 use Rattle.two_roads.proofs.Meeting.Said.{call_is, says}
@@ -155,6 +155,11 @@ module _ {F T X : Type 0} (number : X → ℕ) (outside : ℕ → X) (numbers : 
     fits_spawn (calls.Spawn mark) fits = fits
     fits_spawn call fits = tt
 
+    knows : (c : Choice) (many : length p.lying ≤ c.tells) (call : Call T (SoloWaker X))
+        → Allows by_number owner y p (refused_in s a) (length s.world.ticks) call → KnowsOf number s a owner y p known c many call
+    knows c many (calls.PollTick t w) allowed = allowed.1
+    knows c many call allowed = tt
+
     -- the owner wishes it so
     abbrev wish : Wish T (SoloWaker X)
     wish = record {
@@ -208,8 +213,8 @@ module _ {F T X : Type 0} (number : X → ℕ) (outside : ℕ → X) (numbers : 
                 made = subst (λ m. IsMade s a.party a.first m) (sym (call_is number value outside numbers by.made)) by.is;
                 refused =
                     λ asks.
-                    refusal_same number s a owner y p known e.choice many its e.shown e.now e.after e.acts (may by.made by.is).memory
-                    says_so asks e.refused;
+                    refusal_same number s a owner y p known e.choice many names.wakers its e.shown e.now e.after e.acts
+                    (may by.made by.is).memory says_so (knows e.choice many its may_it) asks e.refused;
               };
           walks = λ x at found kept. (0, e.starts);
           names =

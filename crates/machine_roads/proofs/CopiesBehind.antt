@@ -89,9 +89,11 @@ module _ (s : Machine) (reached : Reached s) (p : ℕ) (q : Plain Output Waker) 
 
     copied : (f : ℕ) (held : Hold) → IsFull s.world f → Refuses (done w (op.Waker (waker_op.CopyWaker f held) ∷ below))
     copied f held most [] over = absurd (clash refl over)
-    copied f held most (h ∷ hs) over = by (is_refused h (task w f)) (full h.refused (nat_lt (task w f).references most_references) most) over
+    copied f held most (h ∷ hs) over = by (is_refused h (task w f)) (full h.refused (nat_lt (task w f).references most_references) most)
+        over
       where
-        by : (b : Bool) → b ≡ true → is_resting (alone p hs (done (copy_by b w f held).world ((copy_by b w f held).next ++ below))).next ≡ true
+        by : (b : Bool) → b ≡ true → is_resting (alone p hs (done (copy_by b w f held).world ((copy_by b w f held).next ++ below))).next ≡
+            true
             → EndsRefused s.world (alone p hs (done (copy_by b w f held).world ((copy_by b w f held).next ++ below))).world
         by true is over = ended held hs over
         by false is over = absurd cc
@@ -102,7 +104,8 @@ module _ (s : Machine) (reached : Reached s) (p : ℕ) (q : Plain Output Waker) 
         by (is_refused h (task w g)) (full h.refused (nat_lt (task w g).references most_references) most) over
       where
         by : (b : Bool) → b ≡ true
-            → is_resting (alone p hs (done (copy_awaiter_by b p w f (Task g)).world ((copy_awaiter_by b p w f (Task g)).next ++ below))).next
+            → is_resting (alone p hs (done (copy_awaiter_by b p w f (Task g)).world
+            ((copy_awaiter_by b p w f (Task g)).next ++ below))).next
             ≡ true
             → EndsRefused s.world
             (alone p hs (done (copy_awaiter_by b p w f (Task g)).world ((copy_awaiter_by b p w f (Task g)).next ++ below))).world

@@ -32,10 +32,10 @@ ghost use Rattle.two_roads.specs.Renaming.{AreSame};
 ghost use Rattle.two_roads.specs.Together.{TellsOf, as_heard, left_by, nothing, numbered};
 ghost use Rattle.two_roads.specs.Wishing.{AreLastWishesOfSteps, AreRefusedAlike, AreWishesOfSteps, EndRefusedSo};
 
-/// A list of lone calls of a new machine is one of acts, each up to where user code has to answer: where these are a list of calls of a new
-/// executor of one owner, both then stand where one plain scheduler does, and the machine's trace tells of the polls, drops, calls of wakers
-/// and answers that the executor shows, in order. So each call is to be what the machine's step begins or answers, memory refused to it as
-/// in the act, and a run that robs another to look for whom from the same word on; nothing is asked of what else they choose.
+/// A list of lone calls of a new machine is one of acts, each up to where user code has to answer: where these are a list of calls of a
+/// new executor of one owner, both then stand where one plain scheduler does, and the machine's trace tells of the polls, drops, calls of
+/// wakers and answers that the executor shows, in order. So each call is to be what the machine's step begins or answers, memory refused
+/// to it as in the act, and a run that robs another to look for whom from the same word on; nothing is asked of what else they choose.
 pub fn both_show_alike<F, T, X>()
     ensures { (its : ℕ → Lent) (number : X → ℕ) (limit : ℕ) (kind : MachineKind) (solo_kind : Kind) (parties : ℕ) (ls : List Lone)
         (calls : List (Choice × Call T (SoloWaker X))) (first last : Solo F T X) (shown : List (Event T (SoloWaker X)))
@@ -181,8 +181,9 @@ pub fn calls_rest_at_the_end<F, T, X>()
 {}
 
 /// And there are such lists of calls for each list of wishes that are the machine's acts up to the executor's drop, and for each that are
-/// those behind its begin, where the owner may make each of the first, and may drop the executor and make each of the others, wherever those
-/// before them have led. Where memory is refused in them as in the acts, the machine's trace tells of what they show.
+/// those behind its begin, where the first may queue together no more than a queue accepts in its life, and the owner may make each of
+/// them, and may drop the executor and make each of the others, wherever those before them have led. Where memory is refused in them as in
+/// the acts, the machine's trace tells of what they show.
 pub fn wished_calls_end_alike<F, T, X>()
     ensures { (future : F) (number : X → ℕ) (limit : ℕ) (kind : MachineKind) (solo_kind : Kind) (parties : ℕ) (acts : List Act)
         (a : Act) (later : List Act) (xs ends : List (Wish T (SoloWaker X))) (x : Wish T (SoloWaker X)) (first : Solo F T X)
@@ -196,6 +197,7 @@ pub fn wished_calls_end_alike<F, T, X>()
         → MayDrop by_number go.after (course wakes go.calls (new limit (is_static_kind kind))) x ends)
         → (go : Goes by_number xs (new_owner before) first (new limit (is_static_kind kind)))
         × (last : HappenLast by_number go.after (course wakes go.calls (new limit (is_static_kind kind))) (x ∷ ends))
-        × (AreRefusedAlike (start limit kind parties) acts go.leads → EndRefusedSo a later (course wakes go.calls (new limit (is_static_kind kind))) last.calls
+        × (AreRefusedAlike (start limit kind parties) acts go.leads
+        → EndRefusedSo a later (course wakes go.calls (new limit (is_static_kind kind))) last.calls
         → heard_in (left_of a.left later).world.trace ≡ as_heard number (go.shown ++ last.shown)) }
 {}

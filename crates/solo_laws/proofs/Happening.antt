@@ -1,5 +1,7 @@
 -- That each call which an owner may make happens: the laws of `src/making.rt`.
 pub mod Choosing
+pub mod Places
+pub mod Goers
 pub mod Long
 pub mod Growing
 pub mod Ticks

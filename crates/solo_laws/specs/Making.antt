@@ -150,6 +150,34 @@ module _ {F T X : Type 0} (its : ℕ → Lent) (c : Choice) (s : Solo F T X) (p 
   TakesRoom owner call shown now z (makes call' shown' z' how) = Enters call' shown' z' how
   TakesRoom owner call shown now z how = Unit {0}
 
+-- how many tasks a call queues at most, where there are so many futures, and so many stand in the own queue of a run that goes
+abbrev pub queues_at_most : {T A : Type 0} → ℕ → ℕ → Call T A → ℕ
+queues_at_most futures own IsEmpty = 0
+queues_at_most futures own (Copy f) = 0
+queues_at_most futures own NewTick = 0
+queues_at_most futures own (PollRun r w) = 0
+queues_at_most futures own (DropRun r) = 0
+queues_at_most futures own (EndsWith v) = 0
+queues_at_most futures own NewRun = 0
+queues_at_most futures own (DropTick t) = 5
+queues_at_most futures own (PollTick t w) = 6
+queues_at_most futures own (Cancel f) = 6
+queues_at_most futures own (DropHandle f) = 9
+queues_at_most futures own Pends = 9
+queues_at_most futures own Ends = 3 * own + 15
+queues_at_most futures own Leak = 6 * futures
+queues_at_most futures own call = 3
+
+-- a spawn lets one future come
+abbrev pub comes : {T A : Type 0} → Call T A → ℕ
+comes (Spawn mark) = 1
+comes call = 0
+
+-- in the own queue of a new run 512 at most stand as it goes
+abbrev pub gives_back : {T A : Type 0} → Call T A → ℕ
+gives_back NewRun = 3 * 512
+gives_back call = 0
+
 -- this is so of the waker by which a run is polled, in each user's code
 module _ {A : Type 0} (Is : A → Type 0) where
   abbrev pub PolledBy : Taker A → Type 0
@@ -224,22 +252,22 @@ module _ {F T X : Type 0} (its : ℕ → Lent) (owner : Owner) (s : Solo F T X) 
   Allows refusal name (EndsWith v) = MayPend p.inside
   Allows refusal name Ends = MayEnd p.inside
 
-  -- how many tasks a call may queue: a leak those of all entries, a run that goes those that it keeps
+  -- so many stand in the own queue of a run that goes
   abbrev pub left_in : List (Code T (SoloWaker X)) → ℕ
   left_in (DropOwn r answer ∷ rest) = count_of_own r s.runs
   left_in codes = 0
 
-  abbrev pub queues_with : Call T (SoloWaker X) → ℕ
-  queues_with Leak = 6 * length s.table.entries
-  queues_with Ends = 3 * left_in p.inside + 14
-  queues_with call = 14
+  -- a future that comes, or a run, has a number
+  abbrev pub HasNumber : Call T (SoloWaker X) → Type 0
+  HasNumber (Spawn mark) = length p.futures < most_accepted
+  HasNumber NewRun = length p.runs < most_accepted
+  HasNumber call = Unit {0}
 
   -- a call may be made, and neither a queue nor a number comes to its end
   pub record MayCall (x : Wish T (SoloWaker X)) : Type 0 where
     pub allowed : Allows x.refusal x.name x.call
-    pub life : HasLife (queues_with x.call) s.lines
-    pub futures : length p.futures < most_accepted
-    pub runs : length p.runs < most_accepted
+    pub life : HasLife (queues_at_most (length s.table.entries) (left_in p.inside) x.call) s.lines
+    pub number : HasNumber x.call
 
   -- and happens: the executor's owner does something for it, as is decided; and whoever lay down last is told
   pub record Happens (x : Wish T (SoloWaker X)) : Type 0 where
@@ -264,10 +292,10 @@ module _ {F T X : Type 0} (its : ℕ → Lent) (owner : Owner) (s : Solo F T X) 
 abbrev pub by_number : ℕ → Lent
 by_number f = record { task = record { key = f; number = f }; place = record { key = f; stamp = 0 } }
 
--- how many tasks a list of calls queues at most, and more than futures and runs come
+-- how many tasks a list of calls queues at most, where so many futures came before it: each call, and each new run as it goes
 abbrev pub queued_by : {T A : Type 0} → ℕ → List (Wish T A) → ℕ
-queued_by limit [] = 0
-queued_by limit (x ∷ xs) = 6 * limit + 20 + queued_by limit xs
+queued_by came [] = 0
+queued_by came (x ∷ xs) = queues_at_most came 0 x.call + gives_back x.call + queued_by (came + comes x.call) xs
 
 -- each call is the one that was wished, and memory is refused as was decided
 abbrev pub AreWished : {T A : Type 0} → List (Wish T A) → List (Choice × Call T A) → Type 0

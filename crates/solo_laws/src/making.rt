@@ -30,12 +30,14 @@ pub fn refusals_are_heeded<F, T, X>()
         → it.choice.refusal ≡ x.refusal }
 {}
 
-/// So, from new ones on, each list of calls of which each may be made where those before it have led, and which queue no more tasks than a
-/// queue accepts in its life, is one of the executor's: there is what its owner does for each, and what is shown.
+/// So, from new ones on, each list of calls of which each may be made where those before it have led is one of the executor's: there is
+/// what its owner does for each, and what is shown. What the calls may queue together is no more than a queue accepts in its life: a call
+/// 15 tasks at most, and none where it asks whether the executor is empty, copies a waker, makes a tick, polls or drops a run, or gives an
+/// output; a leak six for each future that came before it; and a new run 3 * 512, for the 512 that it may give back as it goes.
 pub fn lists_of_calls_happen<F, T, X>()
     ensures { (future : F) (limit : ℕ) (kind : Kind) (is_static : Bool) (first : Solo F T X) (number : Who → ℕ)
         (xs : List (Wish T (SoloWaker X))) → IsNew limit kind first → counts kind ≡ not is_static
-        → queued_by limit xs ≤ most_accepted → MayGo by_number xs (new_owner number) first (new limit is_static)
+        → queued_by 0 xs ≤ most_accepted → MayGo by_number xs (new_owner number) first (new limit is_static)
         → Goes by_number xs (new_owner number) first (new limit is_static) }
 {}
 

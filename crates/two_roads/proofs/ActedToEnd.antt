@@ -133,7 +133,8 @@ module _ {T X : Type 0} (number : X → ℕ) where
 
   -- from the executor's drop on
   module _ (a : Act) (later : List Act) (r : Plain Output Waker) (p : Plain T (SoloWaker X)) (x : Choice × Call T (SoloWaker X))
-      (xs : List (Choice × Call T (SoloWaker X))) (is : renamed nothing (numbered number) p ≡ r) (are : EndOfSteps number a later p (x ∷ xs))
+      (xs : List (Choice × Call T (SoloWaker X))) (is : renamed nothing (numbered number) p ≡ r)
+      (are : EndOfSteps number a later p (x ∷ xs))
       (tell : AllAside (x ∷ xs) p)
       (on : StandsDropping (standing a.left a.party) (does wakes_in x.0 calls.DropExecutor r)
       × DropActAlike a.left (does wakes_in x.0 calls.DropExecutor r) later) where

@@ -46,7 +46,8 @@ module _ {F T X : Type 0} (its : ℕ → Lent) (number : X → ℕ) where
       ((call_as nothing (numbered number) call, of.0.made), made_of acts a.left rest now last m z _ more on of.2)
 
   module _ (limit : ℕ) (kind : MachineKind) (solo_kind : Kind) (parties : ℕ) (cs : List (Choice × Call T (SoloWaker X)))
-      (first last : Solo F T X) (shown : List (Event T (SoloWaker X))) (before : Who → ℕ) (after : Owner) (is_new : IsNew limit solo_kind first)
+      (first last : Solo F T X) (shown : List (Event T (SoloWaker X))) (before : Who → ℕ) (after : Owner)
+      (is_new : IsNew limit solo_kind first)
       (counted : counts solo_kind ≡ not (is_static_kind kind))
       (led : Leads its cs (new_owner before) first (new limit (is_static_kind kind)) shown after last) where
     -- acts
@@ -59,7 +60,8 @@ module _ {F T X : Type 0} (its : ℕ → Lent) (number : X → ℕ) where
         let s = start limit kind parties in
         let q : Plain Output Waker = new limit (is_static_kind kind) in
         let go = acts_alike limit kind parties acts they in
-        let both = steps_together its number limit kind solo_kind parties acts cs first last shown before after they is_new counted led of in
+        let both = steps_together its number limit kind solo_kind parties acts cs first last shown before after they is_new counted led of
+        in
         let is_left = left_same acts s in
         let rest = at_rest_behind limit kind parties acts they (subst (λ m. IsQuiet m.world.trace) (sym is_left) quiet) go in
         let comes : as_machines number (course wakes cs (new limit (is_static_kind kind))) ≡ plain_behind acts s q go =

@@ -23,7 +23,8 @@ use Rattle.machine_roads.specs.Alone.{is_outside, is_resting}
 use Rattle.machine_roads.specs.Course.{AreLone, Lone}
 use Rattle.machine_roads.specs.DropActs.{AreDropActs, left_by as left_by_acts}
 use Rattle.machine_roads.specs.View.{Output}
-use Rattle.machine_roads.specs.Within.{Act, AreActs, IsAct, IsCallIn, IsMade, begins, calls_outside, goes_on, is_on_way, may_stand_in, rests_after}
+use Rattle.machine_roads.specs.Within.{Act, AreActs, IsAct, IsCallIn, IsMade, begins, calls_outside, goes_on, is_on_way, may_stand_in}
+use Rattle.machine_roads.specs.Within.{rests_after}
 use Rattle.machine_roads.specs.Within as within
 use Rattle.machine_roads.proofs.Lists.{same_of}
 use Rattle.machine_roads.proofs.LoneRuns.{both_true, made_is, passed}

@@ -10,4 +10,5 @@ pub mod Refused
 pub mod Said
 pub mod TicksMet
 pub mod Met
+pub mod Queueing
 pub mod Lists

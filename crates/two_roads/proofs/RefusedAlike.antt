@@ -1,5 +1,6 @@
 -- A call that is refused memory as was wished is so as in the act that it is, where copies of tasks' wakers are.
-use Rattle.std.proofs.Common.{◌≡◌, ℕ, ◌<◌, ◌≤◌, ◌^◌, nat_lt, cond, Bool, true, false, List, length, map, slice_get, Option, Some, None, refl}
+use Rattle.std.proofs.Common.{◌≡◌, ℕ, ◌<◌, ◌≤◌, ◌^◌, nat_lt, cond, Bool, true, false, List, length, map, slice_get, Option, Some, None}
+use Rattle.std.proofs.Common.{refl}
 use Rattle.std.proofs.Common.{sym, ap, subst, ◌∙◌, arith}
 use Rattle.executor_model.specs.declared.op.Waker.{Waker}
 use Rattle.executor_model.specs.Steps.{Machine}
@@ -24,7 +25,8 @@ use Rattle.machine_roads.specs.Road.{uncalled}
 use Rattle.machine_roads.specs.Seeing.{heard_in, shown as shown_alike}
 use Rattle.machine_roads.specs.View.{Output, wakes as wakes_in}
 use Rattle.machine_roads.specs.Within.{Act, ActsBy, IsMade, start_in}
-use Rattle.solo_laws.specs.Courses.{Acts, Makes, cancels, copies, detaches, drops_handle, ends_closed, ends_given, gives, leaks, looks, loses}
+use Rattle.solo_laws.specs.Courses.{Acts, Makes, cancels, copies, detaches, drops_handle, ends_closed, ends_given, gives, leaks, looks}
+use Rattle.solo_laws.specs.Courses.{loses}
 use Rattle.solo_laws.specs.Courses.{makes, pends, polls, refuses, releases, run_drops, run_goes_on, run_loses, spawns, takes, uses, wakes}
 use Rattle.solo_laws.specs.Heeding.{Fits}
 use Rattle.solo_laws.specs.Making.{acted_as, copy_refusal, made_as}

@@ -77,7 +77,8 @@ module _ {F T X : Type 0} (its : ℕ → Lent) (number : X → ℕ) where
       (led : Leads its cs owner y p shown last z) → AreWishesOfSteps number s acts xs → AsWished its xs cs owner y p shown last z led
       → AreRefusedAlike s acts led → AreOnce s acts → Known its owner y p → AreOfSteps number s acts led
   wishes_so [] s [] cs owner last y z p shown (stays owner' y' p') wishes wished refused once known = tt
-  wishes_so [] s [] cs owner last y z p shown (leads c call rest b now e t m v r first more many acts_so on) wishes wished refused once known =
+  wishes_so [] s [] cs owner last y z p shown (leads c call rest b now e t m v r first more many acts_so on) wishes wished refused once
+      known =
       absurd wished
   wishes_so [] s (x ∷ xs) cs owner last y z p shown led wishes wished refused once known = absurd wishes
   wishes_so (a ∷ acts) s [] cs owner last y z p shown led wishes wished refused once known = absurd wishes

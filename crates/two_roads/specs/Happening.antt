@@ -1,6 +1,8 @@
 -- Acts of the machine, as calls that the owner of an executor makes.
 use Rattle.std.specs.Prelude.{◌≡◌, ℕ, ◌+◌, ◌*◌, ◌^◌, ◌<◌, ◌≤◌, true, false, List, [], ◌∷◌, length, Some, None}
-use Rattle.queue_steps.specs.ClosableQueue.{most_accepted}
+use Rattle.executor_model.specs.declared.call.Call.TheVariants as call
+use Rattle.executor_model.specs.declared.step.Step.{Step}
+use Rattle.executor_model.specs.declared.step.Step.TheVariants.{Begin}
 use Rattle.executor_model.specs.declared.op.Waker.{Waker}
 use Rattle.executor_model.specs.declared.op.Waker.TheVariants.{Task as TaskWaker, Outside as OutsideWaker}
 use Rattle.executor_model.specs.declared.kind.Kind.{Kind as MachineKind}
@@ -20,7 +22,7 @@ use Rattle.machine_roads.specs.Seeing.{heard_in}
 use Rattle.machine_roads.specs.View.{Output}
 use Rattle.machine_roads.specs.Within.{Act, IsMade}
 use Rattle.solo_laws.specs.Courses.{Acts, Leads}
-use Rattle.solo_laws.specs.Making.{HasNoRoom, WakersAreKnown, by_number, queues_with}
+use Rattle.solo_laws.specs.Making.{HasNoRoom, HasNumber, WakersAreKnown, by_number, left_in, queues_at_most}
 use Rattle.solo_laws.specs.Owner.{Owner, has_tick, new_owner}
 use Rattle.solo_laws.specs.Road.{HasLife, apart, wakes}
 use Rattle.solo_laws.specs.Tabled.{named}
@@ -72,11 +74,10 @@ module _ {F T X : Type 0} (number : X → ℕ) (s : Machine) (a : Act) (owner : 
   FitsMemory Ends = VainCanCopy Ends
   FitsMemory call = Unit {0}
 
-  -- its queues may accept as many tasks as the call may queue, and fewer futures and runs came than may
+  -- its queues may accept as many tasks as the call may queue, and a future that comes, or a run, has a number
   pub record HasMeans (call : Call T (SoloWaker X)) : Type 0 where
-    pub life : HasLife (queues_with by_number owner y p call) y.lines
-    pub futures : length p.futures < most_accepted
-    pub runs : length p.runs < most_accepted
+    pub life : HasLife (queues_at_most (length y.table.entries) (left_in by_number owner y p p.inside) call) y.lines
+    pub has_number : HasNumber by_number owner y p call
     pub memory : FitsMemory call
 
   -- the owner makes the call that the act is, and both name alike behind it
@@ -96,10 +97,26 @@ module _ {F T X : Type 0} (number : X → ℕ) (s : Machine) (a : Act) (owner : 
   abbrev pub MayAct : T → (ℕ → X) → Type 0
   MayAct value outside = (made : Call Output Waker) → IsMade s a.party a.first made → HasMeans (call_by value outside made)
 
--- so many tasks a list of acts queues at most, and more than futures and runs come
+-- how many tasks an act queues at most, where there are so many futures: a leak, a new run as it goes, and any other
+abbrev pub act_queues : ℕ → Step → ℕ
+act_queues futures (Begin p call.IsEmpty) = 0
+act_queues futures (Begin p (call.Copy k)) = 0
+act_queues futures (Begin p call.Keep) = 0
+act_queues futures (Begin p call.NewTick) = 0
+act_queues futures (Begin p (call.PollRun r by)) = 0
+act_queues futures (Begin p (call.DropRun r)) = 0
+act_queues futures (Begin p call.Leak) = 6 * futures
+act_queues futures (Begin p call.NewRun) = 3 * 512
+act_queues futures step = 15
+
+abbrev pub comes_in : Step → ℕ
+comes_in (Begin p (call.Spawn mark)) = 1
+comes_in step = 0
+
+-- how many tasks a list of acts queues at most, where so many futures came before it
 abbrev pub queued_in : ℕ → List Act → ℕ
-queued_in limit [] = 0
-queued_in limit (a ∷ acts) = 6 * limit + 20 + queued_in limit acts
+queued_in came [] = 0
+queued_in came (a ∷ acts) = act_queues came a.first + queued_in (came + comes_in a.first) acts
 
 module _ {F T X : Type 0} (number : X → ℕ) (value : T) (outside : ℕ → X) where
   -- memory is as each of these acts has it, wherever those before it have led

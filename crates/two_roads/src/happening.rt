@@ -19,10 +19,10 @@ ghost use Rattle.two_roads.specs.Happening.{AreActed, IsActed, MayAct, MemoryFit
 
 /// Wherever a list of acts of a new machine and a list of calls of a new executor of one owner that is of these steps have led, and both
 /// name alike, each further act of the machine is a call that the owner makes, refused memory as the act and from the same words on; and
-/// both name alike behind it. The executor has to have what the call takes: its queues may accept as many tasks more, and fewer futures
-/// and runs came than may. And as to memory: for a future it is refused in the act only where the executor has no room for one; a copy of
-/// a task's waker, that of a kept one or for a handle that waits, only where that task has as many references as it may, and it has one
-/// at all; and where a tick or a run searches in vain in a poll by a task's waker, that task has two references fewer than it may.
+/// both name alike behind it. The executor has to have what the call takes: its queues may accept as many tasks more, and a future that
+/// comes, or a run, has a number. And as to memory: for a future it is refused in the act only where the executor has no room for one; a
+/// copy of a task's waker, that of a kept one or for a handle that waits, only where that task has as many references as it may, and it has
+/// one at all; and where a tick or a run searches in vain in a poll by a task's waker, that task has two references fewer than it may.
 pub fn each_act_happens<F, T, X>()
     ensures { (number : X → ℕ) (outside : ℕ → X) (numbers : (n : ℕ) → number (outside n) ≡ n) (value : T) (future : F)
         (limit : ℕ) (kind : MachineKind) (solo_kind : Kind) (parties : ℕ) (acts : List Act) (calls : List (Choice × Call T (SoloWaker X)))
@@ -38,13 +38,14 @@ pub fn each_act_happens<F, T, X>()
 {}
 
 /// So, from a new machine and a new executor on, each list of acts is a list of calls that the executor's owner makes, and the machine's
-/// trace tells of what these show: where six times the limit and 20 for each of them are together no more than a queue accepts in its
-/// life, and memory, wherever those before it have led, is for each act as said above.
+/// trace tells of what these show: where memory, wherever those before it have led, is for each act as said above, and what the acts may
+/// queue together is no more than a queue accepts in its life: an act 15 tasks at most, and many acts none; a leak six for each future that
+/// came before it; and a new run 3 * 512, for the 512 that it may give back as it goes.
 pub fn acts_happen<F, T, X>()
     ensures { (number : X → ℕ) (outside : ℕ → X) (numbers : (n : ℕ) → number (outside n) ≡ n) (value : T) (future : F)
         (limit : ℕ) (kind : MachineKind) (solo_kind : Kind) (parties : ℕ) (acts : List Act) (first : Solo F T X) (before : Who → ℕ)
         → AreActs (start limit kind parties) acts → IsNew limit solo_kind first → counts solo_kind ≡ not (is_static_kind kind)
-        → queued_in limit acts ≤ most_accepted
+        → queued_in 0 acts ≤ most_accepted
         → MemoryFits number value outside acts (start limit kind parties) (new_owner before) first (new limit (is_static_kind kind))
         → AreActed number limit kind parties acts first before }
 {}

@@ -23,7 +23,8 @@ ghost use Rattle.solo_laws.specs.Owner.{Owner, new_owner};
 ghost use Rattle.solo_laws.specs.Road.{wakes};
 ghost use Rattle.solo_laws.specs.Tabled.{named};
 ghost use Rattle.two_roads.specs.Acting.{acts_by, left_of};
-ghost use Rattle.two_roads.specs.ActsInOrder.{IsAloneInActs, IsOnlyBegunInActs, all_wait_in, come_in, line_of_all, line_of_mark, taken_in, wait_in};
+ghost use Rattle.two_roads.specs.ActsInOrder.{IsAloneInActs, IsOnlyBegunInActs, all_wait_in, come_in, line_of_all, line_of_mark};
+ghost use Rattle.two_roads.specs.ActsInOrder.{taken_in, wait_in};
 ghost use Rattle.two_roads.specs.InOrder.{HandsInOrder, IsAloneIn, IsOnlyBegunIn, all_wait, handed, polls_in, waits};
 
 /// Where a list of calls has led from a new executor of one owner on, nothing stands in the own queue of another run, and in the calls

@@ -32,10 +32,10 @@ ghost use Rattle.two_roads.specs.Renaming.{AreSame};
 ghost use Rattle.two_roads.specs.Together.{TellsOf, as_heard, left_by, nothing, numbered};
 ghost use Rattle.two_roads.specs.Wishing.{AreLastWishesOfSteps, AreRefusedAlike, AreWishesOfSteps, EndRefusedSo};
 
-/// A list of lone calls of a new machine is one of acts, each up to where user code has to answer: where these are a list of calls of a new
-/// executor of one owner, both then stand where one plain scheduler does, and the machine's trace tells of the polls, drops, calls of wakers
-/// and answers that the executor shows, in order. So each call is to be what the machine's step begins or answers, memory refused to it as
-/// in the act, and a run that robs another to look for whom from the same word on; nothing is asked of what else they choose.
+/// A list of lone calls of a new machine is one of acts, each up to where user code has to answer: where these are a list of calls of a
+/// new executor of one owner, both then stand where one plain scheduler does, and the machine's trace tells of the polls, drops, calls of
+/// wakers and answers that the executor shows, in order. So each call is to be what the machine's step begins or answers, memory refused
+/// to it as in the act, and a run that robs another to look for whom from the same word on; nothing is asked of what else they choose.
 pub fn both_show_alike<F, T, X>()
     ensures { (its : ℕ → Lent) (number : X → ℕ) (limit : ℕ) (kind : MachineKind) (solo_kind : Kind) (parties : ℕ) (ls : List Lone)
         (calls : List (Choice × Call T (SoloWaker X))) (first last : Solo F T X) (shown : List (Event T (SoloWaker X)))
@@ -119,13 +119,14 @@ pub fn calls_show_alike<F, T, X>()
 {}
 
 /// And there is such a list of calls for each list of wishes that are the machine's acts, where the executor's owner may make each of these
-/// calls where those before it have led, and they queue no more tasks than a queue accepts in its life. Where memory is refused in it as in
-/// the acts, the machine's trace tells of what it shows.
+/// calls where those before it have led. Where memory is refused in it as in the acts, the machine's trace tells of what it shows. What the
+/// calls may queue together is no more than a queue accepts in its life: a call 15 tasks at most, and many calls none; a leak six for each
+/// future that came before it; and a new run 3 * 512, for the 512 that it may give back as it goes.
 pub fn wished_calls_show_alike<F, T, X>()
     ensures { (future : F) (number : X → ℕ) (limit : ℕ) (kind : MachineKind) (solo_kind : Kind) (parties : ℕ) (acts : List Act)
         (xs : List (Wish T (SoloWaker X))) (first : Solo F T X) (before : Who → ℕ) → AreActs (start limit kind parties) acts
         → IsNew limit solo_kind first → counts solo_kind ≡ not (is_static_kind kind)
-        → AreWishesOfSteps number (start limit kind parties) acts xs → queued_by limit xs ≤ most_accepted
+        → AreWishesOfSteps number (start limit kind parties) acts xs → queued_by 0 xs ≤ most_accepted
         → MayGo by_number xs (new_owner before) first (new limit (is_static_kind kind))
         → (go : Goes by_number xs (new_owner before) first (new limit (is_static_kind kind)))
         × (AreRefusedAlike (start limit kind parties) acts go.leads
@@ -180,8 +181,9 @@ pub fn calls_rest_at_the_end<F, T, X>()
 {}
 
 /// And there are such lists of calls for each list of wishes that are the machine's acts up to the executor's drop, and for each that are
-/// those behind its begin, where the owner may make each of the first, and may drop the executor and make each of the others, wherever those
-/// before them have led. Where memory is refused in them as in the acts, the machine's trace tells of what they show.
+/// those behind its begin, where the first may queue together no more than a queue accepts in its life, and the owner may make each of
+/// them, and may drop the executor and make each of the others, wherever those before them have led. Where memory is refused in them as in
+/// the acts, the machine's trace tells of what they show.
 pub fn wished_calls_end_alike<F, T, X>()
     ensures { (future : F) (number : X → ℕ) (limit : ℕ) (kind : MachineKind) (solo_kind : Kind) (parties : ℕ) (acts : List Act)
         (a : Act) (later : List Act) (xs ends : List (Wish T (SoloWaker X))) (x : Wish T (SoloWaker X)) (first : Solo F T X)
@@ -190,11 +192,12 @@ pub fn wished_calls_end_alike<F, T, X>()
         → a.first ≡ Begin a.party DropsExecutor → AreDropActs a.left later → IsNew limit solo_kind first
         → counts solo_kind ≡ not (is_static_kind kind)
         → AreWishesOfSteps number (start limit kind parties) acts xs → AreLastWishesOfSteps number a.left later ends
-        → queued_by limit xs ≤ most_accepted → MayGo by_number xs (new_owner before) first (new limit (is_static_kind kind))
+        → queued_by 0 xs ≤ most_accepted → MayGo by_number xs (new_owner before) first (new limit (is_static_kind kind))
         → ((go : Goes by_number xs (new_owner before) first (new limit (is_static_kind kind)))
         → MayDrop by_number go.after (course wakes go.calls (new limit (is_static_kind kind))) x ends)
         → (go : Goes by_number xs (new_owner before) first (new limit (is_static_kind kind)))
         × (last : HappenLast by_number go.after (course wakes go.calls (new limit (is_static_kind kind))) (x ∷ ends))
-        × (AreRefusedAlike (start limit kind parties) acts go.leads → EndRefusedSo a later (course wakes go.calls (new limit (is_static_kind kind))) last.calls
+        × (AreRefusedAlike (start limit kind parties) acts go.leads
+        → EndRefusedSo a later (course wakes go.calls (new limit (is_static_kind kind))) last.calls
         → heard_in (left_of a.left later).world.trace ≡ as_heard number (go.shown ++ last.shown)) }
 {}

@@ -13,7 +13,7 @@ use Rattle.solo_laws.specs.Road.{wakes}
 use Rattle.solo_laws.specs.RunGoing.{Dropping, IsEnding, Losing, Polling, Stage, drop_ends, in_try, loss_ends, poll_ends}
 use Rattle.solo_laws.proofs.Happening.Long.{ends_long, pends_long}
 
-abbrev telling : ℕ → Choice
+abbrev pub telling : ℕ → Choice
 telling n = record { first = PlainMark; keeps = []; robs = 0; moves = 0; tells = n; refusal = Granted }
 
 module _ {T X : Type 0} where

@@ -141,7 +141,7 @@ module _ {F T X : Type 0} (its : ℕ → Lent) (future : F) (owner : Owner) (s :
   at_limit a b is = grind (arith, nat_tests)
 
   pub spawn_happens : (mark : Mark) → NextIsFree its owner s p → length p.futures < most_accepted
-      → (is_granted refusal ≡ false → HasNoRoom its owner s p) → HasLife 14 s.lines → Happens its owner s p (wish (plain.Spawn mark))
+      → (is_granted refusal ≡ false → HasNoRoom its owner s p) → HasLife 3 s.lines → Happens its owner s p (wish (plain.Spawn mark))
   spawn_happens mark free few full life = by (nat_lt (length s.table.entries) s.table.limit) refl refusal refl
     where
       no_memory : nat_lt (length s.table.entries) s.table.limit ≡ true → is_granted refusal ≡ false
@@ -164,7 +164,7 @@ module _ {F T X : Type 0} (its : ℕ → Lent) (future : F) (owner : Owner) (s :
           let under = below_limit (length s.table.entries) s.table.limit is in
           is_made refusal (plain.Spawn mark) _ (turns.scheduled next.task (entered mark free under))
           (spawns mark future (spawned mark free under) (turns.scheduled next.task (entered mark free under)) (spawned_so mark free under)
-          refl same (fewer 3 14 s.lines (omega arith) life) few) refl
+          refl same life few) refl
           (scheduled_of (λ accepted (table : TableValue F) (going : TableValue F). table.has_room ≡ false) next.task
           (entered mark free under)
           refl)
@@ -180,41 +180,41 @@ module _ {F T X : Type 0} (its : ℕ → Lent) (future : F) (owner : Owner) (s :
   poll_granted false = refl
 
   pub poll_happens : (f : ℕ) (w : SoloWaker X) → f < length p.futures → (task f p).handle ≡ true → IsKnown its owner s p w
-      → HasLife 14 s.lines → Happens its owner s p (wish (plain.PollHandle f w))
+      → HasLife 3 s.lines → Happens its owner s p (wish (plain.PollHandle f w))
   poll_happens f (Outside w) at handle known life =
       is_made refusal (plain.PollHandle f (Outside w)) _ _ (polls f (Outside w) at handle (λ t is. absurd cc)
-      (fewer 2 14 s.lines (omega arith) life)) refl tt
+      (fewer 2 3 s.lines (omega arith) life)) refl tt
   poll_happens f (OfTask u) at handle known life =
       is_made (copy_refusal (solo.may_hold u s)) (plain.PollHandle f (OfTask u)) _ _
       (polls f (OfTask u) at handle
       (λ t is. subst (λ t. IsNamed (named its) (length p.futures) t
       × (is_granted (copy_refusal (solo.may_hold u s)) ≡ solo.may_hold t s)) (ap task_in is) (known, poll_granted (solo.may_hold u s)))
-      (fewer 2 14 s.lines (omega arith) life)) refl tt
+      (fewer 2 3 s.lines (omega arith) life)) refl tt
     where
       task_in : SoloWaker X → Task
       task_in (OfTask t) = t
       task_in (Outside w) = u
 
-  pub wake_happens : (f : ℕ) → f < length p.futures → HasLife 14 s.lines → Happens its owner s p (wish (plain.Wake f))
-  wake_happens f at life = is_made refusal (plain.Wake f) _ _ (wakes f at (fewer 2 14 s.lines (omega arith) life)) refl tt
+  pub wake_happens : (f : ℕ) → f < length p.futures → HasLife 3 s.lines → Happens its owner s p (wish (plain.Wake f))
+  wake_happens f at life = is_made refusal (plain.Wake f) _ _ (wakes f at (fewer 2 3 s.lines (omega arith) life)) refl tt
 
-  pub use_happens : (f : ℕ) → f < length p.futures → HasLife 14 s.lines → Happens its owner s p (wish (plain.Use f))
-  use_happens f at life = is_made refusal (plain.Use f) _ _ (uses f at (fewer 2 14 s.lines (omega arith) life)) refl tt
+  pub use_happens : (f : ℕ) → f < length p.futures → HasLife 3 s.lines → Happens its owner s p (wish (plain.Use f))
+  use_happens f at life = is_made refusal (plain.Use f) _ _ (uses f at (fewer 2 3 s.lines (omega arith) life)) refl tt
 
-  pub release_happens : (f : ℕ) → f < length p.futures → HasLife 14 s.lines → Happens its owner s p (wish (plain.Release f))
-  release_happens f at life = is_made refusal (plain.Release f) _ _ (releases f at (fewer 2 14 s.lines (omega arith) life)) refl tt
+  pub release_happens : (f : ℕ) → f < length p.futures → HasLife 3 s.lines → Happens its owner s p (wish (plain.Release f))
+  release_happens f at life = is_made refusal (plain.Release f) _ _ (releases f at (fewer 2 3 s.lines (omega arith) life)) refl tt
 
-  pub cancel_happens : (f : ℕ) → f < length p.futures → HasLife 14 s.lines → Happens its owner s p (wish (plain.Cancel f))
-  cancel_happens f at life = is_made refusal (plain.Cancel f) _ _ (cancels f at (fewer 5 14 s.lines (omega arith) life)) refl tt
+  pub cancel_happens : (f : ℕ) → f < length p.futures → HasLife 6 s.lines → Happens its owner s p (wish (plain.Cancel f))
+  cancel_happens f at life = is_made refusal (plain.Cancel f) _ _ (cancels f at (fewer 5 6 s.lines (omega arith) life)) refl tt
 
-  pub detach_happens : (f : ℕ) → f < length p.futures → HasLife 14 s.lines → Happens its owner s p (wish (plain.Detach f))
-  detach_happens f at life = is_made refusal (plain.Detach f) _ _ (detaches f at (fewer 2 14 s.lines (omega arith) life)) refl tt
+  pub detach_happens : (f : ℕ) → f < length p.futures → HasLife 3 s.lines → Happens its owner s p (wish (plain.Detach f))
+  detach_happens f at life = is_made refusal (plain.Detach f) _ _ (detaches f at (fewer 2 3 s.lines (omega arith) life)) refl tt
 
-  pub drop_happens : (f : ℕ) → f < length p.futures → HasLife 14 s.lines → Happens its owner s p (wish (plain.DropHandle f))
-  drop_happens f at life = is_made refusal (plain.DropHandle f) _ _ (drops_handle f at (fewer 8 14 s.lines (omega arith) life)) refl tt
+  pub drop_happens : (f : ℕ) → f < length p.futures → HasLife 9 s.lines → Happens its owner s p (wish (plain.DropHandle f))
+  drop_happens f at life = is_made refusal (plain.DropHandle f) _ _ (drops_handle f at (fewer 8 9 s.lines (omega arith) life)) refl tt
 
-  pub try_happens : HasLife 14 s.lines → Happens its owner s p (wish plain.TryTick)
-  try_happens life = is_made refusal plain.TryTick _ _ (takes refl (fewer 1 14 s.lines (omega arith) life)) refl tt
+  pub try_happens : HasLife 3 s.lines → Happens its owner s p (wish plain.TryTick)
+  try_happens life = is_made refusal plain.TryTick _ _ (takes refl (fewer 1 3 s.lines (omega arith) life)) refl tt
 
   pub look_happens : Happens its owner s p (wish plain.IsEmpty)
   look_happens = is_made refusal plain.IsEmpty _ s looks refl tt

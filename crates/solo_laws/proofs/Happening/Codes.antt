@@ -61,13 +61,13 @@ module _ {F T X : Type 0} (its : ℕ → Lent) (future : F) (owner : Owner) (s :
 
   -- the poll of a future ends
   pend_happens : (f : ℕ) (by : Taker (SoloWaker X)) (rest : List (Code T (SoloWaker X))) → p.inside ≡ Poll f by ∷ rest
-      → PolledBy (IsKnown its owner s p) by → HasLife 14 s.lines → wished plain.Pends
+      → PolledBy (IsKnown its owner s p) by → HasLife 9 s.lines → wished plain.Pends
   pend_happens f Try rest is w_known life =
       is_made its future owner s p known.stands refusal first second name refusal plain.Pends _ _
-      (pends f Try rest future refl is (fewer 2 14 s.lines (omega arith) life)) refl tt
+      (pends f Try rest future refl is (fewer 2 9 s.lines (omega arith) life)) refl tt
   pend_happens f (Tick t w) rest is w_known life =
       is_made its future owner s p known.stands refusal first second name refusal plain.Pends _ _
-      (pends f (Tick t w) rest future refl is (fewer 2 14 s.lines (omega arith) life)) refl tt
+      (pends f (Tick t w) rest future refl is (fewer 2 9 s.lines (omega arith) life)) refl tt
   pend_happens f (Run r w) rest is w_known life = by out.rest refl
     where
       out : Owed F T X
@@ -77,7 +77,7 @@ module _ {F T X : Type 0} (its : ℕ → Lent) (future : F) (owner : Owner) (s :
       y = solo.settled_pending (its f) future s
 
       lives : HasLife 5 (solo.settled_pending (its f) future s).lines
-      lives = pends_lives 5 (its f) future s (fewer 8 14 s.lines (omega arith) life)
+      lives = pends_lives 5 (its f) future s (fewer 8 9 s.lines (omega arith) life)
 
       shows : (o : Option Lent) → List (Event T (SoloWaker X))
       shows o = or o (λ lent. Drops lent.task.number ∷ []) (rings out.sleeper ++ Answers Yes ∷ [])
@@ -85,7 +85,7 @@ module _ {F T X : Type 0} (its : ℕ → Lent) (future : F) (owner : Owner) (s :
       how : (o : Option Lent) → out.rest ≡ o → (c : Choice) → Makes its c s (in_try (Polling f) rest p) plain.Pends (shows o) y
       how o none c =
           subst (λ es. Makes its c s (in_try (Polling f) rest p) plain.Pends es y) (ap shows none)
-          (pends f Try rest future refl refl (fewer 2 14 s.lines (omega arith) life))
+          (pends f Try rest future refl refl (fewer 2 9 s.lines (omega arith) life))
 
       by : (o : Option Lent) → out.rest ≡ o → wished plain.Pends
       by None none = goes (Polling f) r w rest is plain.Pends (poll_ends f) y lives w_known (rings out.sleeper) (how None none)
@@ -94,14 +94,14 @@ module _ {F T X : Type 0} (its : ℕ → Lent) (future : F) (owner : Owner) (s :
 
   -- that of a run's own, and it searches
   own_pend_happens : (r : ℕ) (w : SoloWaker X) (rest : List (Code T (SoloWaker X))) → p.inside ≡ PollOwn r w ∷ rest
-      → IsKnown its owner s p w → HasLife 14 s.lines → wished plain.Pends
+      → IsKnown its owner s p w → HasLife 9 s.lines → wished plain.Pends
   own_pend_happens r w rest is w_known life =
       let runner = runner_of its future owner s p known refusal first second name r in
       let out = record p { inside = rest } in
       let it =
       search_happens its owner runner w s refusal first second out most
       (known_as its future owner s p known refusal first second name s out w refl w_known) (omega arith)
-      (fewer 5 14 s.lines (omega arith) life) in
+      (fewer 5 9 s.lines (omega arith) life) in
       record {
         choice = it.choice;
         shown = it.so.shown;
@@ -122,7 +122,7 @@ module _ {F T X : Type 0} (its : ℕ → Lent) (future : F) (owner : Owner) (s :
       → p.inside ≡ code ∷ rest → PolledIn (IsKnown its owner s p) code
   innermost all code rest is = (subst (EachPolledBy (IsKnown its owner s p)) is all).0
 
-  pub pends_happen : WakersAreKnown its owner s p → MayPend its owner s p p.inside → HasLife 14 s.lines → wished plain.Pends
+  pub pends_happen : WakersAreKnown its owner s p → MayPend its owner s p p.inside → HasLife 9 s.lines → wished plain.Pends
   pends_happen all may life = by p.inside refl may
     where
       by : (cs : List (Code T (SoloWaker X))) → p.inside ≡ cs → MayPend its owner s p cs → wished plain.Pends
@@ -151,7 +151,7 @@ module _ {F T X : Type 0} (its : ℕ → Lent) (future : F) (owner : Owner) (s :
       by (Close fs all ∷ rest) is may = absurd may
 
   -- the drop of a future ends, of one that gave its output, or whose task is closed
-  module _ (f : ℕ) (rest : List (Code T (SoloWaker X))) (life : HasLife 14 s.lines) where
+  module _ (f : ℕ) (rest : List (Code T (SoloWaker X))) (life : HasLife 15 s.lines) where
     -- what is owed then, and what is left
     module _ (end : End T) (owed : Owed F T X) (z : Solo F T X) (less : HasLife 11 z.lines)
         (how : (c : Choice)
@@ -189,56 +189,57 @@ module _ {F T X : Type 0} (its : ℕ → Lent) (future : F) (owner : Owner) (s :
         → wished plain.Ends
     drop_happens Closed Try is w_known =
         is_made its future owner s p known.stands refusal first second name refusal plain.Ends _ _
-        (ends_closed f Try rest refl is (fewer 8 14 s.lines (omega arith) life)) refl tt
+        (ends_closed f Try rest refl is (fewer 8 15 s.lines (omega arith) life)) refl tt
     drop_happens Closed (Tick t w) is w_known =
         is_made its future owner s p known.stands refusal first second name refusal plain.Ends _ _
-        (ends_closed f (Tick t w) rest refl is (fewer 8 14 s.lines (omega arith) life)) refl tt
+        (ends_closed f (Tick t w) rest refl is (fewer 8 15 s.lines (omega arith) life)) refl tt
     drop_happens Closed (Run r w) is w_known =
-        run_drop_happens Closed (solo.finish_answer (its f) s) (solo.finished (its f) s) (left_lives 11 (its f).place s life)
-        (λ c. ends_closed f Try rest refl refl (fewer 8 14 s.lines (omega arith) life)) r w is w_known
+        run_drop_happens Closed (solo.finish_answer (its f) s) (solo.finished (its f) s)
+        (left_lives 11 (its f).place s (fewer 14 15 s.lines (omega arith) life))
+        (λ c. ends_closed f Try rest refl refl (fewer 8 15 s.lines (omega arith) life)) r w is w_known
     drop_happens (Gave v) Try is w_known =
         is_made its future owner s p known.stands refusal first second name refusal plain.Ends _ _
-        (ends_given f v Try rest refl is (fewer 8 14 s.lines (omega arith) life)) refl tt
+        (ends_given f v Try rest refl is (fewer 8 15 s.lines (omega arith) life)) refl tt
     drop_happens (Gave v) (Tick t w) is w_known =
         is_made its future owner s p known.stands refusal first second name refusal plain.Ends _ _
-        (ends_given f v (Tick t w) rest refl is (fewer 8 14 s.lines (omega arith) life)) refl tt
+        (ends_given f v (Tick t w) rest refl is (fewer 8 15 s.lines (omega arith) life)) refl tt
     drop_happens (Gave v) (Run r w) is w_known =
         run_drop_happens (Gave v) (solo.settle_ready_answer (its f) v s) (solo.settled_ready (its f) v s)
-        (left_lives 11 (its f).place s life)
-        (λ c. ends_given f v Try rest refl refl (fewer 8 14 s.lines (omega arith) life)) r w is w_known
+        (left_lives 11 (its f).place s (fewer 14 15 s.lines (omega arith) life))
+        (λ c. ends_given f v Try rest refl refl (fewer 8 15 s.lines (omega arith) life)) r w is w_known
 
   -- and that of an output
   loss_happens : (awaiter : Option (SoloWaker X)) (by : Option (Taker (SoloWaker X))) (rest : List (Code T (SoloWaker X)))
-      → p.inside ≡ Lose awaiter by ∷ rest → PolledIf (IsKnown its owner s p) by → HasLife 14 s.lines → wished plain.Ends
+      → p.inside ≡ Lose awaiter by ∷ rest → PolledIf (IsKnown its owner s p) by → HasLife 15 s.lines → wished plain.Ends
   loss_happens awaiter None rest is w_known life =
       is_made its future owner s p known.stands refusal first second name refusal plain.Ends _ _
-      (loses awaiter None rest refl is (fewer 2 14 s.lines (omega arith) life)) refl tt
+      (loses awaiter None rest refl is (fewer 2 15 s.lines (omega arith) life)) refl tt
   loss_happens awaiter (Some Try) rest is w_known life =
       is_made its future owner s p known.stands refusal first second name refusal plain.Ends _ _
-      (loses awaiter (Some Try) rest refl is (fewer 2 14 s.lines (omega arith) life)) refl tt
+      (loses awaiter (Some Try) rest refl is (fewer 2 15 s.lines (omega arith) life)) refl tt
   loss_happens awaiter (Some (Tick t w)) rest is w_known life =
       is_made its future owner s p known.stands refusal first second name refusal plain.Ends _ _
-      (loses awaiter (Some (Tick t w)) rest refl is (fewer 2 14 s.lines (omega arith) life)) refl tt
+      (loses awaiter (Some (Tick t w)) rest refl is (fewer 2 15 s.lines (omega arith) life)) refl tt
   loss_happens awaiter (Some (Run r w)) rest is w_known life =
       goes (Losing awaiter) r w rest is plain.Ends (loss_ends awaiter) (calls awaiter s)
-      (calls_lives 5 awaiter s (fewer 8 14 s.lines (omega arith) life)) w_known (rings_of awaiter s)
-      (λ c. loses awaiter (Some Try) rest refl refl (fewer 2 14 s.lines (omega arith) life))
+      (calls_lives 5 awaiter s (fewer 8 15 s.lines (omega arith) life)) w_known (rings_of awaiter s)
+      (λ c. loses awaiter (Some Try) rest refl refl (fewer 2 15 s.lines (omega arith) life))
 
   leave_happens : (r : ℕ) (answer : Answer T) (rest : List (Code T (SoloWaker X))) → p.inside ≡ DropOwn r answer ∷ rest
-      → HasLife (3 * count_of_own r s.runs + 14) s.lines → wished plain.Ends
+      → HasLife (3 * count_of_own r s.runs + 15) s.lines → wished plain.Ends
   leave_happens r answer rest is life =
       let runner = runner_of its future owner s p known refusal first second name r in
       is_acted its future owner s p known.stands refusal first second name refusal plain.Ends _ owner _
       (run_leaves runner answer rest (is ∙ ap (λ k. DropOwn k answer ∷ rest) (sym (known.tallied.number r)))
       (subst (λ k. HasLife (3 * count_of_own k s.runs + 5) s.lines) (sym (known.tallied.number r))
-      (fewer (3 * count_of_own r s.runs + 5) (3 * count_of_own r s.runs + 14) s.lines (omega arith) life))) refl tt tt tt
+      (fewer (3 * count_of_own r s.runs + 5) (3 * count_of_own r s.runs + 15) s.lines (omega arith) life))) refl tt tt tt
 
-  pub ends_happen : WakersAreKnown its owner s p → MayEnd its owner s p p.inside → HasLife (3 * left_in its owner s p p.inside + 14)
+  pub ends_happen : WakersAreKnown its owner s p → MayEnd its owner s p p.inside → HasLife (3 * left_in its owner s p p.inside + 15)
       s.lines → wished plain.Ends
   ends_happen all may life = by p.inside refl may
     where
-      enough : HasLife 14 s.lines
-      enough = fewer 14 (3 * left_in its owner s p p.inside + 14) s.lines (omega arith) life
+      enough : HasLife 15 s.lines
+      enough = fewer 15 (3 * left_in its owner s p p.inside + 15) s.lines (omega arith) life
 
       by : (cs : List (Code T (SoloWaker X))) → p.inside ≡ cs → MayEnd its owner s p cs → wished plain.Ends
       by [] is may = absurd may
@@ -248,7 +249,7 @@ module _ {F T X : Type 0} (its : ℕ → Lent) (future : F) (owner : Owner) (s :
       by (PollOwn r w ∷ rest) is may = absurd may
       by (DropOwn r answer ∷ rest) is may =
           leave_happens r answer rest is
-          (subst (λ cs. HasLife (3 * left_in its owner s p cs + 14) s.lines) is life)
+          (subst (λ cs. HasLife (3 * left_in its owner s p cs + 15) s.lines) is life)
       by (Close fs all ∷ rest) is may = absurd may
 
   -- a run is made, polled, or dropped

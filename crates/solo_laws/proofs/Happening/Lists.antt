@@ -1,7 +1,8 @@
 -- Lists of calls happen: each future's name is free as it comes.
-use Rattle.std.proofs.Common.{◌≡◌, ℕ, ◌+◌, ◌*◌, if◌then◌else◌, ◌<◌, ◌≤◌, ◌==◌, cond, not, Bool, true, false, List, [], ◌∷◌, ◌++◌, length}
+use Rattle.std.proofs.Common.{◌≡◌, ℕ, suc, ◌+◌, ◌*◌, if◌then◌else◌, ◌<◌, ◌≤◌, ◌==◌, cond, not, Bool, true, false, List, [], ◌∷◌, ◌++◌}
+use Rattle.std.proofs.Common.{length}
 use Rattle.std.proofs.Common.{map, Option, Some}
-use Rattle.std.proofs.Common.{None, slice_index_or, refl, sym, ap, subst, ◌∙◌, arith}
+use Rattle.std.proofs.Common.{None, slice_index_or, refl, sym, ap, subst, arith}
 use Rattle.std.proofs.lemmas.Bool.Decides.{nat_tests}
 use Rattle.queue_steps.specs.ClosableQueue.{count_of_new, most_accepted}
 use Rattle.executor_parts.specs.declared.mark.Mark.{Mark}
@@ -14,13 +15,12 @@ use Rattle.solo.specs.declared.names.SoloWaker.TheVariants.{Task as OfTask, Outs
 use Rattle.solo.specs.declared.solo.Solo.{Solo}
 use Rattle.solo.specs.Lines.{line_of, new_lines}
 use Rattle.solo.specs.Solo.{IsNew, counts}
-use Rattle.plain_scheduler.specs.State.{Choice, Close, Code, Drop, DropOwn, Lose, Plain, Poll, PollOwn, Who}
-use Rattle.plain_scheduler.specs.Calls.{Call, Ends, Leak, PollRun, does, living_from, new}
+use Rattle.plain_scheduler.specs.State.{Choice, Plain, Who}
+use Rattle.plain_scheduler.specs.Calls.{Call, Ends, Leak, NewRun, PollRun, Spawn, does, living_from, new}
 use Rattle.solo_laws.specs.Courses.{Leads, leads, stays}
 use Rattle.solo_laws.specs.Heeding.{Fits}
 use Rattle.solo_laws.specs.Making.{Allows, Goes, Happens, IsKnown, MayCall, MayGo, NextIsFree, WakersAreKnown, Wish, by_number, left_in}
-use Rattle.solo_laws.specs.Making.{queued_by}
-use Rattle.solo_laws.specs.Making.{queues_with}
+use Rattle.solo_laws.specs.Making.{HasNumber, comes, gives_back, queued_by, queues_at_most}
 use Rattle.solo_laws.specs.Owner.{Owner, new_owner}
 use Rattle.solo_laws.specs.Road.{HasLife, count_of, is_in, wakes}
 use Rattle.solo_laws.specs.Tabled.{Row, row, row_of}
@@ -29,10 +29,13 @@ use Rattle.solo_laws.proofs.Following.Leaving.{heads, tails}
 use Rattle.solo_laws.proofs.Following.Rows.{living_below}
 use Rattle.solo_laws.proofs.Showing.Courses.{Known, leads_alike, new_known}
 use Rattle.solo_laws.proofs.Happening.Choosing.{fewer}
-use Rattle.solo_laws.proofs.Happening.Lasting.{acts_live, few_entries, few_kept}
+use Rattle.solo_laws.proofs.Happening.Goers.{goers}
+use Rattle.solo_laws.proofs.Happening.Lasting.{acts_live, drop_pays, few_entries}
+use Rattle.solo_laws.proofs.Happening.Behind.{telling}
 use Rattle.solo_laws.proofs.Happening.Each.{happens}
 use Rattle.solo_laws.proofs.Happening.Free.{acts_vacant}
-use Rattle.solo_laws.proofs.Happening.Growing.{call_grows}
+use Rattle.solo_laws.proofs.Happening.Growing.{begins, call_grows}
+use Rattle.solo_laws.proofs.Happening.Places.{FewKept, none_kept}
 use Rattle.solo_laws.proofs.Happening.Refused.{acts_heed}
 use Rattle.solo_laws.proofs.Happening.Vacant.{IsVacant}
 use Rattle.solo_laws.proofs.Happening.Wakers.{PollsBy, call_all, more_all}
@@ -79,6 +82,19 @@ none_yet limit n most mark = which mark (by (limit == 1))
     which PlainMark is = is
     which Urgent is = is
 
+-- a future that comes is counted, and a run
+pub counts_futures : {T X : Type 0} (came : ℕ) (call : Call T (SoloWaker X)) → comes call ≤ queues_at_most came 0 call
+counts_futures came (Spawn mark) = omega arith
+counts_futures came call = omega arith
+
+pub none_yet_came : {T X : Type 0} (came : ℕ) (call : Call T (SoloWaker X)) → queues_at_most 0 0 call ≤ queues_at_most came 0 call
+none_yet_came came Leak = omega arith
+none_yet_came came call = omega arith
+
+pub counts_runs : {T X : Type 0} (call : Call T (SoloWaker X)) → begins call ≤ gives_back call
+counts_runs NewRun = omega arith
+counts_runs call = omega arith
+
 module _ {F T X : Type 0} where
   pub next_free : (owner : Owner) (s : Solo F T X) (p : Plain T (SoloWaker X)) → Known by_number owner s p
       → IsVacant (length p.futures) s.cells → NextIsFree by_number owner s p
@@ -109,35 +125,52 @@ module _ {F T X : Type 0} where
       polls (PollRun r w) its = its.1
       polls call its = tt
 
-  -- what a call may queue may come, where so many more may
-  pub has_life : (limit n k : ℕ) (owner : Owner) (s : Solo F T X) (p : Plain T (SoloWaker X)) → Known by_number owner s p
-      → p.limit ≡ limit → k ≡ 6 * limit + 20 + n → HasLife k s.lines → (call : Call T (SoloWaker X))
-      → HasLife (queues_with by_number owner s p call) s.lines
-  has_life limit n k owner s p known same is life call = fewer (queues_with by_number owner s p call) k s.lines (enough call) life
+  -- what a call queues is counted, and what the runs that go on may give back
+  pub pays : (came : ℕ) (owner : Owner) (s : Solo F T X) (p : Plain T (SoloWaker X)) → Known by_number owner s p → FewKept p.due
+      → (c : Choice) (call : Call T (SoloWaker X))
+      → queues_at_most came (left_in by_number owner s p p.inside) call + 3 * 512 * goers (does wakes c call p).runs
+      ≤ queues_at_most came 0 call + gives_back call + 3 * 512 * goers p.runs
+  pays came owner s p known kept c call = by call (call_grows c call p).going
     where
-      enough : (call : Call T (SoloWaker X)) → queues_with by_number owner s p call ≤ k
-      enough Leak = (let few = few_entries by_number s p known.stands in omega (arith, few, same, is))
-      enough Ends = left p.inside
-        where
-          left : (cs : List (Code T (SoloWaker X))) → 3 * left_in by_number owner s p cs + 14 ≤ k
-          left [] = omega (arith, is)
-          left (Poll f by ∷ cs) = omega (arith, is)
-          left (Drop f end by ∷ cs) = omega (arith, is)
-          left (Lose awaiter by ∷ cs) = omega (arith, is)
-          left (PollOwn r w ∷ cs) = omega (arith, is)
-          left (DropOwn r answer ∷ cs) = (let few = few_kept by_number s p known.stands r in omega (arith, few, same, is))
-          left (Close fs ns ∷ cs) = omega (arith, is)
-      enough call = omega (arith, is)
+      by : (call : Call T (SoloWaker X)) → goers (does wakes c call p).runs ≤ goers p.runs + begins call
+          → queues_at_most came (left_in by_number owner s p p.inside) call + 3 * 512 * goers (does wakes c call p).runs
+          ≤ queues_at_most came 0 call + gives_back call + 3 * 512 * goers p.runs
+      by Ends less = (let paid = drop_pays by_number s p known.stands c owner kept in omega (arith, paid))
+      by NewRun less = omega (arith, less)
+      by call less = omega (arith, less)
 
-  may_call : (limit n k : ℕ) (owner : Owner) (s : Solo F T X) (p : Plain T (SoloWaker X)) → Known by_number owner s p
-      → p.limit ≡ limit → (x : Wish T (SoloWaker X)) → Allows by_number owner s p x.refusal x.name x.call
-      → k ≡ 6 * limit + 20 + n → HasLife k s.lines → length p.futures + k ≤ most_accepted → length p.runs + k ≤ most_accepted
+  -- what a call may queue may come, where so many more may
+  pub has_life : (came k : ℕ) (owner : Owner) (s : Solo F T X) (p : Plain T (SoloWaker X)) → Known by_number owner s p
+      → FewKept p.due → length p.futures ≤ came → (c : Choice) (call : Call T (SoloWaker X))
+      → queues_at_most came 0 call + gives_back call ≤ k → HasLife (k + 3 * 512 * goers p.runs) s.lines
+      → HasLife (queues_at_most (length s.table.entries) (left_in by_number owner s p p.inside) call) s.lines
+  has_life came k owner s p known kept before c call most life =
+      fewer (queues_at_most (length s.table.entries) (left_in by_number owner s p p.inside) call) (k + 3 * 512 * goers p.runs) s.lines
+      (enough call most (pays came owner s p known kept c call)) life
+    where
+      enough : (call : Call T (SoloWaker X)) → queues_at_most came 0 call + gives_back call ≤ k
+          → queues_at_most came (left_in by_number owner s p p.inside) call + 3 * 512 * goers (does wakes c call p).runs
+          ≤ queues_at_most came 0 call + gives_back call + 3 * 512 * goers p.runs
+          → queues_at_most (length s.table.entries) (left_in by_number owner s p p.inside) call ≤ k + 3 * 512 * goers p.runs
+      enough Leak most paid = (let few = few_entries by_number s p known.stands in omega (arith, few, before, most))
+      enough call most paid = omega (arith, most, paid)
+
+  pub has_number : (k : ℕ) (owner : Owner) (s : Solo F T X) (p : Plain T (SoloWaker X)) (call : Call T (SoloWaker X))
+      → queues_at_most 0 0 call + gives_back call ≤ k → length p.futures + k ≤ most_accepted → length p.runs + k ≤ most_accepted
+      → HasNumber by_number owner s p call
+  has_number k owner s p (Spawn mark) most futures runs = omega (arith, futures, most)
+  has_number k owner s p NewRun most futures runs = omega (arith, runs, most)
+  has_number k owner s p call most futures runs = tt
+
+  may_call : (came n k : ℕ) (owner : Owner) (s : Solo F T X) (p : Plain T (SoloWaker X)) → Known by_number owner s p
+      → FewKept p.due → length p.futures ≤ came → (c : Choice) (x : Wish T (SoloWaker X))
+      → Allows by_number owner s p x.refusal x.name x.call → k ≡ queues_at_most came 0 x.call + gives_back x.call + n
+      → HasLife (k + 3 * 512 * goers p.runs) s.lines → length p.futures + k ≤ most_accepted → length p.runs + k ≤ most_accepted
       → MayCall by_number owner s p x
-  may_call limit n k owner s p known same x may is life futures runs = record {
+  may_call came n k owner s p known kept before c x may is life futures runs = record {
     allowed = may;
-    life = has_life limit n k owner s p known same is life x.call;
-    futures = omega (arith, futures, is);
-    runs = omega (arith, runs, is);
+    life = has_life came k owner s p known kept before c x.call (omega (arith, is)) life;
+    number = has_number k owner s p x.call (let least = none_yet_came came x.call in omega (arith, is, least)) futures runs;
   }
 
   -- memory is refused as was wished, where nothing else refuses a call
@@ -147,11 +180,12 @@ module _ {F T X : Type 0} where
   heeds_so owner s p known x it many fit =
       acts_heed by_number owner it.choice s p known many x.refusal x.call it.shown it.now it.after it.acts it.refused fit
 
-  go : (limit : ℕ) (future : F) (xs : List (Wish T (SoloWaker X))) (owner : Owner) (s : Solo F T X) (p : Plain T (SoloWaker X))
+  go : (came : ℕ) (future : F) (xs : List (Wish T (SoloWaker X))) (owner : Owner) (s : Solo F T X) (p : Plain T (SoloWaker X))
       → Known by_number owner s p → IsVacant (length p.futures) s.cells → WakersAreKnown by_number owner s p
-      → p.limit ≡ limit → HasLife (queued_by limit xs) s.lines → length p.futures + queued_by limit xs ≤ most_accepted
-      → length p.runs + queued_by limit xs ≤ most_accepted → MayGo by_number xs owner s p → Goes by_number xs owner s p
-  go limit future [] owner s p known vacant all same life futures runs may = record {
+      → FewKept p.due → length p.futures ≤ came → HasLife (queued_by came xs + 3 * 512 * goers p.runs) s.lines
+      → length p.futures + queued_by came xs ≤ most_accepted
+      → length p.runs + queued_by came xs ≤ most_accepted → MayGo by_number xs owner s p → Goes by_number xs owner s p
+  go came future [] owner s p known vacant all kept before life futures runs may = record {
     calls = [];
     shown = [];
     now = owner;
@@ -160,9 +194,12 @@ module _ {F T X : Type 0} where
     wished = tt;
     heeds = λ fits. tt;
   }
-  go limit future (x ∷ xs) owner s p known vacant all same life futures runs may =
+  go came future (x ∷ xs) owner s p known vacant all kept before life futures runs may =
+      let now_came = came + comes x.call in
+      let rest_of = queued_by (came + comes x.call) xs in
       let it = happens by_number future owner s p known (next_free owner s p known vacant) all x
-      (may_call limit (queued_by limit xs) (queued_by limit (x ∷ xs)) owner s p known same x may.0 refl life futures runs) in
+      (may_call came rest_of (queued_by came (x ∷ xs)) owner s p known kept before (telling (suc (length p.lying))) x may.0 refl life
+      futures runs) in
       let q = does wakes it.choice x.call p in
       let grows = call_grows it.choice x.call p in
       let many : length p.lying ≤ it.choice.tells = (let more = it.tells in omega (arith, more)) in
@@ -170,14 +207,19 @@ module _ {F T X : Type 0} where
       leads it.choice x.call [] owner it.now it.now s it.after it.after p it.shown [] many it.acts (stays it.now it.after q) in
       let known_on =
       (leads_alike by_number ((it.choice, x.call) ∷ []) owner it.now s it.after p (it.shown ++ []) known one).0 in
+      let entries : length s.table.entries ≤ came = (let few = few_entries by_number s p known.stands in omega (arith, few, before)) in
+      let one_future = counts_futures came x.call in
+      let one_run = counts_runs x.call in
+      let paid = pays came owner s p known kept it.choice x.call in
       let rest =
-      go limit future xs it.now it.after q known_on (acts_vacant owner it.choice s p it.now it.after x.call it.shown known many vacant
+      go now_came future xs it.now it.after q known_on (acts_vacant owner it.choice s p it.now it.after x.call it.shown known many vacant
       it.acts)
       (still_known owner s p it.now it.after it.choice x may.0 all)
-      (grows.limit ∙ same)
-      (acts_live by_number owner it.choice s p (queued_by limit xs) (queued_by limit (x ∷ xs)) known.stands known.numbered many
-      (omega (arith, same)) life it.now it.after x.call it.shown it.acts)
-      (let most = grows.most_futures in omega (arith, most, futures)) (let most = grows.most_runs in omega (arith, most, runs))
+      (grows.kept kept) (let most = grows.most_futures in omega (arith, most, before))
+      (acts_live by_number owner it.choice s p (rest_of + 3 * 512 * goers q.runs) (queued_by came (x ∷ xs) + 3 * 512 * goers p.runs) came
+      (left_in by_number owner s p p.inside) entries (omega arith) life it.now it.after x.call it.shown it.acts (omega (arith, paid)))
+      (let most = grows.most_futures in omega (arith, most, futures, one_future))
+      (let most = grows.most_runs in omega (arith, most, runs, one_run))
       (may.1 it) in
       record {
         calls = (it.choice, x.call) ∷ rest.calls;
@@ -193,10 +235,11 @@ module _ {F T X : Type 0} where
 
   pub lists_happen : (future : F) (limit : ℕ) (kind : Kind) (is_static : Bool) (first : Solo F T X) (number : Who → ℕ)
       (xs : List (Wish T (SoloWaker X))) → IsNew limit kind first → counts kind ≡ not is_static
-      → queued_by limit xs ≤ most_accepted → MayGo by_number xs (new_owner number) first (new limit is_static)
+      → queued_by 0 xs ≤ most_accepted → MayGo by_number xs (new_owner number) first (new limit is_static)
       → Goes by_number xs (new_owner number) first (new limit is_static)
   lists_happen future limit kind is_static first number xs is counted most may =
-      go limit future xs (new_owner number) first (new limit is_static) (new_known by_number number limit kind is_static first is counted)
-      (λ k above. ap (λ slots. slice_index_or slots k None) is.cells) tt refl
-      (subst (HasLife (queued_by limit xs)) (sym is.lines) (none_yet limit (queued_by limit xs) most)) (omega (arith, most))
+      go 0 future xs (new_owner number) first (new limit is_static) (new_known by_number number limit kind is_static first is counted)
+      (λ k above. ap (λ slots. slice_index_or slots k None) is.cells) tt none_kept (omega arith)
+      (subst (HasLife (queued_by 0 xs + 0)) (sym is.lines) (none_yet limit (queued_by 0 xs + 0) (omega (arith, most))))
+      (omega (arith, most))
       (omega (arith, most)) may

@@ -95,11 +95,11 @@ module _ {F T X : Type 0} (its : ℕ → Lent) (future : F) (owner : Owner) (s :
       by AtOnce is = no_tick (ap (λ r. is_granted r) is)
       by Later is = no_tick (ap (λ r. is_granted r) is)
 
-  pub drop_tick_happens : (t : ℕ) → has_tick t owner ≡ true → HasLife 14 s.lines → wished (plain.DropTick t)
+  pub drop_tick_happens : (t : ℕ) → has_tick t owner ≡ true → HasLife 5 s.lines → wished (plain.DropTick t)
   drop_tick_happens t lives life =
-      is_acted refusal (plain.DropTick t) _ _ _ (tick_leaves t lives (fewer 5 14 s.lines (omega arith) life)) refl tt tt tt
+      is_acted refusal (plain.DropTick t) _ _ _ (tick_leaves t lives life) refl tt tt tt
 
-  pub poll_tick_happens : (t : ℕ) (w : SoloWaker X) → has_tick t owner ≡ true → IsKnown its owner s p w → HasLife 14 s.lines
+  pub poll_tick_happens : (t : ℕ) (w : SoloWaker X) → has_tick t owner ≡ true → IsKnown its owner s p w → HasLife 6 s.lines
       → wished (plain.PollTick t w)
   poll_tick_happens t w lives known life = by (solo.sought s) refl
     where
@@ -119,7 +119,7 @@ module _ {F T X : Type 0} (its : ℕ → Lent) (future : F) (owner : Owner) (s :
           is_acted (rest_refusal one again two refusal) (plain.PollTick t w) _ _ _
           (tick_rests t w lives none refl is
           (λ u of. (let it = can_copy its owner s (slept_once ticker w s) p again w known can.0 can.1 u of in (it.0, (it.1, it.2))))
-          (omega arith) (fewer 2 14 s.lines (omega arith) life)) refl tt tt tt
+          (omega arith) (fewer 2 6 s.lines (omega arith) life)) refl tt tt tt
       none_found none AtOnce is =
           is_acted (rest_refusal one again two refusal) (plain.PollTick t w) _ owner _ (tick_refused t w lives none refl is) refl tt tt tt
       none_found none Later is =
@@ -128,10 +128,10 @@ module _ {F T X : Type 0} (its : ℕ → Lent) (future : F) (owner : Owner) (s :
           is_acted (rest_refusal one again two refusal) (plain.PollTick t w) _ _ _
           (tick_lies_refused t w lives none refl is
           (λ u of. (let it = can_copy its owner s s p false w known can.0 (λ no. absurd cc) u of in (it.0, it.1)))
-          can.1 (omega arith) (fewer 2 14 s.lines (omega arith) life)) refl tt tt tt
+          can.1 (omega arith) (fewer 2 6 s.lines (omega arith) life)) refl tt tt tt
 
       by : (o : Option Task) → solo.sought s ≡ o → wished (plain.PollTick t w)
       by (Some task) found =
           is_acted refusal (plain.PollTick t w) _ owner _
-          (tick_takes t w task lives found refl (fewer 5 14 s.lines (omega arith) life)) refl tt tt tt
+          (tick_takes t w task lives found refl (fewer 5 6 s.lines (omega arith) life)) refl tt tt tt
       by None none = none_found none (rest_refusal one again two refusal) refl

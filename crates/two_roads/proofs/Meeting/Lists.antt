@@ -1,5 +1,5 @@
 -- So lists of acts happen, one after the other.
-use Rattle.std.proofs.Common.{◌≡◌, ℕ, ◌+◌, ◌≤◌, ◌<◌, ◌++◌, not, true, List, [], ◌∷◌, length, append_assoc, append-nil}
+use Rattle.std.proofs.Common.{◌≡◌, ℕ, suc, ◌+◌, ◌*◌, ◌≤◌, ◌<◌, ◌++◌, not, true, List, [], ◌∷◌, length, append_assoc, append-nil}
 use Rattle.std.proofs.Common.{refl, sym, ap, subst, ◌∙◌, arith}
 use Rattle.std.specs.Prelude.{reverse}
 use Rattle.queue_steps.specs.ClosableQueue.{most_accepted}
@@ -13,17 +13,23 @@ use Rattle.plain_scheduler.specs.State.{Choice, Event, Plain, Who}
 use Rattle.plain_scheduler.specs.Calls.{Call, course, does, new}
 use Rattle.machine_roads.specs.Within.{Act, AreActs, IsAct, is_on_way}
 use Rattle.solo_laws.specs.Courses.{Acts, Leads, leads, stays}
-use Rattle.solo_laws.specs.Making.{by_number}
+use Rattle.solo_laws.specs.Making.{by_number, left_in}
 use Rattle.solo_laws.specs.Owner.{Owner, new_owner}
 use Rattle.solo_laws.specs.Road.{HasLife, wakes}
+use Rattle.solo_laws.proofs.Happening.Behind.{telling}
+use Rattle.solo_laws.proofs.Happening.Goers.{goers}
 use Rattle.solo_laws.proofs.Happening.Growing.{call_grows}
-use Rattle.solo_laws.proofs.Happening.Lasting.{acts_live}
-use Rattle.solo_laws.proofs.Happening.Lists.{has_life, none_yet}
+use Rattle.solo_laws.proofs.Happening.Lasting.{acts_live, few_entries}
+use Rattle.solo_laws.proofs.Happening.Lists.{counts_futures, counts_runs, has_life, has_number, none_yet, none_yet_came, pays}
+use Rattle.solo_laws.proofs.Happening.Places.{FewKept, none_kept}
 use Rattle.solo_laws.proofs.Showing.Courses.{Known, leads_alike, new_known}
 use Rattle.two_roads.specs.Acting.{AreOfSteps, IsOfStep, WalksAlike, left_of}
-use Rattle.two_roads.specs.Happening.{AreActed, IsActed, MayAct, MemoryFits, NamesAlike, call_by, queued_in}
+use Rattle.two_roads.specs.Happening.{AreActed, IsActed, MayAct, MemoryFits, NamesAlike, call_by, comes_in, queued_in, waker_by}
+use Rattle.two_roads.specs.Renaming.{call_as}
+use Rattle.two_roads.specs.Together.{nothing, numbered}
 use Rattle.two_roads.proofs.InStep.{steps_together}
 use Rattle.two_roads.proofs.Meeting.Met.{are_more, each_acts}
+use Rattle.two_roads.proofs.Meeting.Queueing.{counted_as, counted_back, counted_so}
 
 left_more : (a : Act) (acts : List Act) (s : Machine) → left_of s (acts ++ a ∷ []) ≡ a.left
 left_more a [] s = refl
@@ -138,12 +144,13 @@ module _ {F T X : Type 0} (number : X → ℕ) (outside : ℕ → X) (numbers : 
       }
 
   go : (rest : List Act) (s : Machine) (owner : Owner) (y : Solo F T X) (p : Plain T (SoloWaker X)) → (here : Here s owner y p)
-      → NamesAlike s owner y p → Known by_number owner y p → p.limit ≡ limit → HasLife (queued_in limit rest) y.lines
-      → length p.futures + queued_in limit rest ≤ most_accepted → length p.runs + queued_in limit rest ≤ most_accepted → AreActs s rest
+      → NamesAlike s owner y p → Known by_number owner y p → FewKept p.due → (came : ℕ) → length p.futures ≤ came
+      → HasLife (queued_in came rest + 3 * 512 * goers p.runs) y.lines → length p.futures + queued_in came rest ≤ most_accepted
+      → length p.runs + queued_in came rest ≤ most_accepted → AreActs s rest
       → MemoryFits number value outside rest s owner y p → (all : List Act) → here.acts ++ rest ≡ all
       → AreActed number limit kind parties all first before
   unfolding next_here
-  go [] s owner y p here names known same life futures runs they fits all is =
+  go [] s owner y p here names known kept came few_came life futures runs they fits all is =
       let whole : here.acts ≡ all = sym (append-nil here.acts) ∙ is in
       subst (λ acts. AreActed number limit kind parties acts first before) whole
       (record {
@@ -157,16 +164,20 @@ module _ {F T X : Type 0} (number : X → ℕ) (outside : ℕ → X) (numbers : 
             (steps_together by_number number limit kind solo_kind parties here.acts here.calls first y here.shown before owner here.they
             is_new counted here.leads here.of).1;
       })
-  go (a ∷ rest) s owner y p here names known same life futures runs they fits all is =
-      let n = queued_in limit rest in
-      let k = queued_in limit (a ∷ rest) in
+  go (a ∷ rest) s owner y p here names known kept came few_came life futures runs they fits all is =
+      let now_came = came + comes_in a.first in
+      let n = queued_in (came + comes_in a.first) rest in
+      let k = queued_in came (a ∷ rest) in
       let e =
       one_acts s owner y p here names a they.0 they.1
       (λ made made_is.
+      let call = call_by value outside made in
+      let so = counted_as (λ v. value) (waker_by value outside) a.first made (counted_so s a.party a.first made made_is) in
+      let most = so.queues came in
+      let least = none_yet_came came call in
       record {
-        life = has_life limit n k owner y p known same refl life (call_by value outside made);
-        futures = omega (arith, futures);
-        runs = omega (arith, runs);
+        life = has_life came k owner y p known kept few_came (telling (suc (length p.lying))) call (omega (arith, most)) life;
+        has_number = has_number k owner y p call (omega (arith, most, least)) futures runs;
         memory = fits.0 made made_is;
       }) in
       let q = does wakes e.choice e.call p in
@@ -176,13 +187,25 @@ module _ {F T X : Type 0} (number : X → ℕ) (outside : ℕ → X) (numbers : 
       leads e.choice e.call [] owner e.now e.now y e.after e.after p e.shown [] many e.acts (stays e.now e.after q) in
       let known_on =
       (leads_alike by_number ((e.choice, e.call) ∷ []) owner e.now y e.after p (e.shown ++ []) known one).0 in
-      go rest a.left e.now e.after q (next_here s owner y p here a they.0 they.1 e) e.names known_on (grows.limit ∙ same)
-      (acts_live by_number owner e.choice y p n k known.stands known.numbered many (omega (arith, same)) life e.now e.after e.call e.shown
-      e.acts)
-      (let most = grows.most_futures in omega (arith, most, futures)) (let most = grows.most_runs in omega (arith, most, runs)) they.2
+      let so =
+      counted_back nothing (numbered number) a.first e.call
+      (counted_so s a.party a.first (call_as nothing (numbered number) e.call) e.of.made) in
+      let counts = so.queues came in
+      let comes_one = so.comes_so in
+      let one_future = counts_futures came e.call in
+      let one_run = counts_runs e.call in
+      let paid = pays came owner y p known kept e.choice e.call in
+      let entries : length y.table.entries ≤ came =
+      (let few = few_entries by_number y p known.stands in omega (arith, few, few_came)) in
+      go rest a.left e.now e.after q (next_here s owner y p here a they.0 they.1 e) e.names known_on (grows.kept kept) now_came
+      (let most = grows.most_futures in omega (arith, most, few_came, comes_one))
+      (acts_live by_number owner e.choice y p (n + 3 * 512 * goers q.runs) (k + 3 * 512 * goers p.runs) came
+      (left_in by_number owner y p p.inside) entries (omega arith) life e.now e.after e.call e.shown e.acts (omega (arith, paid, counts)))
+      (let most = grows.most_futures in omega (arith, most, futures, one_future, counts))
+      (let most = grows.most_runs in omega (arith, most, runs, one_run, counts)) they.2
       (fits.1 e) all (append_assoc here.acts (a ∷ []) rest ∙ is)
 
-  pub acts_go : (acts : List Act) → AreActs s0 acts → queued_in limit acts ≤ most_accepted
+  pub acts_go : (acts : List Act) → AreActs s0 acts → queued_in 0 acts ≤ most_accepted
       → MemoryFits number value outside acts s0 (new_owner before) first p0 → AreActed number limit kind parties acts first before
   acts_go acts they most fits =
       go acts s0 (new_owner before) first p0
@@ -197,6 +220,7 @@ module _ {F T X : Type 0} (number : X → ℕ) (outside : ℕ → X) (numbers : 
         of = tt;
       })
       (record { wakers = tt; ticks = λ t. refl; once = refl })
-      (new_known by_number before limit solo_kind (is_static_kind kind) first is_new counted) refl
-      (subst (HasLife (queued_in limit acts)) (sym is_new.lines) (none_yet limit (queued_in limit acts) most)) (omega (arith, most))
+      (new_known by_number before limit solo_kind (is_static_kind kind) first is_new counted) none_kept 0 (omega arith)
+      (subst (HasLife (queued_in 0 acts + 0)) (sym is_new.lines) (none_yet limit (queued_in 0 acts + 0) (omega (arith, most))))
+      (omega (arith, most))
       (omega (arith, most)) they fits acts refl

@@ -180,7 +180,7 @@ module _ {F T X : Type 0} (number : X → ℕ) (outside : ℕ → X) (numbers : 
     it_happens =
         let has = may by.made by.is in
         happens by_number future owner y p known (next_free owner y p known vacant) names.wakers wish
-        (record { allowed = may_it; life = has.life; futures = has.futures; runs = has.runs })
+        (record { allowed = may_it; life = has.life; number = has.has_number })
 
     pub acted : IsActed number s a owner y p
     acted =

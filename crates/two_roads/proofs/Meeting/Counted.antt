@@ -1,24 +1,18 @@
 -- A task of the plain scheduler has no more references than the machine's, and a copy that the machine grants may be had.
-use Rattle.std.proofs.Common.{◌≡◌, ℕ, zero, suc, ◌+◌, ◌-◌, ◌^◌, ◌<◌, ◌≤◌, ◌==◌, ◌||◌, nat_lt, if◌then◌else◌, Bool, true, false, List, []}
+use Rattle.std.proofs.Common.{◌≡◌, ℕ, zero, suc, ◌+◌, ◌-◌, ◌^◌, ◌<◌, ◌≤◌, ◌==◌, ◌||◌, if◌then◌else◌, Bool, true, false, List, []}
 use Rattle.std.proofs.Common.{◌∷◌}
-use Rattle.std.proofs.Common.{length, Option, Some, None, get_or, set, get_or-set_other, refl, sym, ap, subst, ◌∙◌, arith}
-use Rattle.std.proofs.lemmas.Bool.Decides.{nat_tests}
+use Rattle.std.proofs.Common.{Option, get_or, set, get_or-set_other, refl, sym, subst, ◌∙◌, arith}
 use Rattle.task_moves.specs.declared.moves.owed.Answer.{Answer}
 use Rattle.task_moves.specs.declared.moves.state.State.{State}
-use Rattle.task_moves.specs.AbstractTask.{AbstractTask}
-use Rattle.task_moves.specs.LocalTask.{phase_by, references_of, task_of as task_by, token_by}
+use Rattle.task_moves.specs.LocalTask.{phase_by, references_of, token_by}
 use Rattle.task_moves.specs.Moves as moves
 use Rattle.executor_model.specs.declared.op.Waker.{Waker}
-use Rattle.executor_model.specs.World.{Done, World, blank, put, task as task_of}
-use Rattle.plain_scheduler.specs.State.{Plain}
-use Rattle.plain_scheduler.specs.Moves.{task}
-use Rattle.machine_roads.specs.Dropped.{answered, loses, without_run}
-use Rattle.machine_roads.specs.Forgotten.{unawaited, without_awaiter}
+use Rattle.executor_model.specs.World.{World, blank, put, task as task_of}
+use Rattle.machine_roads.specs.Dropped.{without_run}
+use Rattle.machine_roads.specs.Forgotten.{without_awaiter}
 use Rattle.machine_roads.specs.InLoss.{without_handles}
-use Rattle.machine_roads.specs.View.{Output, view}
-use Rattle.machine_roads.specs.Within.{StandsAlike, alike, dropping, forgetting, forgotten, going, losing, untaken}
+use Rattle.machine_roads.specs.View.{view}
 use Rattle.machine_roads.proofs.Lists.{apart_of, same_of}
-use Rattle.machine_roads.proofs.Puts.{put_asks}
 
 -- what a poll of its handle is answered at once, if it is
 abbrev pub answers_at_once : State → Option Answer

@@ -1,5 +1,5 @@
 -- Where the act isn't refused a copy of a task's waker, the task has fewer references than it may.
-use Rattle.std.proofs.Common.{◌≡◌, ℕ, ◌+◌, ◌^◌, ◌<◌, nat_lt, Bool, true, false, List, ◌∷◌, ◌++◌, [], length, Option, Some, None}
+use Rattle.std.proofs.Common.{◌≡◌, ℕ, ◌^◌, ◌<◌, nat_lt, Bool, true, false, length, Option, Some, None}
 use Rattle.std.proofs.Common.{slice_get, refl, sym, ap, subst, ◌∙◌, arith}
 use Rattle.std.proofs.lemmas.Bool.Decides.{nat_tests}
 use Rattle.std.proofs.lemmas.Option.{slice_get-map}
@@ -10,7 +10,7 @@ use Rattle.task_moves.specs.LocalTask.{references_of}
 use Rattle.task_moves.specs.Moves.{most_references}
 use Rattle.task_moves.specs.Moves as moves
 use Rattle.executor_model.specs.declared.op.Waker.{Waker}
-use Rattle.executor_model.specs.declared.op.Waker.TheVariants.{Task as TaskWaker, Outside as OutsideWaker}
+use Rattle.executor_model.specs.declared.op.Waker.TheVariants.{Task as TaskWaker}
 use Rattle.executor_model.specs.Steps.{Machine}
 use Rattle.executor_model.specs.World.{awaiter_of, task as task_of}
 use Rattle.solo.specs.declared.names.SoloWaker.{SoloWaker}
@@ -18,17 +18,17 @@ use Rattle.plain_scheduler.specs.State.{Answers, Future, NoMemory, Plain}
 use Rattle.plain_scheduler.specs.Lists.{or}
 use Rattle.plain_scheduler.specs.Moves.{no_task, task}
 use Rattle.plain_scheduler.specs.Calls as calls
-use Rattle.plain_scheduler.specs.Calls.{Call, is_granted}
+use Rattle.plain_scheduler.specs.Calls.{is_granted}
 use Rattle.machine_roads.specs.Seeing.{heard_in}
-use Rattle.machine_roads.specs.View.{Output, view, waker_in}
+use Rattle.machine_roads.specs.View.{Output, waker_in}
 use Rattle.machine_roads.specs.Within.{Act, StandsAlike, standing}
 use Rattle.machine_roads.proofs.CopiesBehind.{CopiesBy, EndsRefused}
 use Rattle.machine_roads.proofs.Polling.{waits_poll}
 use Rattle.two_roads.specs.Refusing.{ends_refused, has_to_wait, refused_in, refused_so}
-use Rattle.two_roads.specs.Renaming.{future_as, renamed, task_as}
+use Rattle.two_roads.specs.Renaming.{future_as, renamed}
 use Rattle.two_roads.specs.Together.{nothing, numbered}
 use Rattle.two_roads.proofs.Meeting.Counted.{few_view}
-use Rattle.two_roads.proofs.Meeting.Near.{as_many, near}
+use Rattle.two_roads.proofs.Meeting.Near.{near}
 use Rattle.two_roads.proofs.Refusing.{last_is}
 
 below : (n m : ℕ) → nat_lt n m ≡ true → n < m

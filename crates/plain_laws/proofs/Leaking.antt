@@ -215,7 +215,7 @@ module _ {T A : Type 0} (wakes : A → Option ℕ) (c : Choice) where
       one : Option (Future T A) → List Due
       one o =
           cond (is_open_idle (or o (λ x. x.task) no_task)) (record { future = g; mark = or o (λ x. x.mark) PlainMark; keeper = None } ∷
-              []) []
+          []) []
 
       by : (b : Bool)
           → map (unkept q) (cond b (g ∷ filter (waits_idle q) fs) (filter (waits_idle q) fs))

@@ -71,7 +71,7 @@ abbrev pub rests_after : ℕ → List Step → Machine → Bool
 rests_after p [] s = is_resting (reverse (stack s p))
 rests_after p (t ∷ ts) s = goes_on p s t && rests_after p ts (after s t)
 
--- from here on the list of queues is read in it
+-- from this word on the list of queues is read in it
 abbrev pub start_in : Machine → Act → ℕ
 start_in s a = start_at a.party (after s a.first) a.steps
 

@@ -32,7 +32,7 @@ ends_refused [] = false
 ends_refused (e ∷ []) = is_refusal e
 ends_refused (e ∷ f ∷ es) = ends_refused (f ∷ es)
 
--- memory is refused at once, or, where one more sleeps behind that, once a tick lies
+-- memory is refused at once, or, where one more sleeps behind that, once a tick or a run lies
 abbrev pub refused_so : Bool → Bool → Refusal
 refused_so false more = Granted
 refused_so true false = AtOnce

@@ -27,8 +27,8 @@ ghost use Rattle.plain_laws.specs.Order.{count};
 
 /// Where a run searches in a call, the call takes what that run takes there, or does what is done where it finds none.
 pub fn runs_search_so<T, A>()
-    ensures { (wakes : A → Option ℕ) (c : Choice) (call : Call T A) (p : Plain T A) (x : Search T A) → searches wakes c call p ≡ Some x
-        → does wakes c call p ≡ take wakes c (Run x.run x.waker) x.at }
+    ensures { (wakes : A → Option ℕ) (c : Choice) (call : Call T A) (p : Plain T A) (x : Search T A)
+        → searches wakes c call p ≡ Some x → does wakes c call p ≡ take wakes c (Run x.run x.waker) x.at }
 {}
 
 /// Where none does, it is nothing to a call which mark is looked at first, what a run keeps, whom it robs and how many more it moves: to
@@ -53,6 +53,7 @@ pub fn runs_count_what_they_find<T, A>()
 /// A run that robs another takes from that one alone: of what any other run keeps there is no less behind the call.
 pub fn runs_rob_one_alone<T, A>()
     ensures { (wakes : A → Option ℕ) (c : Choice) (call : Call T A) (p : Plain T A) (x : Search T A) (k : ℕ)
-        → searches wakes c call p ≡ Some x → IsKeptByOthers x.run x.at.due → any (is_kept c.robs) x.at.due ≡ true → (k == c.robs) ≡ false
+        → searches wakes c call p ≡ Some x → IsKeptByOthers x.run x.at.due
+        → any (is_kept c.robs) x.at.due ≡ true → (k == c.robs) ≡ false
         → length (filter (is_kept k) p.due) ≤ length (filter (is_kept k) (does wakes c call p).due) }
 {}

@@ -22,8 +22,8 @@ pub fn each_call_happens<F, T, X>()
         → Happens its owner s p x }
 {}
 
-/// Memory is then refused just as was wished, where each waker that the call copies is of a task that somebody has a waker of, with two
-/// references fewer than it may have, and where a copy for a second look is refused to none but who lies down anew.
+/// Memory is then refused just as was wished, where each task's waker that the call copies is of a task that has references, at least two
+/// fewer than it may have, and where a copy for a second look is refused to none but who lies down anew.
 pub fn refusals_are_heeded<F, T, X>()
     ensures { (its : ℕ → Lent) (owner : Owner) (s : Solo F T X) (p : Plain T (SoloWaker X)) (x : Wish T (SoloWaker X))
         → IsLed its owner s p → (it : Happens its owner s p x) → Fits its it.choice p x.refusal x.call

@@ -49,10 +49,11 @@ pub fn both_show_alike<F, T, X>()
 
 /// And so it is where these lists end with the executor's drop, with what is called while its futures are dropped and behind that.
 pub fn both_end_alike<F, T, X>()
-    ensures { (its : ℕ → Lent) (number : X → ℕ) (limit : ℕ) (kind : MachineKind) (solo_kind : Kind) (parties : ℕ) (ls more : List Lone)
-        (drop : Lone) (calls ends : List (Choice × Call T (SoloWaker X))) (first middle last : Solo F T X)
+    ensures { (its : ℕ → Lent) (number : X → ℕ) (limit : ℕ) (kind : MachineKind) (solo_kind : Kind) (parties : ℕ)
+        (ls more : List Lone) (drop : Lone) (calls ends : List (Choice × Call T (SoloWaker X))) (first middle last : Solo F T X)
         (shown others : List (Event T (SoloWaker X))) (before : Who → ℕ) (after : Owner)
-        → AreLone (start limit kind parties) ls → drop.call ≡ DropsExecutor → AreLone (left_by (start limit kind parties) ls) (drop ∷ more)
+        → AreLone (start limit kind parties) ls → drop.call ≡ DropsExecutor
+        → AreLone (left_by (start limit kind parties) ls) (drop ∷ more)
         → IsNew limit solo_kind first → counts solo_kind ≡ not (is_static_kind kind)
         → (led : Leads its calls (new_owner before) first (new limit (is_static_kind kind)) shown after middle)
         → LastCalls its middle (course wakes calls (new limit (is_static_kind kind))) ends others last

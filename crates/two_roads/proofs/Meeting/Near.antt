@@ -129,8 +129,9 @@ polls_unawaited : (f g : ℕ) (q : Plain Output Waker) → abstract.polled (task
 polls_unawaited f g q =
     put_asks (λ (t : AbstractTask Output Waker). abstract.polled t) g f (record (task f q) { awaiter = None }) q refl
 
-pub near : (e : Done) (q : Plain Output Waker) → StandsAlike e q → Near e q
-near e q (alike nested follows) = record {
+-- where both stand alike nothing is hidden
+itself : (e : Done) (q : Plain Output Waker) → Follows e.world q → Near e q
+itself e q follows = record {
   world = e.world;
   plain = q;
   follows = follows;
@@ -147,6 +148,9 @@ near e q (alike nested follows) = record {
   less = λ g. less_self (task_of e.world g);
   static = (refl, refl);
 }
+
+pub near : (e : Done) (q : Plain Output Waker) → StandsAlike e q → Near e q
+near e q (alike nested follows) = itself e q follows
 near e q (losing f fs below codes nested stops) = record {
   world = without_handles (f ∷ fs) e.world;
   plain = q;
@@ -183,23 +187,7 @@ near e q (going r fs below codes nested stops) =
       less = handles_less fs e.world;
       static = (static_through fs e.world, runs_by (λ p. p.is_static) (λ q rs. refl) over r q);
     }
-near e q (dropping taker final below f b it nested (answered next inside follows)) = record {
-  world = e.world;
-  plain = q;
-  follows = follows;
-  gone = [];
-  below = e.next;
-  at = refl;
-  many = refl;
-  few = refl;
-  lying = refl;
-  handles = λ g spared. refl;
-  asks = λ g. refl;
-  counts = λ g. refl;
-  polls = λ g. refl;
-  less = λ g. less_self (task_of e.world g);
-  static = (refl, refl);
-}
+near e q (dropping taker final below f b it nested (answered next inside follows)) = itself e q follows
 near e q (dropping taker final below f b it nested (loses awaiter next inside ending)) = record {
   world = without_run f e.world;
   plain = q;

@@ -9,14 +9,12 @@ use Rattle.machine_roads.specs.Refused.{IsLaterAnew}
 use Rattle.machine_roads.specs.Road.{uncalled}
 use Rattle.machine_roads.specs.Seeing.{heard_in, shown as shown_alike}
 use Rattle.machine_roads.specs.View.{Output, wakes as wakes_in}
-use Rattle.machine_roads.specs.Within.{Act, ActsBy, standing, start_in}
+use Rattle.machine_roads.specs.Within.{Act, ActsBy, start_in}
 use Rattle.two_roads.specs.Refusing.{asks_memory, ends_refused, refused_in, refused_so}
 use Rattle.two_roads.proofs.Acted.{first_at, seen_so}
 use Rattle.two_roads.proofs.InTurn.{turns_too}
 use Rattle.two_roads.proofs.Meant.{takes_begin}
-use Rattle.two_roads.specs.Turns.{ActsTakeTurns}
-use Rattle.two_roads.proofs.Inner.{seen_in}
-use Rattle.two_roads.proofs.Refusing.{Lie, lie_in, turns_seen}
+use Rattle.two_roads.proofs.Refusing.{Lie, turns_seen}
 use Rattle.two_roads.proofs.Says.{ActSays}
 
 module _ (s : Machine) (q : Plain Output Waker) (a : Act) (r : Plain Output Waker)
@@ -45,9 +43,3 @@ module _ (s : Machine) (q : Plain Output Waker) (a : Act) (r : Plain Output Wake
     counted = by.chooses.counted;
     turned = by.chooses.turns ∙ ap (λ n. turned n s.world.urgent_turns) (sym turns_by);
   }
-
--- so of its turns, wherever both stand alike
-pub acts_take_turns : ActsTakeTurns
-acts_take_turns s q r a stands by behind =
-    (act_says s q a r by (lie_in (standing s a.party) q stands) (seen_in (standing a.left a.party) r behind)
-    (lie_in (standing a.left a.party) r behind)).turned

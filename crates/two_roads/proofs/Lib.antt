@@ -28,6 +28,7 @@ pub mod Meant
 pub mod Acted
 pub mod ActedToEnd
 pub mod InStep
+pub mod TurnsTaken
 pub mod InStepToEnd
 pub mod RefusedAlike
 pub mod Wished

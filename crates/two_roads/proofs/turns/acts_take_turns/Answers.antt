@@ -1,4 +1,4 @@
-use Rattle.two_roads.proofs.ActSays.{acts_take_turns}
+use Rattle.two_roads.proofs.TurnsTaken.{acts_take_turns}
 use Rattle.two_roads.proofs.turns.acts_take_turns.Goals as goal
 
 pub returns : goal.returns

@@ -26,7 +26,8 @@ ghost use Rattle.two_roads.specs.Happening.{AreActed, IsActed, MayAct, MemoryFit
 pub fn each_act_happens<F, T, X>()
     ensures { (number : X → ℕ) (outside : ℕ → X) (numbers : (n : ℕ) → number (outside n) ≡ n) (value : T) (future : F)
         (limit : ℕ) (kind : MachineKind) (solo_kind : Kind) (parties : ℕ) (acts : List Act)
-        (calls : List (Choice × Call T (SoloWaker X))) (first y : Solo F T X) (shown : List (Event T (SoloWaker X))) (before : Who → ℕ) (owner : Owner)
+        (calls : List (Choice × Call T (SoloWaker X))) (first y : Solo F T X) (shown : List (Event T (SoloWaker X)))
+        (before : Who → ℕ) (owner : Owner)
         → AreActs (start limit kind parties) acts → IsNew limit solo_kind first → counts solo_kind ≡ not (is_static_kind kind)
         → (led : Leads by_number calls (new_owner before) first (new limit (is_static_kind kind)) shown owner y)
         → AreOfSteps number (start limit kind parties) acts led

@@ -13,7 +13,7 @@ use std::alloc::{AllocError, Global};
 use text_lines::Words;
 
 /// A command that makes a call.
-#[derive(Debug, PartialEq, Eq, Drop)]
+#[derive(Drop)]
 pub struct Request {
     /// Which of its requests for memory are refused.
     pub refusal: Refusal,
@@ -21,7 +21,7 @@ pub struct Request {
 }
 
 /// One line of a script after the first.
-#[derive(Debug, PartialEq, Eq, Drop)]
+#[derive(Drop)]
 pub enum Command {
     /// Party 0 makes the call, and the script goes on when it has ended.
     Whole(Request),

@@ -2,7 +2,7 @@ ghost use Rattle.std.specs.Prelude.{◌≡◌};
 ghost use Rattle.script.specs.EndingText.{ending_text};
 
 /// How a command ended, as the line at its end says it. An output that was given stands behind `Ready`.
-#[derive(Clone, Copy, Debug, PartialEq, Eq)]
+#[derive(Clone, Copy)]
 pub enum Ending {
     Made,
     Full,

@@ -8,7 +8,7 @@ use crate::name::Name;
 use text_lines::read_number;
 
 /// What a future does at one poll.
-#[derive(Clone, Copy, Debug, PartialEq, Eq)]
+#[derive(Clone, Copy, PartialEq, Eq)]
 pub enum Item {
     /// `pend`: it isn't ready.
     Pend,

@@ -9,7 +9,7 @@ use text_lines::Words;
 
 /// What a future does at its polls: 1 to 8 items, one for each poll, the last for all later ones.
 /// Contracts see them as a list.
-#[derive(Debug, Drop)]
+#[derive(Drop)]
 pub struct Items {
     items: Vec<Item>,
 }

@@ -26,7 +26,7 @@ pub use text_lines::{ParseError, Words};
 pub use word::Word;
 
 /// What a script says.
-#[derive(Debug, PartialEq, Eq, Drop)]
+#[derive(Drop)]
 pub struct Script {
     /// How many futures may be accepted and not yet dropped: 1 to 1,000,000.
     pub limit: u64,

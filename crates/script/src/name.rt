@@ -7,7 +7,7 @@ use std::cmp::Ordering;
 use std::marker::Model;
 
 /// The name of a future: 1 to 8 letters, each from a to z. Contracts see it as its letters.
-#[derive(Clone, Copy, Debug)]
+#[derive(Clone, Copy)]
 pub struct Name {
     /// The letters from the front, and zeros after them.
     letters: [u8; 8],

@@ -14,7 +14,7 @@ use std::alloc::{AllocError, Global};
 use text_lines::Words;
 
 /// A command that makes a call, or two.
-#[derive(Debug, PartialEq, Eq, Drop)]
+#[derive(Drop)]
 pub enum Plain {
     /// `spawn f i1 .. ik`: a plain future with 1 to 8 items. `urgent f i1 .. ik`: an urgent one.
     Spawn {

@@ -7,7 +7,7 @@ ghost use Rattle.script.specs.declared.refusal.Refusal.TheVariants.{Only};
 use text_lines::read_number;
 
 /// Which of a command's requests for memory are refused.
-#[derive(Clone, Copy, Debug, PartialEq, Eq)]
+#[derive(Clone, Copy)]
 pub enum Refusal {
     /// None.
     Nothing,

@@ -4,7 +4,7 @@ ghost use Rattle.script.specs.WordText.{word_of_spawn, word_text};
 use executor_parts::Mark;
 
 /// The first word of a command, under which its answer is printed.
-#[derive(Clone, Copy, Debug, PartialEq, Eq)]
+#[derive(Clone, Copy)]
 pub enum Word {
     Spawn,
     Urgent,

@@ -8,9 +8,6 @@ use crossbeam_utils::sync::{Parker, Unparker};
 use std::alloc::{AllocError, Global};
 use std::sync::Wait;
 
-#[cfg(test)]
-mod tests;
-
 /// Wakes the thread that waits in `block_on`: a waker from outside, for a future that awaits tasks.
 #[derive(Drop)]
 pub struct ThreadWaker(Unparker);

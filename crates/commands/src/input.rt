@@ -8,7 +8,7 @@ use std::alloc::Global;
 use std::io::{ErrorKind, Read};
 
 /// How often a reader is asked for bytes. A reader that isn't over by then is given up.
-pub const MOST_READS: u32 = 1 << 24;
+const MOST_READS: u32 = 1 << 24;
 
 /// How many bytes are asked for at a time.
 const CHUNK: usize = 8192;

@@ -8,8 +8,6 @@ pub mod job_list;
 mod output;
 pub mod program;
 pub mod sim;
-#[cfg(test)]
-mod tests;
 mod words;
 
 pub use fault::Fault;

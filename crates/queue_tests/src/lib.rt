@@ -1,11 +1,15 @@
-//! Tests of the queues and of what waits, against what `concurrent_queue` and `waiting` give their users. A crate of its own so
-//! that they are proved beside these, and these only once.
+//! Tests of the queues and of what waits, against what `concurrent_queue`, `waiting`, `timer` and `blocking` give their users. A
+//! crate of its own so that they are proved beside these, and these only once.
 #![tactic(auto)]
 
+#[cfg(test)]
+mod blocks;
 #[cfg(test)]
 mod ended;
 #[cfg(test)]
 mod parties;
+#[cfg(test)]
+mod sleeps;
 #[cfg(test)]
 mod texts;
 #[cfg(test)]

@@ -1,4 +1,9 @@
 //! What waits, between threads: each loop is bounded, and each answer the same whatever the schedule.
+mod alone;
+mod bell;
+mod calls;
+mod together;
+
 use blocking::{ThreadWaker, block_on};
 use std::alloc::AllocError;
 use std::sync::atomic::AtomicU64;

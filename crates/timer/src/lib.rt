@@ -7,8 +7,6 @@ mod errors;
 mod making;
 mod nap;
 mod shared;
-#[cfg(test)]
-mod tests;
 mod timed;
 mod timer;
 

@@ -14,8 +14,6 @@ mod making;
 mod now;
 pub mod oneshot;
 mod slot;
-#[cfg(test)]
-mod tests;
 mod waiters;
 
 pub use both::{Awaited, Join};

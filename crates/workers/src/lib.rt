@@ -8,8 +8,6 @@ mod from_queues;
 mod from_waits;
 mod join_all;
 mod running;
-#[cfg(test)]
-mod tests;
 mod threads;
 mod until;
 

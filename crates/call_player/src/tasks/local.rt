@@ -23,7 +23,10 @@ pub fn play_local(alloc: Global, script: &[u8]) -> Result<Vec<u8>, PlayError> {
     for command in commands {
         owner.play(command)?;
     }
-    let Owner { text, .. } = owner;
+    let Owner { text, is_short, .. } = owner;
+    if is_short {
+        return Err(PlayError::NoMemory);
+    }
     Ok(text.into_bytes())
 }
 
@@ -39,6 +42,8 @@ struct Owner {
     open: Vec<OpenRun>,
     /// The names by number.
     seats: Vec<Seat>,
+    /// Whether memory was refused for a line or for a place in the list.
+    is_short: bool,
 }
 
 impl Owner {
@@ -53,6 +58,7 @@ impl Owner {
             list: VecDeque::new(alloc),
             open: Vec::new(alloc),
             seats,
+            is_short: false,
         })
     }
 
@@ -62,9 +68,9 @@ impl Owner {
         let answer = match command {
             Command::Spawn(name, metadata, items) => self.spawn(name, metadata, items),
             Command::List(call) => self.list_call(call),
-            Command::Waker(call, name) => self.waker_call(call, name),
+            Command::Waker(call, name) => Ok(self.waker_call(call, name)),
             Command::Handle(call, name) => self.handle_call(call, name),
-            Command::Pair(call, first, second) => self.pair_call(call, first, second),
+            Command::Pair(call, first, second) => Ok(self.pair_call(call, first, second)),
         };
         let text = answer?.into_text(self.alloc)?;
         self.text.push_str(word)?;
@@ -97,7 +103,13 @@ impl Owner {
     }
 
     /// Shows a line of a word, a name and what follows it.
-    fn show(&mut self, word: &str, name: Name, rest: &str) -> Result<(), AllocError> {
+    fn show(&mut self, word: &str, name: Name, rest: &str) {
+        if self.add(word, name, rest).is_err() {
+            self.is_short = true;
+        }
+    }
+
+    fn add(&mut self, word: &str, name: Name, rest: &str) -> Result<(), AllocError> {
         self.text.push_str(word)?;
         if let Some(seat) = self.seats.get(name.0) {
             self.text.push_str(seat.name.as_str())?;

@@ -8,20 +8,15 @@ use std::alloc::AllocError;
 
 impl Owner {
     /// A call of two names.
-    pub fn pair_call(
-        &mut self,
-        call: PairCall,
-        first: Name,
-        second: Name,
-    ) -> Result<Answer, AllocError> {
+    pub fn pair_call(&mut self, call: PairCall, first: Name, second: Name) -> Answer {
         match call {
-            PairCall::Will => Ok(self.will(first, second)),
+            PairCall::Will => self.will(first, second),
             PairCall::Poll => self.poll(first, Caller::Bell(second)),
             PairCall::PollBy => {
                 if self.handle(first).is_some() && self.is_kept(second) && self.hold(second) {
                     self.poll(first, Caller::Task(second))
                 } else {
-                    Ok(Answer::NotPossible)
+                    Answer::NotPossible
                 }
             }
         }
@@ -42,52 +37,50 @@ impl Owner {
     }
 
     /// Polls a handle. A Cancel cancels first, and goes once it is over.
-    fn poll(&mut self, name: Name, waker: Caller) -> Result<Answer, AllocError> {
+    fn poll(&mut self, name: Name, waker: Caller) -> Answer {
         let Some(kind) = self.handle(name) else {
-            return Ok(Answer::NotPossible);
+            return Answer::NotPossible;
         };
         if let Kind::Cancel = kind {
-            self.cancel_task(name)?;
+            self.cancel_task(name);
         }
         let Some(task) = self.task(name) else {
-            return Ok(Answer::NotPossible);
+            return Answer::NotPossible;
         };
         if !task.has_handle() {
-            return Ok(Answer::NotPossible);
+            return Answer::NotPossible;
         }
         let (answer, spare) = match task.poll(waker) {
             Polled::Pending { replaced } => {
-                self.let_go(replaced)?;
-                return Ok(Answer::Pending);
+                self.let_go(replaced);
+                return Answer::Pending;
             }
             Polled::Output { output, spare } => (Answer::Ready(output), spare),
             Polled::Closed { spare } => (Answer::Cancelled, spare),
         };
-        self.let_go(Some(spare))?;
+        self.let_go(Some(spare));
         if let Kind::Cancel = kind {
             self.set_handle(name, None);
-            self.detach_task(name)?;
+            self.detach_task(name);
         }
-        Ok(answer)
+        answer
     }
 
-    fn cancel_task(&mut self, name: Name) -> Result<(), AllocError> {
+    fn cancel_task(&mut self, name: Name) {
         if let Some(task) = self.task(name) {
             let Cancel { queue, awaiter } = task.cancel();
-            self.queue(name, queue)?;
-            self.call(awaiter)?;
+            self.queue(name, queue);
+            self.call(awaiter);
         }
-        Ok(())
     }
 
-    fn detach_task(&mut self, name: Name) -> Result<(), AllocError> {
+    fn detach_task(&mut self, name: Name) {
         if let Some(task) = self.task(name) {
             let Detach { queue, output } = task.detach();
-            self.lose(name, output)?;
-            self.queue(name, queue)?;
+            self.lose(name, output);
+            self.queue(name, queue);
         }
         self.note_who_is_left(name);
-        Ok(())
     }
 
     /// A call on the handle of this name.
@@ -97,8 +90,8 @@ impl Owner {
             (_, None) => Ok(Answer::NotPossible),
             (HandleCall::Drop, Some(_)) => {
                 self.set_handle(name, None);
-                self.cancel_task(name)?;
-                self.detach_task(name)?;
+                self.cancel_task(name);
+                self.detach_task(name);
                 Ok(Answer::Done)
             }
             (_, Some(Kind::Cancel)) => Ok(Answer::NotPossible),
@@ -116,11 +109,11 @@ impl Owner {
             HandleCall::Fallible => self.set_handle(name, Some(Kind::Fallible)),
             HandleCall::Cancel => {
                 self.set_handle(name, Some(Kind::Cancel));
-                return self.poll(name, Caller::Bell(name));
+                return Ok(self.poll(name, Caller::Bell(name)));
             }
             HandleCall::Detach => {
                 self.set_handle(name, None);
-                self.detach_task(name)?;
+                self.detach_task(name);
             }
             _ => return self.look(call, name),
         }

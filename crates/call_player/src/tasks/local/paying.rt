@@ -4,7 +4,6 @@ use crate::tasks::counts::Happening;
 use crate::tasks::local::Owner;
 use crate::tasks::local::seat::Caller;
 use async_task::ScheduleInfo;
-use std::alloc::AllocError;
 
 impl Owner {
     /// Counts what happened to a task.
@@ -15,9 +14,9 @@ impl Owner {
     }
 
     /// Queues a task, where that is owed.
-    pub fn queue(&mut self, name: Name, info: Option<ScheduleInfo>) -> Result<(), AllocError> {
+    pub fn queue(&mut self, name: Name, info: Option<ScheduleInfo>) {
         let Some(info) = info else {
-            return Ok(());
+            return;
         };
         self.count(name, Happening::Schedule);
         let told = if info.woken_while_running {
@@ -25,65 +24,65 @@ impl Owner {
         } else {
             " (woken while running: false)"
         };
-        self.show("schedule ", name, told)?;
-        self.list.push_back(name)?;
-        Ok(())
+        self.show("schedule ", name, told);
+        if self.list.push_back(name).is_err() {
+            self.is_short = true;
+        }
     }
 
     /// Wakes a task.
-    pub fn wake(&mut self, name: Name) -> Result<(), AllocError> {
+    pub fn wake(&mut self, name: Name) {
         let info = match self.task(name) {
             Some(task) => task.wake(),
             None => None,
         };
-        self.queue(name, info)
+        self.queue(name, info);
     }
 
     /// Drops a waker of a task.
-    pub fn release(&mut self, name: Name) -> Result<(), AllocError> {
+    pub fn release(&mut self, name: Name) {
         if let Some(task) = self.task(name) {
             if task.has_waker() {
                 let info = task.release();
-                self.queue(name, info)?;
+                self.queue(name, info);
             }
         }
         self.note_who_is_left(name);
-        Ok(())
     }
 
     /// Calls who awaited a task.
-    pub fn call(&mut self, awaiter: Option<Caller>) -> Result<(), AllocError> {
+    pub fn call(&mut self, awaiter: Option<Caller>) {
         match awaiter {
             Some(Caller::Bell(name)) => self.show("call ", name, ""),
             Some(Caller::Task(name)) => {
-                self.wake(name)?;
-                self.release(name)
+                self.wake(name);
+                self.release(name);
             }
-            None => Ok(()),
+            None => {}
         }
     }
 
     /// Drops who awaited a task.
-    pub fn let_go(&mut self, awaiter: Option<Caller>) -> Result<(), AllocError> {
+    pub fn let_go(&mut self, awaiter: Option<Caller>) {
         match awaiter {
             Some(Caller::Task(name)) => self.release(name),
-            Some(Caller::Bell(_)) | None => Ok(()),
+            Some(Caller::Bell(_)) | None => {}
         }
     }
 
     /// The drop of a future.
-    pub fn drop_future(&mut self, name: Name) -> Result<(), AllocError> {
+    pub fn drop_future(&mut self, name: Name) {
         self.count(name, Happening::FutureDrop);
-        self.show("drop ", name, "")
+        self.show("drop ", name, "");
     }
 
     /// The drop of an output, where one is there.
-    pub fn lose(&mut self, name: Name, output: Option<u64>) -> Result<(), AllocError> {
+    pub fn lose(&mut self, name: Name, output: Option<u64>) {
         if output.is_none() {
-            return Ok(());
+            return;
         }
         self.count(name, Happening::Loss);
-        self.show("lose ", name, "")
+        self.show("lose ", name, "");
     }
 
     /// Drops the schedule value of a task that nobody can reach any more.

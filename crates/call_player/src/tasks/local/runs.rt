@@ -28,12 +28,12 @@ impl Owner {
     /// A call on the list or on the innermost open run.
     pub fn list_call(&mut self, call: ListCall) -> Result<Answer, AllocError> {
         match call {
-            ListCall::Run => match self.begin()? {
+            ListCall::Run => Ok(match self.begin() {
                 Begun::Open(run) => self.end(run),
-                Begun::Closed => Ok(Answer::Is(false)),
-                Begun::Nothing => Ok(Answer::NotPossible),
-            },
-            ListCall::Start => match self.begin()? {
+                Begun::Closed => Answer::Is(false),
+                Begun::Nothing => Answer::NotPossible,
+            }),
+            ListCall::Start => match self.begin() {
                 Begun::Open(run) => {
                     self.open.push(run)?;
                     Ok(Answer::Is(true))
@@ -41,97 +41,96 @@ impl Owner {
                 Begun::Closed => Ok(Answer::Is(false)),
                 Begun::Nothing => Ok(Answer::NotPossible),
             },
-            ListCall::Settle => match self.open.pop() {
+            ListCall::Settle => Ok(match self.open.pop() {
                 Some(run) => self.end(run),
-                None => Ok(Answer::NotPossible),
-            },
-            ListCall::DropRunnable => self.retract(),
-            ListCall::Reschedule => self.reschedule(),
+                None => Answer::NotPossible,
+            }),
+            ListCall::DropRunnable => Ok(self.retract()),
+            ListCall::Reschedule => Ok(self.reschedule()),
             ListCall::Next => self.next(),
         }
     }
 
     /// Takes the first task of the list, and begins its run.
-    fn begin(&mut self) -> Result<Begun, AllocError> {
+    fn begin(&mut self) -> Begun {
         let Some(name) = self.list.pop_front() else {
-            return Ok(Begun::Nothing);
+            return Begun::Nothing;
         };
         let Some(task) = self.task(name) else {
-            return Ok(Begun::Nothing);
+            return Begun::Nothing;
         };
         if !task.is_queued() {
-            return Ok(Begun::Nothing);
+            return Begun::Nothing;
         }
         match task.start() {
-            Start::Poll(work) => Ok(Begun::Open(OpenRun { name, work })),
+            Start::Poll(work) => Begun::Open(OpenRun { name, work }),
             Start::Drop(_work) => {
-                self.drop_and_finish(name)?;
-                Ok(Begun::Closed)
+                self.drop_and_finish(name);
+                Begun::Closed
             }
         }
     }
 
     /// The future of a closed task is dropped, and what follows that.
-    fn drop_and_finish(&mut self, name: Name) -> Result<(), AllocError> {
-        self.drop_future(name)?;
+    fn drop_and_finish(&mut self, name: Name) {
+        self.drop_future(name);
         if let Some(task) = self.task(name) {
             if task.is_dropping() {
                 match task.finish() {
-                    Finish::Wake(awaiter) => self.call(Some(awaiter))?,
-                    Finish::Drop(awaiter) => self.let_go(Some(awaiter))?,
+                    Finish::Wake(awaiter) => self.call(Some(awaiter)),
+                    Finish::Drop(awaiter) => self.let_go(Some(awaiter)),
                     Finish::Nothing => {}
                 }
             }
         }
         self.note_who_is_left(name);
-        Ok(())
     }
 
     /// Polls the future of a run, and ends it. The answer is whether the task was woken meanwhile.
-    fn end(&mut self, run: OpenRun) -> Result<Answer, AllocError> {
+    fn end(&mut self, run: OpenRun) -> Answer {
         let OpenRun { name, mut work } = run;
-        let back = match self.poll_future(name, &mut work)? {
+        let back = match self.poll_future(name, &mut work) {
             Some(output) => {
-                self.drop_future(name)?;
+                self.drop_future(name);
                 Back::Ready(output)
             }
             None => Back::Pending(work),
         };
         let Some(task) = self.task(name) else {
-            return Ok(Answer::NotPossible);
+            return Answer::NotPossible;
         };
         if !task.is_lent() {
-            return Ok(Answer::NotPossible);
+            return Answer::NotPossible;
         }
         match task.settle(back) {
             Settled::Finish { output, awaiter } => {
-                self.lose(name, output)?;
-                self.call(awaiter)?;
+                self.lose(name, output);
+                self.call(awaiter);
                 self.note_who_is_left(name);
-                Ok(Answer::Is(false))
+                Answer::Is(false)
             }
             Settled::Queue(info) => {
-                self.queue(name, Some(info))?;
-                Ok(Answer::Is(true))
+                self.queue(name, Some(info));
+                Answer::Is(true)
             }
             Settled::Drop(_work) => {
-                self.drop_and_finish(name)?;
-                Ok(Answer::Is(false))
+                self.drop_and_finish(name);
+                Answer::Is(false)
             }
-            Settled::Rest => Ok(Answer::Is(false)),
+            Settled::Rest => Answer::Is(false),
         }
     }
 
     /// A poll of a future: it does what its next item says. The answer is its output.
-    fn poll_future(&mut self, name: Name, work: &mut Work) -> Result<Option<u64>, AllocError> {
+    fn poll_future(&mut self, name: Name, work: &mut Work) -> Option<u64> {
         self.count(name, Happening::Poll);
-        self.show("poll ", name, "")?;
+        self.show("poll ", name, "");
         let mut output = None;
         if let Some(item) = work.items.get(work.next) {
             for act in item.acts.iter() {
                 match act {
-                    Act::Wake => self.wake(name)?,
-                    Act::Keep => self.keep(name)?,
+                    Act::Wake => self.wake(name),
+                    Act::Keep => self.keep(name),
                 }
             }
             output = item.output;
@@ -145,36 +144,36 @@ impl Owner {
         } else {
             "pending "
         };
-        self.show(word, name, "")?;
-        Ok(output)
+        self.show(word, name, "");
+        output
     }
 
     /// Lets the turn of the first task of the list go.
-    fn retract(&mut self) -> Result<Answer, AllocError> {
+    fn retract(&mut self) -> Answer {
         let Some(name) = self.list.pop_front() else {
-            return Ok(Answer::NotPossible);
+            return Answer::NotPossible;
         };
         let Some(task) = self.task(name) else {
-            return Ok(Answer::NotPossible);
+            return Answer::NotPossible;
         };
         if !task.is_queued() {
-            return Ok(Answer::NotPossible);
+            return Answer::NotPossible;
         }
         let _work = task.retract();
-        self.drop_and_finish(name)?;
-        Ok(Answer::Done)
+        self.drop_and_finish(name);
+        Answer::Done
     }
 
     /// Puts the first task of the list to its end.
-    fn reschedule(&mut self) -> Result<Answer, AllocError> {
+    fn reschedule(&mut self) -> Answer {
         let Some(name) = self.list.pop_front() else {
-            return Ok(Answer::NotPossible);
+            return Answer::NotPossible;
         };
         let info = ScheduleInfo {
             woken_while_running: false,
         };
-        self.queue(name, Some(info))?;
-        Ok(Answer::Done)
+        self.queue(name, Some(info));
+        Answer::Done
     }
 
     /// A look at the first task of the list.

@@ -2,32 +2,31 @@
 use crate::tasks::answer::Answer;
 use crate::tasks::command::{Name, WakerCall};
 use crate::tasks::local::Owner;
-use std::alloc::AllocError;
 
 impl Owner {
     /// A call on the kept wakers of this task.
-    pub fn waker_call(&mut self, call: WakerCall, name: Name) -> Result<Answer, AllocError> {
+    pub fn waker_call(&mut self, call: WakerCall, name: Name) -> Answer {
         let is_possible = match call {
             WakerCall::Waker => self.list.iter().any(|queued| queued.0 == name.0),
             _ => self.is_kept(name),
         };
         if !is_possible {
-            return Ok(Answer::NotPossible);
+            return Answer::NotPossible;
         }
         match call {
             WakerCall::Waker | WakerCall::Clone => self.hold_and_keep(name),
-            WakerCall::WakeByRef => self.wake(name)?,
+            WakerCall::WakeByRef => self.wake(name),
             WakerCall::Wake => {
                 self.take_kept(name);
-                self.wake(name)?;
-                self.release(name)?;
+                self.wake(name);
+                self.release(name);
             }
             WakerCall::Unkeep => {
                 self.take_kept(name);
-                self.release(name)?;
+                self.release(name);
             }
         }
-        Ok(Answer::Done)
+        Answer::Done
     }
 
     /// Whether a waker of this task is kept.
@@ -61,14 +60,13 @@ impl Owner {
     }
 
     /// A copy of the waker of a future that is polled takes the place of the newest one that is kept.
-    pub fn keep(&mut self, name: Name) -> Result<(), AllocError> {
+    pub fn keep(&mut self, name: Name) {
         let has_one = self.is_kept(name);
         self.hold_and_keep(name);
         if has_one {
             self.take_kept(name);
-            self.release(name)?;
+            self.release(name);
         }
-        Ok(())
     }
 
     /// Whether the newest kept wakers of both wake the same.

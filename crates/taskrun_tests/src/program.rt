@@ -1,9 +1,8 @@
 //! The program over readers and writers. What scripts show are scripts of `cases`, whose text `sim` is proved to write.
-use crate::fault::Fault;
-use crate::input::MOST_READS;
-use crate::program::program;
-use crate::sim::sim;
 use Fault::{BadLine, ReadFailed, Usage, WriteFailed};
+use commands::Fault;
+use commands::program::program;
+use commands::sim::sim;
 use jobs::{JobPlace, JobRealm, JobSite, Open};
 use std::alloc::{AllocError, AllocGlobal, Global};
 use std::error::Error;
@@ -13,6 +12,9 @@ use std::process::Abort;
 use std::sync::Wait;
 use std::test::Fail;
 use std::thread::Threads;
+
+/// How many reads are tried.
+const MOST_READS: u32 = 16_777_216;
 
 /// A reader of a text, of which every other read is interrupted. It fails at the read of this number, counted from 0, and gives a
 /// byte a read then.

@@ -1,12 +1,8 @@
-//! The examples of the doc comments, line by line, and what follows them.
-mod bell;
-mod calls;
-mod threads;
-
-use crate::channel::{self, RecvError, TryRecvError, TrySendError};
-use crate::{Either, Event, join, oneshot, pending, ready, select, yield_now};
+//! The examples of the doc comments of `waiting`, line by line, and what follows them.
 use async_task::{Future, Nobody, Poll};
 use std::io;
+use waiting::channel::{self, RecvError, TryRecvError, TrySendError};
+use waiting::{Either, Event, join, oneshot, pending, ready, select, yield_now};
 
 #[test]
 fn at_once_never_and_second(rt: HostRuntime) {

@@ -1,8 +1,8 @@
 //! Who is called, and what is counted.
-use crate::tests::bell::Bell;
-use crate::{Event, channel, oneshot, yield_now};
+use crate::waits::bell::Bell;
 use async_task::{Future, Nobody, Poll};
 use std::io;
+use waiting::{Event, channel, oneshot, yield_now};
 
 #[test]
 fn yield_now_calls_its_waker_once(rt: HostRuntime) -> io::Result<()> {

@@ -1,8 +1,9 @@
-use crate::{Fault, run_workers};
+//! Threads that work together, and the texts of their faults.
 use std::alloc::Global;
 use std::sync::atomic::AtomicUsize;
 use std::sync::atomic::Ordering::SeqCst;
 use std::test::Fail;
+use workers::{Fault, run_workers};
 
 /// Whether four came back, and each had seen all four.
 fn all_came(ends: Vec<usize>) -> bool {

@@ -1,10 +1,10 @@
 //! Futures whose ends come from other threads while they are polled. Each loop is bounded, and each answer the same whatever the
 //! schedule.
-use crate::tests::bell::{Bell, wait};
-use crate::{Either, join, oneshot, select};
+use crate::waits::bell::{Bell, wait};
 use std::sync::atomic::AtomicU64;
 use std::sync::atomic::Ordering::SeqCst;
 use std::{io, thread};
+use waiting::{Either, join, oneshot, select};
 
 /// Waits, a bounded time, until so many have come.
 fn meet(come: &AtomicU64, all: u64) {

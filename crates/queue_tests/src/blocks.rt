@@ -1,5 +1,6 @@
-use crate::{ThreadWaker, block_on};
+//! A future that is polled on a thread, which parks between wakes.
 use async_task::{Future, Poll, Wake};
+use blocking::{ThreadWaker, block_on};
 use std::alloc::{AllocError, Global};
 use std::sync::atomic::{AtomicBool, AtomicU64, Ordering};
 use std::sync::{Arc, Mutex, Wait};

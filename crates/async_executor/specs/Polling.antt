@@ -1,7 +1,7 @@
 -- What a poll of a task has of its future.
 use Rattle.std.specs.Prelude.{◌≡◌, Bool, true, false, Option, Some, None, List, ◌∷◌}
-use Rattle.async_executor.specs.declared.sections.Taken.{Taken}
-use Rattle.async_executor.specs.declared.task_run.Dropping.{Dropping}
+use Rattle.async_executor.specs.declared.deeds.sections.Taken.{Taken}
+use Rattle.async_executor.specs.declared.deeds.task_run.Dropping.{Dropping}
 use Rattle.async_task.specs.Runs.{was_closed}
 use Rattle.async_task.specs.declared.cell.Identity.{Identity}
 use Rattle.async_task.specs.declared.poll.Poll.{Poll}

@@ -29,7 +29,7 @@ use Rattle.call_steps.specs.declared.step.tick.SleeperStep.TheVariants as sleepe
 use Rattle.call_steps.specs.declared.step.tick.TickStep.TheVariants as tick_step
 use Rattle.call_steps.specs.declared.step.user.UserStep.TheVariants as user_step
 use Rattle.async_executor.specs.declared.own_queues.RunRoom.{RunRoom}
-use Rattle.async_executor.specs.declared.queues.FromQueues.{FromQueues}
+use Rattle.async_executor.specs.declared.deeds.queues.FromQueues.{FromQueues}
 use Rattle.async_executor.specs.Ticks.{sleeping}
 
 abbrev pub Todo : Type 0

@@ -52,7 +52,7 @@ impl Steps {
         requires { top self.old ≡ Some (step.Sleeper sleeper_step.HandOut) }
         ensures { self.new ≡ called (sleeper_of result) (below self.old) }
     {
-        match state.sleepers.lock(rt, unlocked).get().hand_out() {
+        match sections::hand_out(state.sleepers.lock(rt, unlocked).get()) {
             Some(waker) => {
                 self.follow(Saw::HandedOut(waker.sleeper()));
                 Some(Foreign::of(waker))

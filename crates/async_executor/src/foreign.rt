@@ -40,7 +40,7 @@ impl<X> Foreign<X> {
         value
     }
 
-    /// Polls the own future of a run once, with a waker of this name.
+    /// Polls the own future of a run once.
     pub fn poll<T, W, R>(
         &mut self,
         waker: &ExWaker<T, W, R>,

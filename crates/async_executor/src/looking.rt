@@ -1,4 +1,4 @@
-//! How a try, a search and a drop look into queues.
+//! How a try and a search look into the executor's queues.
 ghost use Rattle.std.specs.Prelude.{◌≡◌, ◌∷◌, []};
 ghost use Rattle.call_steps.specs.declared.step.CallStep.TheVariants as step;
 ghost use Rattle.call_steps.specs.declared.step.table.QueueStep.TheVariants as queue_step;

@@ -1,4 +1,4 @@
-//! What is not yet a deed: it says what was done elsewhere.
+//! How deeds write down what has a word of its own in `call_steps`. Nobody else can.
 ghost use Rattle.std.specs.Prelude.{◌≡◌, Some};
 ghost use Rattle.task_moves.specs.declared.moves.owed.Move.TheVariants as move;
 ghost use Rattle.call_steps.specs.declared.saw.Saw.TheVariants as saw;

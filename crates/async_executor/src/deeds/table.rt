@@ -1,5 +1,6 @@
 //! What calls do with the executor's table, but for the sections of a task's poll.
-ghost use Rattle.std.specs.Prelude.{◌≡◌, ◌∷◌, [], ◌++◌, ◌+◌, IfErr, IfNone, IfOk, IfSome, OnSome, Some, length};
+ghost use Rattle.std.specs.Prelude.{◌≡◌, ◌∷◌, [], ◌++◌, ◌+◌, IfErr, IfNone, IfOk, IfSome, None, OnSome, Some, length};
+ghost use Rattle.std.specs.Prelude.{drop as list_drop};
 ghost use Rattle.call_steps.specs.Closing.{closing, leaking};
 ghost use Rattle.call_steps.specs.Todo.{below, following, top};
 ghost use Rattle.call_steps.specs.declared.reply.Reply.TheVariants as reply;
@@ -7,6 +8,7 @@ ghost use Rattle.call_steps.specs.declared.step.CallStep.TheVariants as step;
 ghost use Rattle.call_steps.specs.declared.step.table.ClosingStep.TheVariants as closing_step;
 ghost use Rattle.call_steps.specs.declared.step.table.TableStep.TheVariants as table_step;
 ghost use Rattle.executor_parts.specs.Places.{first_waker, turned};
+ghost use Rattle.async_executor.specs.Closing.{listed};
 ghost use Rattle.async_executor.specs.Errors.{refused};
 ghost use Rattle.async_executor.specs.Steps.{accepted_as};
 
@@ -105,8 +107,12 @@ impl Steps {
     ) -> Option<Option<NoRoom>>
         requires { self.old ≡ closing (length table.old.entries) (length leaving.old.wakers.items) ++ step.End reply.Done ∷ [] }
         ensures steps { self.new ≡ closing (length table.new.entries) (length leaving.new.wakers.items) ++ step.End reply.Done ∷ [] }
-        ensures none { IfNone result (table.new.entries ≡ []) }
+        ensures rest { table.new.entries ≡ list_drop 1 table.old.entries }
+        ensures none { IfNone result ((table.new.entries ≡ []) × (leaving.new ≡ leaving.old)) }
         ensures some { OnSome result (length table.old.entries ≡ length table.new.entries + 1) }
+        ensures kept { result ≡ Some None → leaving.new.wakers.items ≡ leaving.old.wakers.items ++ listed (first_waker table.old.entries) }
+        ensures back { IfSome result (λ refused. IfSome refused (λ back. (first_waker table.old.entries ≡ Some back.waker)
+            × (leaving.new.wakers.items ≡ leaving.old.wakers.items))) }
     {
         let (future, waker) = sections::leave_first(table)?;
         let (name, refused) = leaving.keep(waker);

@@ -9,6 +9,7 @@ ghost use Rattle.call_steps.specs.declared.step.table.QueueStep.TheVariants as q
 ghost use Rattle.call_steps.specs.declared.step.table.TableStep.TheVariants as table_step;
 
 use crate::closing::{ClosesReturned, HasClosed};
+use crate::deeds::{Steps, sections};
 use crate::due::share;
 use crate::entry::Unlocked;
 use crate::errors::SpawnError;
@@ -16,10 +17,7 @@ use crate::locks::Guarded;
 use crate::marked::Marked;
 use crate::names::{ExRealm, ExTask, ExWaker, TableWaker};
 use crate::queue::ExQueue;
-use crate::sections;
-use crate::spawning::{accept, see_accepted};
 use crate::state::State;
-use crate::steps::Steps;
 use async_task::{Future, NoMemory, Wake};
 use call_steps::{Last, Reply};
 use executor_parts::{Mark, Places};
@@ -199,8 +197,8 @@ where
         ensures future { IfErr result (λ error. refused error ≡ future) }
     {
         let schedule = ExQueue::new(self.rt, share(self.rt, &self.state));
-        let accepted = accept(
-            self.table.lock(&self.rt, unlocked).get(),
+        steps.accept(
+            &self.table,
             self.rt,
             self.realm,
             schedule,
@@ -208,9 +206,8 @@ where
             mark,
             future,
             closed,
-        );
-        see_accepted(&accepted, mark, steps);
-        accepted
+            unlocked,
+        )
     }
 
     /// Runs one task, where one is queued, and says whether it did.

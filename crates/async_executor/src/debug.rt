@@ -1,10 +1,10 @@
 //! What the text of an executor shows.
 use crate::body::Body;
+use crate::deeds::queues::{Queue, Queues};
 use crate::entry::Unlocked;
 use crate::locks::ReadWrite;
 use crate::names::TableWaker;
 use crate::own_queues::OwnQueues;
-use crate::queues::{Queue, Queues};
 use async_task::Wake;
 use executor_parts::Places;
 use std::alloc::Global;

@@ -1,5 +1,5 @@
 //! How an executor that isn't static is made and ends, and how it becomes a static one.
-ghost use Rattle.std.specs.Prelude.{◌≡◌, ◌<◌, ◌≤◌, ◌-◌, [], ◌∷◌, ◌++◌, true, false, None, Some, IfOk, IfSome, length, map};
+ghost use Rattle.std.specs.Prelude.{◌≡◌, ◌<◌, ◌≤◌, ◌-◌, [], ◌∷◌, ◌++◌, true, false, None, Some, IfOk, length, map};
 ghost use Rattle.std.specs.VecDeque.{deque_capacity};
 ghost use Rattle.std.specs.Arc.{arc_value};
 ghost use Rattle.call_steps.specs.Closing.{closing, drained, leaking};
@@ -7,21 +7,18 @@ ghost use Rattle.call_steps.specs.declared.reply.Reply.TheVariants as reply;
 ghost use Rattle.call_steps.specs.declared.step.CallStep.TheVariants as step;
 ghost use Rattle.call_steps.specs.declared.step.table.ClosingStep.TheVariants as closing_step;
 ghost use Rattle.executor_parts.specs.Places.{turned, unwoken};
-ghost use Rattle.async_executor.specs.Closing.{listed};
 
 use crate::body::Body;
+use crate::deeds::Steps;
+use crate::deeds::queues::At;
 use crate::due::close_and_pay;
 use crate::entry::{Executor, Unlocked};
-use crate::foreign::Foreign;
-use crate::leaving::{Leaving, NoRoom, ToCall};
+use crate::leaving::Leaving;
 use crate::locks::Guarded;
 use crate::names::{ExRealm, ExWaker, TableWaker};
-use crate::sections;
 use crate::state::State;
-use crate::steps::Steps;
-use crate::task_name::TaskName;
 use async_task::{Future, NoMemory, Returning, StoredWaker, Wake};
-use call_steps::{Last, Reply, Saw};
+use call_steps::{Last, Reply};
 use executor_parts::{Mark, Places};
 use std::alloc::Global;
 use std::collections::VecDeque;
@@ -102,8 +99,7 @@ where
         alloc: _,
     } = body;
     let (mut leaving, mut steps) = (leaving, steps);
-    let table = table.into_inner();
-    steps.follow(Saw::Closes(table.len() as u64, leaving.len() as u64));
+    let table = steps.take_out(table, &leaving);
     drop_futures(rt, realm, table, &mut leaving, &mut steps, unlocked);
     leaving.wake_all(rt, realm, &mut steps, unlocked);
     leaving.end();
@@ -141,8 +137,8 @@ where
         rt,
         alloc,
     } = body;
-    let (mut table, mut steps) = (table.into_inner(), steps);
-    steps.follow(Saw::Closes(0, table.len() as u64));
+    let mut steps = steps;
+    let mut table = steps.leak_out(table);
     call_wakers(rt, realm, &mut table, &mut steps, unlocked);
     let leaked = Body {
         realm,
@@ -201,9 +197,9 @@ where
     ensures rest { table.new ≡ record table.old { entries = table.new.entries } }
 {
     let left = (left - 1) as u64;
-    match sections::turn(table) {
+    match steps.turn(table, left) {
         Some(waker) => waker.call_and_pay(rt, realm, left, steps, unlocked),
-        None => steps.see_woken(TaskName::of_none(), false, left),
+        None => {}
     }
 }
 
@@ -224,7 +220,7 @@ where
     ensures { steps.new ≡ drained mark ++ step.End reply.Done ∷ [] }
 {
     for _ in rt.forever() {
-        let Some(runnable) = state.take_closed(mark, &rt, steps) else {
+        let Some(runnable) = steps.take(At::Common(&state.queues, mark), None, &rt) else {
             return;
         };
         close_and_pay(rt, realm, steps, runnable, unlocked);
@@ -252,37 +248,12 @@ where
 {
     let mut table = table;
     for _ in rt.forever() {
-        let Some((future, waker)) = sections::leave_first(&mut table) else {
+        let Some(refused) = steps.drop_next(&mut table, leaving, unlocked) else {
             return;
         };
-        let left = table.len() as u64;
-        if let Some(refused) = drop_next(future, waker, left, leaving, steps, unlocked) {
+        if let Some(refused) = refused {
             refused.call_apart(rt, realm, unlocked);
         }
     }
     unreachable!()
-}
-
-/// Drops the future of the first entry, where so many entries are left, and keeps its waker, which comes last. It comes back where
-/// there is no room for it.
-fn drop_next<F: Drop>(
-    future: Option<Foreign<F>>,
-    waker: Option<ToCall>,
-    left: u64,
-    leaving: &mut Leaving,
-    steps: &mut Steps,
-    unlocked: &Unlocked,
-) -> Option<NoRoom>
-    requires { steps.old ≡ step.Closing closing_step.DropNext ∷ step.End reply.Done ∷ [] }
-    ensures steps { steps.new ≡ closing left (length leaving.new.wakers.items) ++ step.End reply.Done ∷ [] }
-    ensures kept { result ≡ None → leaving.new.wakers.items ≡ leaving.old.wakers.items ++ listed waker }
-    ensures back { IfSome result (λ back. (waker ≡ Some back.waker) × (leaving.new.wakers.items ≡ leaving.old.wakers.items)) }
-{
-    let (name, refused) = leaving.keep(waker);
-    steps.follow(Saw::Drops(name, left, leaving.len() as u64));
-    if let Some(future) = future {
-        future.let_go(unlocked);
-    }
-    steps.follow(Saw::Nothing);
-    refused
 }

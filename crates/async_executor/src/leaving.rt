@@ -10,10 +10,10 @@ ghost use Rattle.call_steps.specs.declared.step.CallStep.TheVariants as step;
 ghost use Rattle.call_steps.specs.declared.step.table.ClosingStep.TheVariants as closing_step;
 ghost use Rattle.executor_parts.specs.declared.mark.Mark.TheVariants as mark;
 
+use crate::deeds::Steps;
 use crate::due::{Handed, pay, pay_next};
 use crate::entry::Unlocked;
 use crate::names::{ExRealm, TableWaker};
-use crate::steps::Steps;
 use crate::task_name::TaskName;
 use async_task::{Returning, StoredWaker, Wake};
 use std::collections::VecDeque;
@@ -58,14 +58,14 @@ impl ToCall {
     }
 
     /// Whose it is.
-    fn name(&self) -> TaskName
+    pub fn name(&self) -> TaskName
         ensures { result ≡ self.now.identity }
     {
         TaskName::of_waker(&self.waker)
     }
 
     /// Calls it. Its task is queued then, or was before: where it is to be queued, it is the answer.
-    fn call<T, W, R>(
+    pub fn call<T, W, R>(
         self,
         rt: R,
         realm: &'static ExRealm<T, W, R>,
@@ -102,14 +102,8 @@ impl ToCall {
         requires { CallsWaker (top steps.old) }
         ensures { steps.new ≡ following (woke self.identity false left) steps.old }
     {
-        let name = self.name();
-        match self.call(rt, realm, unlocked) {
-            Some(handed) => {
-                steps.see_woken(name, true, left);
-                pay_next(rt, Some(handed), steps, unlocked);
-            }
-            None => steps.see_woken(name, false, left),
-        }
+        let handed = steps.call_entry(self, left, rt, realm, unlocked);
+        pay_next(rt, handed, steps, unlocked);
     }
 }
 

@@ -19,17 +19,16 @@ ghost use Rattle.call_steps.specs.declared.step.user.UserStep.TheVariants as use
 
 use crate::body::Body;
 use crate::counts::GivesWay;
+use crate::deeds::Steps;
 use crate::entry::{Run, Unlocked};
 use crate::errors::RunError;
 use crate::foreign::Foreign;
 use crate::names::{ExStoredRunnable, ExWaker};
 use crate::runner::{Runner, Search};
-use crate::sleeping::call_kept;
-use crate::steps::Steps;
 use crate::task_name::{TaskName, name_given_to};
 use crate::ticker::{Slept, Ticker};
 use async_task::{Future, Poll, Wake};
-use call_steps::{Last, Reply, Saw, Searcher, Stage, TickOrRun, Waker};
+use call_steps::{Last, Reply, Searcher, Stage, TickOrRun, Waker};
 use std::mem;
 use std::sync::Wait;
 
@@ -103,7 +102,7 @@ where
                 .end(Reply::NoMemory, steps.end(Reply::NoMemory));
             return Poll::Ready(Err(RunError::NoMemory));
         }
-        match future.poll(waker, &name, &mut steps, unlocked) {
+        match steps.poll_own(future, waker, &name, unlocked) {
             Poll::Ready(output) => {
                 self.leave(steps, unlocked);
                 Poll::Ready(Ok(output))
@@ -123,17 +122,9 @@ where
     {
         let executor = self.executor;
         let mut steps = steps;
-        if let Some(future) = mem::replace(&mut self.future, None) {
-            future.let_go(unlocked);
-        }
-        steps.follow(Saw::Nothing);
-        self.runner.unregister(
-            &executor.rt,
-            &executor.state,
-            Reply::Ready,
-            &mut steps,
-            unlocked,
-        );
+        steps.drop_own(mem::replace(&mut self.future, None), unlocked);
+        let (rt, state) = (&executor.rt, &executor.state);
+        steps.unregister(&mut self.runner, state, Reply::Ready, rt, unlocked);
         self.runner.reschedule(
             executor.rt,
             &executor.state,
@@ -411,7 +402,7 @@ where
     ensures { result ≡ reply.Pending }
 {
     let mut steps = steps;
-    call_kept(waker, name, &mut steps, unlocked);
+    steps.call_kept(waker, name, unlocked);
     steps.end(Reply::Pending)
 }
 
@@ -439,10 +430,8 @@ where
     ensures { result ≡ reply.Done }
 {
     let (mut runner, mut steps) = (runner, steps);
-    if let Some(future) = future {
-        future.let_go(unlocked);
-    }
     runner.end(
+        future,
         executor.rt,
         &executor.state,
         executor.realm,

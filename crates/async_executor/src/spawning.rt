@@ -1,10 +1,6 @@
-ghost use Rattle.std.specs.Prelude.{◌≡◌, ◌∷◌, [], IfOk, IfErr, IfSome};
-ghost use Rattle.call_steps.specs.Todo.{following};
-ghost use Rattle.call_steps.specs.declared.step.CallStep.TheVariants as step;
-ghost use Rattle.call_steps.specs.declared.step.table.TableStep.TheVariants as table_step;
+ghost use Rattle.std.specs.Prelude.{◌≡◌, IfOk, IfErr, IfSome};
 ghost use Rattle.async_executor.specs.Accepting.{Accepts, IsRefusedAt, WakerFits};
 ghost use Rattle.async_executor.specs.Errors.{refused};
-ghost use Rattle.async_executor.specs.Steps.{accepted_as};
 ghost use Rattle.async_task.specs.Handles.{task_of};
 ghost use Rattle.executor_parts.specs.Places.{IsVacancy};
 
@@ -13,9 +9,7 @@ use crate::errors::SpawnError;
 use crate::marked::Marked;
 use crate::names::{ExRealm, ExRunnable, ExTask, TableWaker};
 use crate::queue::ExQueue;
-use crate::steps::Steps;
 use async_task::{Builder, Returning, Wake};
-use call_steps::Saw;
 use executor_parts::{EntryPlace, Mark, Places, SpawnRefused, Vacancy};
 use std::sync::Wait;
 
@@ -93,29 +87,6 @@ where
             vacancy.give_back();
             Err(SpawnError::NoMemory(future))
         }
-    }
-}
-
-/// What a spawn saw in the table.
-#[inline(always)]
-pub fn see_accepted<F, T, W, R>(
-    accepted: &Result<(Marked, ExTask<T, W, R>), SpawnError<F>>,
-    mark: Mark,
-    steps: &mut Steps,
-)
-where
-    F: Drop,
-    T: Drop + 'static,
-    W: Wake + Drop + 'static,
-    R: Wait + Copy + Drop + 'static,
-    requires { steps.old ≡ step.Table (table_step.Enter mark) ∷ [] }
-    ensures { steps.new ≡ following (accepted_as accepted.now) steps.old }
-{
-    let _ = mark;
-    match accepted {
-        Ok((runnable, _)) => steps.follow(Saw::Entered(runnable.name())),
-        Err(SpawnError::Full(_)) => steps.follow(Saw::Full),
-        Err(SpawnError::NoMemory(_)) => steps.follow(Saw::NoMemory),
     }
 }
 

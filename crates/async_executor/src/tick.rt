@@ -10,9 +10,9 @@ ghost use Rattle.call_steps.specs.declared.step.tick.TickStep.TheVariants as tic
 ghost use Rattle.call_steps.specs.declared.reply.Reply.TheVariants as reply;
 
 use crate::body::Body;
+use crate::deeds::Steps;
 use crate::entry::{Tick, Unlocked};
 use crate::names::{ExStoredRunnable, ExWaker};
-use crate::steps::Steps;
 use crate::task_name::{TaskName, name_given_to};
 use crate::ticker::{Slept, Ticker};
 use async_task::{Future, NoMemory, Poll, Wake};

@@ -12,24 +12,24 @@ ghost use Rattle.async_executor.specs.Ticks.{sleeping, slept};
 ghost use Rattle.call_steps.specs.Todo.{below, top};
 ghost use Rattle.executor_parts.specs.Sleepers.{flag_of};
 
+use crate::deeds::Steps;
 use crate::entry::Unlocked;
 use crate::flag::NewFlag;
 use crate::foreign::{Foreign, came_out};
 use crate::names::{ExRealm, ExWaker};
-use crate::sleeping::{SleeperWaker, call_kept};
+use crate::sleeping::SleeperWaker;
 use crate::state::State;
-use crate::steps::Steps;
 use crate::task_name::TaskName;
 use crate::waker_name::WakerName;
 use async_task::Wake;
-use call_steps::{Saw, TickOrRun, Waker};
+use call_steps::{TickOrRun, Waker};
 use executor_parts::{
     Again, Room, Sleeper, Sleepers, Slept as Started, Unreserved, WokenUp as Stood,
 };
 use std::mem;
 use std::sync::Wait;
 
-mod leave;
+pub mod leave;
 
 /// Whether a tick or run is among the sleepers. It has no drop: it leaves them.
 pub enum Ticker {
@@ -98,9 +98,8 @@ impl Ticker {
         ensures awake { is_asleep self.new ≡ false }
         ensures stays { has_left self.new ≡ has_left self.old }
     {
-        match self.stand_up(&rt, state, unlocked) {
-            Some(waker) => waker.wake_up_with(rt, realm, who, steps, unlocked),
-            None => steps.follow(Saw::Awake(None)),
+        if let Some(old) = steps.wake_up(self, who, state, &rt, unlocked) {
+            old.let_go_and_pay(rt, realm, steps, unlocked);
         }
     }
 
@@ -131,11 +130,9 @@ impl Ticker {
             call_at_once(waker, name, who, steps, unlocked);
             return Slept::Called;
         }
-        let Some(copy) = SleeperWaker::of(waker, unlocked) else {
-            steps.follow(Saw::NoMemory);
+        let Some(copy) = steps.copy_waker(waker, name, who, unlocked) else {
             return Slept::NoMemory;
         };
-        steps.follow(Saw::Something);
         self.sleep_with(rt, state, realm, copy, name, who, steps, unlocked)
     }
 
@@ -161,17 +158,13 @@ impl Ticker {
         ensures asleep { SleepsBy name.now self.new result }
         ensures stays { has_left self.new ≡ has_left self.old }
     {
-        match self.lie_down(&rt, state, copy, name, unlocked) {
-            Laid::Anew => {
-                steps.follow(Saw::Anew);
-                Slept::Anew
-            }
+        match steps.fall_asleep(self, copy, name, who, state, &rt, unlocked) {
+            Laid::Anew => Slept::Anew,
             Laid::Already(old) => {
-                old.sleep_on_without(self, rt, realm, name, who, steps, unlocked);
+                old.let_go_and_pay(rt, realm, steps, unlocked);
                 Slept::Still
             }
             Laid::Nowhere(waker) => {
-                steps.follow(Saw::Nowhere);
                 waker.wake_and_pay(rt, realm, who, steps, unlocked);
                 Slept::Called
             }
@@ -179,7 +172,7 @@ impl Ticker {
     }
 
     /// Falls asleep with this waker, of this name, in one section of the sleepers' lock.
-    fn lie_down<W: Drop, R: Wait>(
+    pub fn lie_down<W: Drop, R: Wait>(
         &mut self,
         rt: &R,
         state: &State<W>,
@@ -202,7 +195,7 @@ impl Ticker {
     }
 
     /// Wakes up, where it sleeps, in one section of the sleepers' lock. The waker that it had there is the answer.
-    fn stand_up<W: Drop, R: Wait>(
+    pub fn stand_up<W: Drop, R: Wait>(
         &mut self,
         rt: &R,
         state: &State<W>,
@@ -352,8 +345,6 @@ where
     requires copies { steps.old ≡ step.Tick (tick_step.CopyWaker (sleeping who.now name.now)) ∷ [] }
     ensures { steps.new ≡ step.End reply.Pending ∷ [] }
 {
-    let _ = who;
-    steps.follow(Saw::Something);
-    steps.follow(Saw::Nowhere);
-    call_kept(waker, name, steps, unlocked);
+    steps.keep_nowhere(name, who);
+    steps.call_kept(waker, name, unlocked);
 }

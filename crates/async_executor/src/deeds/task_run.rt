@@ -7,14 +7,16 @@ ghost use Rattle.call_steps.specs.Todo.{below, top};
 ghost use Rattle.call_steps.specs.declared.step.CallStep.TheVariants as step;
 ghost use Rattle.call_steps.specs.declared.step.table.QueueStep.TheVariants as queue_step;
 ghost use Rattle.call_steps.specs.declared.step.table.TableStep.TheVariants as table_step;
-ghost use Rattle.async_executor.specs.Polling.{dropped_by, end_step, IsEndOf};
+ghost use Rattle.async_executor.specs.Settling.{IsSettled};
+ghost use Rattle.async_executor.specs.Polling.{dropped_by, end_by, end_step};
 
+use crate::deeds::Steps;
 use crate::entry::Unlocked;
-use crate::names::{ExClosing, ExRunEnd, ExRunning, ExWaker};
-use crate::steps::Steps;
+use crate::marked::Marked;
+use crate::names::{ExClosing, ExRunning, ExWaker};
 use crate::task_name::TaskName;
 use async_task::moves::{FutureDebt, Move, Owed};
-use async_task::{Back, ScheduleInfo, Wake};
+use async_task::{Back, Due, RunEnd, ScheduleInfo, Wake};
 use call_steps::Saw;
 use executor_parts::EntryPlace;
 use std::snapshot::Snapshot;
@@ -29,6 +31,21 @@ where
     R: Wait + Copy + Drop + 'static,
 {
     running: ExRunning<T, W, R>,
+}
+
+/// What is left to do once a poll has ended. It has no drop.
+#[must_use]
+pub enum Settled<T, W, R>
+where
+    T: Drop + 'static,
+    W: Wake + Drop + 'static,
+    R: Wait + Copy + Drop + 'static,
+{
+    Over,
+    /// It was woken meanwhile, and is to be queued.
+    Due(Marked),
+    /// Its future is to be dropped.
+    Drop(EntryPlace, Dropping<T, W, R>),
 }
 
 /// A run whose future is dropped. It has no drop: it is finished.
@@ -69,20 +86,40 @@ where
         self.running.waker()
     }
 
-    /// Ends the run, with no lock held.
+    /// Ends the run, with no lock held. What is left to do is the answer.
     #[inline(always)]
     pub fn settle(
         self,
         back: Back<EntryPlace, T>,
         name: &TaskName,
+        steps: &mut Steps,
         unlocked: &Unlocked,
-    ) -> ExRunEnd<T, W, R>
-        requires { identity_of self.running.waker ≡ Some name.now }
-        ensures { IsEndOf back result name.now }
+    ) -> Settled<T, W, R>
+        requires named { identity_of self.running.waker ≡ Some name.now }
+        requires ends { top steps.old ≡ Some (step.Move (end_by back) name.now) }
+        ensures { IsSettled result name.now (below steps.old) steps.new }
     {
-        let (_, _) = (unlocked, name);
+        let _ = unlocked;
         let Polling { running } = self;
-        running.settle(back)
+        match running.settle(back) {
+            RunEnd::Over => {
+                steps.see_moved(false);
+                Settled::Over
+            }
+            RunEnd::Pause(pause) => match pause.into_due() {
+                Some(Due { runnable, info: _ }) => {
+                    see_due(name, steps);
+                    Settled::Due(Marked::of(runnable))
+                }
+                None => {
+                    steps.see_moved(false);
+                    Settled::Over
+                }
+            },
+            RunEnd::Drop(place, closing) => {
+                Settled::Drop(place, Dropping::left(closing, name, steps))
+            }
+        }
     }
 }
 
@@ -149,7 +186,7 @@ where
 
 /// A task was woken while it was polled: its Runnable is due, and all else is paid.
 #[inline(always)]
-pub fn see_due(name: &TaskName, steps: &mut Steps)
+fn see_due(name: &TaskName, steps: &mut Steps)
     requires { top steps.old ≡ Some (step.Move move.EndPending name.now) }
     ensures { steps.new ≡ step.Queue (queue_step.Append name.now) ∷ below steps.old }
 {

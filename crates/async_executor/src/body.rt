@@ -18,21 +18,15 @@ use crate::marked::Marked;
 use crate::names::{ExRealm, ExTask, ExWaker, TableWaker};
 use crate::queue::ExQueue;
 use crate::state::State;
-use async_task::{Future, NoMemory, Wake};
+use async_task::{Future, NoMemory, Output, OutsideWaker, Runtime};
 use call_steps::{Last, Reply};
 use executor_parts::{Mark, Places};
 use std::alloc::Global;
 use std::mem;
-use std::sync::{Arc, Wait};
+use std::sync::Arc;
 
 /// What an executor has, of either kind. It has no drop: an executor ends by it, or forgets it.
-pub struct Body<F, T, W, R>
-where
-    F: Drop,
-    T: Drop + 'static,
-    W: Wake + Drop + 'static,
-    R: Wait + Copy + Drop + 'static,
-{
+pub struct Body<F: Drop, T: Output, W: OutsideWaker, R: Runtime> {
     pub(crate) realm: &'static ExRealm<T, W, R>,
     pub(crate) state: Arc<State<W>, Global>,
     pub(crate) table: Guarded<Places<F, TableWaker>>,
@@ -44,13 +38,7 @@ where
     pub(crate) alloc: Global,
 }
 
-impl<F, T, W, R> Body<F, T, W, R>
-where
-    F: Drop,
-    T: Drop + 'static,
-    W: Wake + Drop + 'static,
-    R: Wait + Copy + Drop + 'static,
-{
+impl<F: Drop, T: Output, W: OutsideWaker, R: Runtime> Body<F, T, W, R> {
     /// Of this kind, with places for so many futures, whose tasks lie in this realm.
     pub fn new(
         rt: R,
@@ -118,12 +106,9 @@ where
     }
 }
 
-impl<F, T, W, R> Body<F, T, W, R>
+impl<F, T: Output, W: OutsideWaker, R: Runtime> Body<F, T, W, R>
 where
     F: Future<ExWaker<T, W, R>, Output = T> + Drop,
-    T: Drop + 'static,
-    W: Wake + Drop + 'static,
-    R: Wait + Copy + Drop + 'static,
 {
     /// Whether each future that was accepted is dropped. The call's end is the second answer.
     pub(crate) fn has_none(&self, steps: Steps, unlocked: &mut Unlocked) -> (bool, Last)

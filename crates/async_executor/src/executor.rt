@@ -17,19 +17,15 @@ use crate::leaving::Leaving;
 use crate::locks::Guarded;
 use crate::names::{ExRealm, ExWaker, TableWaker};
 use crate::state::State;
-use async_task::{Future, NoMemory, Returning, StoredWaker, Wake};
+use async_task::{Future, NoMemory, Output, OutsideWaker, Returning, Runtime, StoredWaker};
 use call_steps::{Last, Reply};
 use executor_parts::{Mark, Places};
 use std::alloc::Global;
 use std::collections::VecDeque;
-use std::sync::Wait;
 
-impl<F, T, W, R> Executor<F, T, W, R>
+impl<F, T: Output, W: OutsideWaker, R: Runtime> Executor<F, T, W, R>
 where
     F: Future<ExWaker<T, W, R>, Output = T> + Drop,
-    T: Drop + 'static,
-    W: Wake + Drop + 'static,
-    R: Wait + Copy + Drop + 'static,
 {
     /// An executor with places for so many futures, whose tasks lie in this realm. It keeps the runtime value, the
     /// allocator and the realm for its calls. All places of its queues and its table are taken here.
@@ -75,17 +71,12 @@ where
 /// 4. Takes from the urgent queue until nothing is left, then from the plain one, and drops each Runnable: each task is closed, and
 ///    who awaits it is called. A Runnable that a wake in progress still has comes back from the closed queue, and is dropped there.
 /// 5. Closes what was let go of tasks in its realm.
-pub fn end<F, T, W, R>(
+pub fn end<F: Drop, T: Output, W: OutsideWaker, R: Runtime>(
     body: Body<F, T, W, R>,
     leaving: Leaving,
     steps: Steps,
     unlocked: &mut Unlocked,
 ) -> Last
-where
-    F: Drop,
-    T: Drop + 'static,
-    W: Wake + Drop + 'static,
-    R: Wait + Copy + Drop + 'static,
     requires { steps ≡ step.Closing closing_step.TakeOut ∷ step.End reply.Done ∷ [] }
     ensures { result ≡ reply.Done }
 {
@@ -112,16 +103,11 @@ where
 
 /// An executor is leaked: it becomes a static one, whose table keeps no waker. Each waker of the table is taken out and called,
 /// in the order of acceptance: each task is queued, or was before. It takes no memory.
-pub fn leak<F, T, W, R>(
+pub fn leak<F: Drop, T: Output, W: OutsideWaker, R: Runtime>(
     body: Body<F, T, W, R>,
     steps: Steps,
     unlocked: &mut Unlocked,
 ) -> (Body<F, T, W, R>, Last)
-where
-    F: Drop,
-    T: Drop + 'static,
-    W: Wake + Drop + 'static,
-    R: Wait + Copy + Drop + 'static,
     requires { steps ≡ step.Closing closing_step.LeakOut ∷ step.End reply.Done ∷ [] }
     ensures kind { result.0.is_static ≡ true }
     ensures here { result.0.realm.now.number ≡ body.realm.now.number }
@@ -153,18 +139,13 @@ where
 }
 
 /// Takes each waker out of a table, and calls it, in the order of acceptance. Nothing else goes.
-fn call_wakers<F, T, W, R>(
+fn call_wakers<F: Drop, T: Output, W: OutsideWaker, R: Runtime>(
     rt: R,
     realm: &'static ExRealm<T, W, R>,
     table: &mut Places<F, TableWaker>,
     steps: &mut Steps,
     unlocked: &mut Unlocked,
 )
-where
-    F: Drop,
-    T: Drop + 'static,
-    W: Wake + Drop + 'static,
-    R: Wait + Copy + Drop + 'static,
     requires { steps.old ≡ leaking (length table.old.entries) ++ step.End reply.Done ∷ [] }
     ensures none { table.new.entries ≡ map unwoken table.old.entries }
     ensures rest { table.new ≡ record table.old { entries = table.new.entries } }
@@ -177,7 +158,7 @@ where
 }
 
 /// Takes the next waker out, where so many entries are still to come to, and calls it. One without a waker counts as woken.
-fn call_next<F, T, W, R>(
+fn call_next<F: Drop, T: Output, W: OutsideWaker, R: Runtime>(
     rt: R,
     realm: &'static ExRealm<T, W, R>,
     table: &mut Places<F, TableWaker>,
@@ -185,11 +166,6 @@ fn call_next<F, T, W, R>(
     steps: &mut Steps,
     unlocked: &mut Unlocked,
 )
-where
-    F: Drop,
-    T: Drop + 'static,
-    W: Wake + Drop + 'static,
-    R: Wait + Copy + Drop + 'static,
     requires some { 0 < left }
     requires leaks { steps.old ≡ leaking left ++ step.End reply.Done ∷ [] }
     ensures steps { steps.new ≡ leaking (left - 1) ++ step.End reply.Done ∷ [] }
@@ -204,7 +180,7 @@ where
 }
 
 /// Drops each Runnable that is left in the executor's queue of this mark, which is closed.
-fn drain<T, W, R>(
+fn drain<T: Output, W: OutsideWaker, R: Runtime>(
     rt: R,
     realm: &'static ExRealm<T, W, R>,
     state: &State<W>,
@@ -212,10 +188,6 @@ fn drain<T, W, R>(
     steps: &mut Steps,
     unlocked: &mut Unlocked,
 )
-where
-    T: Drop + 'static,
-    W: Wake + Drop + 'static,
-    R: Wait + Copy + Drop + 'static,
     requires { steps.old ≡ step.Closing (closing_step.Drain mark) ∷ step.End reply.Done ∷ [] }
     ensures { steps.new ≡ drained mark ++ step.End reply.Done ∷ [] }
 {
@@ -230,7 +202,7 @@ where
 
 /// Drops each future of a table, in the order of acceptance. Their wakers go into a list that has room for them, in the same
 /// order. One for which it hadn't would be called behind the drop of its future, as a part of its own.
-fn drop_futures<F, T, W, R>(
+fn drop_futures<F: Drop, T: Output, W: OutsideWaker, R: Runtime>(
     rt: R,
     realm: &'static ExRealm<T, W, R>,
     table: Places<F, TableWaker>,
@@ -238,11 +210,6 @@ fn drop_futures<F, T, W, R>(
     steps: &mut Steps,
     unlocked: &mut Unlocked,
 )
-where
-    F: Drop,
-    T: Drop + 'static,
-    W: Wake + Drop + 'static,
-    R: Wait + Copy + Drop + 'static,
     requires { steps.old ≡ closing (length table.entries) (length leaving.old.wakers.items) ++ step.End reply.Done ∷ [] }
     ensures { steps.new ≡ closing 0 (length leaving.new.wakers.items) ++ step.End reply.Done ∷ [] }
 {

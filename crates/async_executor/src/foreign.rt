@@ -14,9 +14,8 @@ use crate::entry::Unlocked;
 use crate::names::{ExRealm, ExWaker};
 use crate::sleeping::SleeperWaker;
 use crate::task_name::TaskName;
-use async_task::{Future, Poll, Wake};
+use async_task::{Future, Output, OutsideWaker, Poll, Runtime, Wake};
 use call_steps::{TickOrRun, Waker};
-use std::sync::Wait;
 
 /// A value of a user's, whose code runs only while no lock is held. It has no drop: it is let go, or called, by who is lent an
 /// `Unlocked`.
@@ -41,16 +40,13 @@ impl<X> Foreign<X> {
     }
 
     /// Polls the own future of a run once.
-    pub fn poll<T, W, R>(
+    pub fn poll<T: Output, W: OutsideWaker, R: Runtime>(
         &mut self,
         waker: &ExWaker<T, W, R>,
         unlocked: &Unlocked,
     ) -> Poll<X::Output>
     where
         X: Future<ExWaker<T, W, R>>,
-        T: Drop + 'static,
-        W: Wake + Drop + 'static,
-        R: Wait + Copy + Drop + 'static,
     {
         let _ = unlocked;
         self.value.poll(waker)
@@ -87,9 +83,9 @@ impl<W> Foreign<SleeperWaker<W>> {
     }
 }
 
-impl<W: Wake + Drop + 'static> Foreign<SleeperWaker<W>> {
+impl<W: OutsideWaker> Foreign<SleeperWaker<W>> {
     /// Calls the waker. Where a task has to be queued then, it is the answer.
-    pub fn wake<T, R>(
+    pub fn wake<T: Output, R: Runtime>(
         self,
         rt: R,
         realm: &'static ExRealm<T, W, R>,
@@ -97,9 +93,6 @@ impl<W: Wake + Drop + 'static> Foreign<SleeperWaker<W>> {
         steps: &mut Steps,
         unlocked: &Unlocked,
     ) -> Option<Handed<T, W, R>>
-    where
-        T: Drop + 'static,
-        R: Wait + Copy + Drop + 'static,
         requires { top steps.old ≡ Some (step.Sleeper (sleeper_step.CallSleeper (sleeper_as who.now self.value))) }
         ensures { steps.new ≡ due (of_handed result) (below steps.old) }
     {
@@ -108,7 +101,7 @@ impl<W: Wake + Drop + 'static> Foreign<SleeperWaker<W>> {
     }
 
     /// Calls the waker, with all that this leads to.
-    pub fn wake_and_pay<T, R>(
+    pub fn wake_and_pay<T: Output, R: Runtime>(
         self,
         rt: R,
         realm: &'static ExRealm<T, W, R>,
@@ -116,9 +109,6 @@ impl<W: Wake + Drop + 'static> Foreign<SleeperWaker<W>> {
         steps: &mut Steps,
         unlocked: &mut Unlocked,
     )
-    where
-        T: Drop + 'static,
-        R: Wait + Copy + Drop + 'static,
         requires { top steps.old ≡ Some (step.Sleeper (sleeper_step.CallSleeper (sleeper_as who.now self.value))) }
         ensures { steps.new ≡ below steps.old }
     {
@@ -127,16 +117,13 @@ impl<W: Wake + Drop + 'static> Foreign<SleeperWaker<W>> {
     }
 
     /// It goes, with all that this leads to.
-    pub fn let_go_and_pay<T, R>(
+    pub fn let_go_and_pay<T: Output, R: Runtime>(
         self,
         rt: R,
         realm: &'static ExRealm<T, W, R>,
         steps: &mut Steps,
         unlocked: &mut Unlocked,
     )
-    where
-        T: Drop + 'static,
-        R: Wait + Copy + Drop + 'static,
         requires { LetsGo (name_of self.value) steps.old }
         ensures { steps.new ≡ gone (name_of self.value) steps.old }
     {

@@ -20,17 +20,13 @@ use crate::names::ExWaker;
 use crate::runner::Runner;
 use crate::steps::Answered;
 use crate::ticker::Ticker;
-use async_task::{Future, NoMemory, Wake};
+use async_task::{Future, NoMemory, Output, OutsideWaker, Runtime};
 use call_steps::{Last, Reply};
 use executor_parts::Room;
-use std::sync::Wait;
 
-impl<F, T, W, R> Body<F, T, W, R>
+impl<F, T: Output, W: OutsideWaker, R: Runtime> Body<F, T, W, R>
 where
     F: Future<ExWaker<T, W, R>, Output = T> + Drop,
-    T: Drop + 'static,
-    W: Wake + Drop + 'static,
-    R: Wait + Copy + Drop + 'static,
 {
     /// A tick, which is awake. The call's end is the second answer.
     pub(crate) fn make_tick(

@@ -18,16 +18,14 @@ use crate::entry::Unlocked;
 use crate::names::{ExStoredRunnable, ExWaker};
 use crate::state::redeem;
 use crate::task_name::TaskName;
-use async_task::{Back, Future, Poll, Returning, Started, StoredWaker, Wake};
+use async_task::{
+    Back, Future, Output, OutsideWaker, Poll, Returning, Runtime, Started, StoredWaker,
+};
 use executor_parts::EntryPlace;
-use std::sync::Wait;
 
-impl<F, T, W, R> Body<F, T, W, R>
+impl<F, T: Output, W: OutsideWaker, R: Runtime> Body<F, T, W, R>
 where
     F: Future<ExWaker<T, W, R>, Output = T> + Drop,
-    T: Drop + 'static,
-    W: Wake + Drop + 'static,
-    R: Wait + Copy + Drop + 'static,
 {
     /// Runs a task that was found.
     #[inline(always)]

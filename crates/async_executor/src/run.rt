@@ -27,10 +27,9 @@ use crate::names::{ExStoredRunnable, ExWaker};
 use crate::runner::{Runner, Search};
 use crate::task_name::{TaskName, name_given_to};
 use crate::ticker::{Slept, Ticker};
-use async_task::{Future, Poll, Wake};
+use async_task::{Future, Output, OutsideWaker, Poll, Runtime};
 use call_steps::{Last, Reply, Searcher, Stage, TickOrRun, Waker};
 use std::mem;
-use std::sync::Wait;
 
 /// What a run has found.
 pub enum Sought {
@@ -42,14 +41,7 @@ pub enum Sought {
     NoMemory,
 }
 
-impl<F, T, W, R, G> Run<'_, F, T, W, R, G>
-where
-    F: Drop,
-    T: Drop + 'static,
-    W: Wake + Drop + 'static,
-    R: Wait + Copy + Drop + 'static,
-    G: Drop,
-{
+impl<F: Drop, T: Output, W: OutsideWaker, R: Runtime, G: Drop> Run<'_, F, T, W, R, G> {
     /// At which stage it is polled.
     pub(crate) fn stage(&self) -> Stage
         ensures { result ≡ stage_polled self.now.future self.now.runner.is_listed }
@@ -61,12 +53,9 @@ where
     }
 }
 
-impl<F, T, W, R, G> Run<'_, F, T, W, R, G>
+impl<F, T: Output, W: OutsideWaker, R: Runtime, G> Run<'_, F, T, W, R, G>
 where
     F: Future<ExWaker<T, W, R>, Output = T> + Drop,
-    T: Drop + 'static,
-    W: Wake + Drop + 'static,
-    R: Wait + Copy + Drop + 'static,
     G: Future<ExWaker<T, W, R>> + Drop,
 {
     /// Polls its future, and then runs tasks.
@@ -387,16 +376,12 @@ where
 
 /// A run that has taken 200 tasks calls the waker of this name that it was polled with, and lets others go first.
 #[tactic(auto, using(crate::proofs::Calling::own_is_kept, crate::proofs::Calling::own_was_called))]
-fn give_way<T, W, R>(
+fn give_way<T: Output, W: OutsideWaker, R: Runtime>(
     waker: &ExWaker<T, W, R>,
     name: &Waker<TaskName>,
     steps: Steps,
     unlocked: &Unlocked,
 ) -> Last
-where
-    T: Drop + 'static,
-    W: Wake + Drop + 'static,
-    R: Wait + Copy + Drop + 'static,
     requires named { name.now ≡ name_given waker.now }
     requires gives { steps ≡ ran true name.now }
     ensures { result ≡ reply.Pending }
@@ -412,7 +397,7 @@ where
 /// 2. Takes its own queue out of the executor's list, gives its room there back, and schedules each Runnable that is left in the
 ///    queue, in order.
 /// 3. Leaves the sleepers, and gives its room there back.
-pub fn end<F, T, W, R, G>(
+pub fn end<F: Drop, T: Output, W: OutsideWaker, R: Runtime, G: Drop>(
     executor: &Body<F, T, W, R>,
     future: Option<Foreign<G>>,
     runner: Runner,
@@ -420,12 +405,6 @@ pub fn end<F, T, W, R, G>(
     steps: Steps,
     unlocked: &mut Unlocked,
 ) -> Last
-where
-    F: Drop,
-    T: Drop + 'static,
-    W: Wake + Drop + 'static,
-    R: Wait + Copy + Drop + 'static,
-    G: Drop,
     requires { steps ≡ drop_run (stage_by (has_ended runner.room runner.is_drained) runner.is_listed) tt }
     ensures { result ≡ reply.Done }
 {

@@ -30,7 +30,7 @@ use crate::own_queues::{OwnQueues, RunRoom};
 use crate::state::{OWN_PLACES, State};
 use crate::steal::{Theft, steal};
 use crate::task_name::TaskName;
-use async_task::{NoMemory, Wake};
+use async_task::{NoMemory, Output, OutsideWaker, Runtime};
 use call_steps::{Searcher, Then, Waker};
 use executor_parts::Mark;
 use rand_core::SeedableRng;
@@ -169,7 +169,7 @@ impl Runner {
 
     /// The look at the executor's queues that is due at each 64th task: it steals from the urgent one, and then from the plain one,
     /// before this task is run, which it has counted.
-    pub fn pay<T, W, R>(
+    pub fn pay<T: Output, W: OutsideWaker, R: Runtime>(
         &mut self,
         rt: R,
         state: &State<W>,
@@ -180,10 +180,6 @@ impl Runner {
         steps: &mut Steps,
         unlocked: &mut Unlocked,
     )
-    where
-        T: Drop + 'static,
-        W: Wake + Drop + 'static,
-        R: Wait + Copy + Drop + 'static,
         requires { steps.old ≡ reads_length search.now.name.now (source.Common mark.Urgent) (then.StealPlain found.now.identity) }
         ensures { steps.new ≡ runs search.now.at search.now.name.now found.now.identity }
     {
@@ -196,7 +192,7 @@ impl Runner {
     }
 
     /// Steals from the executor's queue of this mark, and goes on with this.
-    fn steal_from<T, W, R>(
+    fn steal_from<T: Output, W: OutsideWaker, R: Runtime>(
         &self,
         mark: Mark,
         rt: R,
@@ -207,10 +203,6 @@ impl Runner {
         steps: &mut Steps,
         unlocked: &mut Unlocked,
     )
-    where
-        T: Drop + 'static,
-        W: Wake + Drop + 'static,
-        R: Wait + Copy + Drop + 'static,
         requires apart { is_walk then.now ≡ false }
         requires steals { steps.old ≡ reads_length search.now.name.now (source.Common mark) then.now }
         ensures { steps.new ≡ stolen_as then.now search.now.at (poll_with search.now.name.now) }
@@ -227,7 +219,7 @@ impl Runner {
 
     /// The next Runnable of the run, or None where none was found. What its own queue gave back in a walk is closed, and it
     /// searches anew.
-    pub fn search<T, W, R>(
+    pub fn search<T: Output, W: OutsideWaker, R: Runtime>(
         &mut self,
         rt: R,
         state: &State<W>,
@@ -236,10 +228,6 @@ impl Runner {
         steps: &mut Steps,
         unlocked: &mut Unlocked,
     ) -> Option<ExStoredRunnable>
-    where
-        T: Drop + 'static,
-        W: Wake + Drop + 'static,
-        R: Wait + Copy + Drop + 'static,
         requires { steps.old ≡ step.Tick (tick_step.Search (sleeping (tick_or_run.Run tt) search.now.name.now)) ∷ [] }
         ensures { steps.new ≡ searched_by_run search.now.at search.now.name.now (of_stored result) }
     {
@@ -261,7 +249,7 @@ impl Runner {
     /// 2. The first of the global queue that its turn names, or else of the other one; then it steals from where that stood.
     /// 3. Under the read lock of the list, round the other runs' queues from the starting place: it steals from each, and
     ///    takes the first of its own queue.
-    fn search_once<T, W, R>(
+    fn search_once<T: Output, W: OutsideWaker, R: Runtime>(
         &mut self,
         rt: R,
         state: &State<W>,
@@ -270,10 +258,6 @@ impl Runner {
         steps: &mut Steps,
         unlocked: &mut Unlocked,
     ) -> Searched
-    where
-        T: Drop + 'static,
-        W: Wake + Drop + 'static,
-        R: Wait + Copy + Drop + 'static,
         requires { steps.old ≡ step.Tick (tick_step.Search (sleeping (tick_or_run.Run tt) search.now.name.now)) ∷ [] }
         ensures { steps.new ≡ searched search.now.at search.now.name.now result }
     {
@@ -314,7 +298,7 @@ fn list_in<Q: Drop>(queues: &mut OwnQueues<Q>, room: &RunRoom, queue: Q) -> bool
 
 /// Closes a Runnable that came back from a full queue, where one did. No lock is held, as this was no walk.
 #[tactic(auto, using(crate::proofs::Refusing::drops_it))]
-fn drop_refused<T, W, R>(
+fn drop_refused<T: Output, W: OutsideWaker, R: Runtime>(
     rt: R,
     realm: &'static ExRealm<T, W, R>,
     refused: Option<ExStoredRunnable>,
@@ -322,10 +306,6 @@ fn drop_refused<T, W, R>(
     steps: &mut Steps,
     unlocked: &mut Unlocked,
 )
-where
-    T: Drop + 'static,
-    W: Wake + Drop + 'static,
-    R: Wait + Copy + Drop + 'static,
     requires apart { is_walk theft.now.then.now ≡ false }
     requires steals { steps.old ≡ robbed theft.now.name.now theft.now.then.now theft.now.at (of_stored refused) }
     ensures { steps.new ≡ stolen_as theft.now.then.now theft.now.at (poll_with theft.now.name.now) }

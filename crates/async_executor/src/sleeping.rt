@@ -6,9 +6,8 @@ use crate::entry::Unlocked;
 use crate::foreign::Foreign;
 use crate::names::ExWaker;
 use crate::task_name::TaskName;
-use async_task::{Awaiter, Returning, StoredWaker, Wake};
+use async_task::{Awaiter, Output, OutsideWaker, Returning, Runtime, StoredWaker, Wake};
 use call_steps::{Sleeping, TickOrRun, Waker};
-use std::sync::Wait;
 
 mod going;
 
@@ -45,12 +44,12 @@ impl<W> SleeperWaker<W> {
     }
 }
 
-impl<W: Wake + Drop + 'static> SleeperWaker<W> {
+impl<W: OutsideWaker> SleeperWaker<W> {
     /// A copy of a waker for the list of sleepers, or None where none can be had: then memory was wanted.
-    pub fn of<T, R>(waker: &ExWaker<T, W, R>, unlocked: &Unlocked) -> Option<Foreign<Self>>
-    where
-        T: Drop + 'static,
-        R: Wait + Copy + Drop + 'static,
+    pub fn of<T: Output, R: Runtime>(
+        waker: &ExWaker<T, W, R>,
+        unlocked: &Unlocked,
+    ) -> Option<Foreign<Self>>
         ensures copy { IfSome result (λ copy. IsCopyOf W.is_same copy.value waker.now) }
         ensures name { IfSome result (λ copy. name_of copy.value ≡ name_given waker.now) }
     {
@@ -61,10 +60,7 @@ impl<W: Wake + Drop + 'static> SleeperWaker<W> {
         }
     }
 
-    fn copy_of<T, R>(waker: &ExWaker<T, W, R>) -> Option<Self>
-    where
-        T: Drop + 'static,
-        R: Wait + Copy + Drop + 'static,
+    fn copy_of<T: Output, R: Runtime>(waker: &ExWaker<T, W, R>) -> Option<Self>
         ensures copy { IfSome result (λ copy. IsCopyOf W.is_same copy waker.now) }
         ensures name { IfSome result (λ copy. name_of copy ≡ name_given waker.now) }
     {

@@ -26,7 +26,7 @@ use crate::sleeping::SleeperWaker;
 use crate::task_name::TaskName;
 use crate::ticker::{FellAsleep, Laid, WokenUp};
 use crate::turns::Turns;
-use async_task::{GoesBack, NoMemory, Wake};
+use async_task::{GoesBack, NoMemory, Output, OutsideWaker, Runtime, Wake};
 use call_steps::TickOrRun;
 use executor_parts::{Mark, Sleepers};
 use std::alloc::Global;
@@ -126,15 +126,11 @@ impl<W: Drop> State<W> {
 
 /// A Runnable, of its place. Where that is of another realm it goes back there.
 #[inline(always)]
-pub fn redeem<T, W, R>(
+pub fn redeem<T: Output, W: OutsideWaker, R: Runtime>(
     rt: R,
     realm: &'static ExRealm<T, W, R>,
     runnable: ExStoredRunnable,
 ) -> Option<ExScheduled<T, W, R>>
-where
-    T: Drop + 'static,
-    W: Wake + Drop + 'static,
-    R: Wait + Copy + Drop + 'static,
     ensures { IfSome result (λ found. found.identity ≡ runnable.identity) }
 {
     match runnable.redeem(rt, realm) {
@@ -146,10 +142,10 @@ where
     }
 }
 
-impl<W: Wake + Drop + 'static> State<W> {
+impl<W: OutsideWaker> State<W> {
     /// Puts a Runnable into the executor's queue of its mark, and tells a sleeper. Where that leads to a task that has to be
     /// queued, it is the answer. From a queue that is closed the Runnable comes back, and is dropped.
-    pub fn push<T, R>(
+    pub fn push<T: Output, R: Runtime>(
         &self,
         rt: R,
         realm: &'static ExRealm<T, W, R>,
@@ -157,9 +153,6 @@ impl<W: Wake + Drop + 'static> State<W> {
         runnable: Marked,
         unlocked: &mut Unlocked,
     ) -> Option<Handed<T, W, R>>
-    where
-        T: Drop + 'static,
-        R: Wait + Copy + Drop + 'static,
         requires { top steps.old ≡ Some (step.Queue (queue_step.Append runnable.stored.identity)) }
         ensures { steps.new ≡ due (of_handed result) (below steps.old) }
     {
@@ -171,7 +164,7 @@ impl<W: Wake + Drop + 'static> State<W> {
 
     /// Puts a Runnable that rested in a run's own queue into the executor's queue, and tells a sleeper, with all that this leads
     /// to. One of another realm goes back there.
-    pub fn push_stored<T, R>(
+    pub fn push_stored<T: Output, R: Runtime>(
         &self,
         rt: R,
         realm: &'static ExRealm<T, W, R>,
@@ -179,9 +172,6 @@ impl<W: Wake + Drop + 'static> State<W> {
         steps: &mut Steps,
         unlocked: &mut Unlocked,
     )
-    where
-        T: Drop + 'static,
-        R: Wait + Copy + Drop + 'static,
         requires { top steps.old ≡ Some (step.Queue (queue_step.Append stored.identity)) }
         ensures { steps.new ≡ below steps.old }
     {
@@ -200,16 +190,13 @@ impl<W: Wake + Drop + 'static> State<W> {
     ///
     /// 1. Exchanges the flag from false to true. Where it was true, that is all.
     /// 2. Takes, under the sleepers' lock, the waker added last, if there are as many wakers as sleepers.
-    fn notify<T, R>(
+    fn notify<T: Output, R: Runtime>(
         &self,
         rt: R,
         realm: &'static ExRealm<T, W, R>,
         steps: &mut Steps,
         unlocked: &mut Unlocked,
     ) -> Option<Handed<T, W, R>>
-    where
-        T: Drop + 'static,
-        R: Wait + Copy + Drop + 'static,
         requires { top steps.old ≡ Some (step.Sleeper sleeper_step.ExchangeFlag) }
         ensures { steps.new ≡ due (of_handed result) (below steps.old) }
     {

@@ -21,7 +21,7 @@ use crate::sleeping::SleeperWaker;
 use crate::state::State;
 use crate::task_name::TaskName;
 use crate::waker_name::WakerName;
-use async_task::Wake;
+use async_task::{Output, OutsideWaker, Runtime};
 use call_steps::{TickOrRun, Waker};
 use executor_parts::{
     Again, Room, Sleeper, Sleepers, Slept as Started, Unreserved, WokenUp as Stood,
@@ -80,7 +80,7 @@ pub struct WokenUp<W> {
 
 impl Ticker {
     /// Wakes up. That it had been told is of no account, as the call tells another.
-    pub fn wake_up<T, W, R>(
+    pub fn wake_up<T: Output, W: OutsideWaker, R: Runtime>(
         &mut self,
         rt: R,
         state: &State<W>,
@@ -89,10 +89,6 @@ impl Ticker {
         steps: &mut Steps,
         unlocked: &mut Unlocked,
     )
-    where
-        T: Drop + 'static,
-        W: Wake + Drop + 'static,
-        R: Wait + Copy + Drop + 'static,
         requires { top steps.old ≡ Some (step.Tick (tick_step.WakeUp who.now)) }
         ensures steps { steps.new ≡ below steps.old }
         ensures awake { is_asleep self.new ≡ false }
@@ -105,7 +101,7 @@ impl Ticker {
 
     /// What one does that found nothing: it copies the waker that its poll was given, of this name, and falls asleep with the
     /// copy. A waker of a task of another realm can't be found from here: it is called at once.
-    pub fn sleep<T, W, R>(
+    pub fn sleep<T: Output, W: OutsideWaker, R: Runtime>(
         &mut self,
         rt: R,
         state: &State<W>,
@@ -116,10 +112,6 @@ impl Ticker {
         steps: &mut Steps,
         unlocked: &mut Unlocked,
     ) -> Slept
-    where
-        T: Drop + 'static,
-        W: Wake + Drop + 'static,
-        R: Wait + Copy + Drop + 'static,
         requires named { name.now ≡ name_given waker.now }
         requires copies { steps.old ≡ step.Tick (tick_step.CopyWaker (sleeping who.now name.now)) ∷ [] }
         ensures steps { steps.new ≡ slept who.now name.now result }
@@ -137,7 +129,7 @@ impl Ticker {
     }
 
     /// Falls asleep with a copy of the waker of this name. It has to search again where it wasn't asleep, or had been told.
-    fn sleep_with<T, W, R>(
+    fn sleep_with<T: Output, W: OutsideWaker, R: Runtime>(
         &mut self,
         rt: R,
         state: &State<W>,
@@ -148,10 +140,6 @@ impl Ticker {
         steps: &mut Steps,
         unlocked: &mut Unlocked,
     ) -> Slept
-    where
-        T: Drop + 'static,
-        W: Wake + Drop + 'static,
-        R: Wait + Copy + Drop + 'static,
         requires named { name_of copy.value ≡ name.now }
         requires falls { steps.old ≡ step.Tick (tick_step.FallAsleep (sleeping who.now name.now)) ∷ [] }
         ensures steps { steps.new ≡ slept who.now name.now result }
@@ -316,12 +304,10 @@ fn woken_up_with<W>(notified: bool, waker: Option<SleeperWaker<W>>) -> WokenUp<W
 }
 
 /// Whether it is a waker of a task of another realm.
-fn sleeps_elsewhere<T, W, R>(waker: &ExWaker<T, W, R>, realm: &'static ExRealm<T, W, R>) -> bool
-where
-    T: Drop + 'static,
-    W: Wake + Drop + 'static,
-    R: Wait + Copy + Drop + 'static,
-{
+fn sleeps_elsewhere<T: Output, W: OutsideWaker, R: Runtime>(
+    waker: &ExWaker<T, W, R>,
+    realm: &'static ExRealm<T, W, R>,
+) -> bool {
     match waker.identity() {
         Some(identity) => identity.realm != realm.number(),
         None => false,
@@ -330,17 +316,13 @@ where
 
 /// Calls the waker of this name that one was polled with, which can't be kept, at once.
 #[tactic(auto, using(crate::proofs::Calling::sleepers_is_kept, crate::proofs::Calling::sleepers_was_called))]
-fn call_at_once<T, W, R>(
+fn call_at_once<T: Output, W: OutsideWaker, R: Runtime>(
     waker: &ExWaker<T, W, R>,
     name: &Waker<TaskName>,
     who: &TickOrRun<()>,
     steps: &mut Steps,
     unlocked: &Unlocked,
 )
-where
-    T: Drop + 'static,
-    W: Wake + Drop + 'static,
-    R: Wait + Copy + Drop + 'static,
     requires named { name.now ≡ name_given waker.now }
     requires copies { steps.old ≡ step.Tick (tick_step.CopyWaker (sleeping who.now name.now)) ∷ [] }
     ensures { steps.new ≡ step.End reply.Pending ∷ [] }

@@ -25,7 +25,7 @@ use crate::state::State;
 use crate::task_name::TaskName;
 use crate::ticker::leave::leave_in;
 use crate::ticker::{Laid, Ticker};
-use async_task::{NoMemory, Wake};
+use async_task::{NoMemory, Output, OutsideWaker, Runtime};
 use call_steps::{Saw, TickOrRun, Waker};
 use executor_parts::{Room, Sleeper};
 use std::sync::Wait;
@@ -205,17 +205,13 @@ impl Steps {
     }
 
     /// Copies the waker of this name that one was polled with, to fall asleep with.
-    pub fn copy_waker<T, W, R>(
+    pub fn copy_waker<T: Output, W: OutsideWaker, R: Runtime>(
         &mut self,
         waker: &ExWaker<T, W, R>,
         name: &Waker<TaskName>,
         who: &TickOrRun<()>,
         unlocked: &Unlocked,
     ) -> Option<Foreign<SleeperWaker<W>>>
-    where
-        T: Drop + 'static,
-        W: Wake + Drop + 'static,
-        R: Wait + Copy + Drop + 'static,
         requires named { name.now ≡ name_given waker.now }
         requires copies { top self.old ≡ Some (step.Tick (tick_step.CopyWaker (sleeping who.now name.now))) }
         ensures steps { self.new ≡ following (room_seen (is_some result)) self.old }

@@ -23,15 +23,14 @@ use crate::names::{ExRealm, ExTask, TableWaker};
 use crate::queue::ExQueue;
 use crate::spawning::accept;
 use crate::task_name::TaskName;
-use async_task::Wake;
+use async_task::{Output, OutsideWaker, Runtime};
 use call_steps::Saw;
 use executor_parts::{Mark, Places};
-use std::sync::Wait;
 
 impl Steps {
     /// Accepts a future with this mark, or refuses it, in one section of the table's lock.
     #[inline(always)]
-    pub fn accept<F, T, W, R>(
+    pub fn accept<F: Drop, T: Output, W: OutsideWaker, R: Runtime>(
         &mut self,
         table: &Guarded<Places<F, TableWaker>>,
         rt: R,
@@ -43,11 +42,6 @@ impl Steps {
         closed: HasClosed,
         unlocked: &mut Unlocked,
     ) -> Result<(Marked, ExTask<T, W, R>), SpawnError<F>>
-    where
-        F: Drop,
-        T: Drop + 'static,
-        W: Wake + Drop + 'static,
-        R: Wait + Copy + Drop + 'static,
         requires { top self.old ≡ Some (step.Table (table_step.Enter mark)) }
         ensures steps { self.new ≡ following (accepted_as result) self.old }
         ensures one_task { IfOk result (λ both. both.0.stored.identity ≡ both.1.identity) }

@@ -16,31 +16,20 @@ use crate::marked::Marked;
 use crate::names::{ExClosing, ExRunning, ExWaker};
 use crate::task_name::TaskName;
 use async_task::moves::{FutureDebt, Move, Owed};
-use async_task::{Back, Due, RunEnd, ScheduleInfo, Wake};
+use async_task::{Back, Due, Output, OutsideWaker, RunEnd, Runtime, ScheduleInfo};
 use call_steps::Saw;
 use executor_parts::EntryPlace;
 use std::snapshot::Snapshot;
-use std::sync::Wait;
 
 /// A run whose future is polled. It has no drop: it is settled.
 #[must_use]
-pub struct Polling<T, W, R>
-where
-    T: Drop + 'static,
-    W: Wake + Drop + 'static,
-    R: Wait + Copy + Drop + 'static,
-{
+pub struct Polling<T: Output, W: OutsideWaker, R: Runtime> {
     running: ExRunning<T, W, R>,
 }
 
 /// What is left to do once a poll has ended. It has no drop.
 #[must_use]
-pub enum Settled<T, W, R>
-where
-    T: Drop + 'static,
-    W: Wake + Drop + 'static,
-    R: Wait + Copy + Drop + 'static,
-{
+pub enum Settled<T: Output, W: OutsideWaker, R: Runtime> {
     Over,
     /// It was woken meanwhile, and is to be queued.
     Due(Marked),
@@ -50,23 +39,13 @@ where
 
 /// A run whose future is dropped. It has no drop: it is finished.
 #[must_use]
-pub struct Dropping<T, W, R>
-where
-    T: Drop + 'static,
-    W: Wake + Drop + 'static,
-    R: Wait + Copy + Drop + 'static,
-{
+pub struct Dropping<T: Output, W: OutsideWaker, R: Runtime> {
     closing: ExClosing<T, W, R>,
     // By which move it ends, where the task was closed.
     ends: Snapshot<Move>,
 }
 
-impl<T, W, R> Polling<T, W, R>
-where
-    T: Drop + 'static,
-    W: Wake + Drop + 'static,
-    R: Wait + Copy + Drop + 'static,
-{
+impl<T: Output, W: OutsideWaker, R: Runtime> Polling<T, W, R> {
     /// A task was taken up, and its future is to be polled.
     #[inline(always)]
     pub fn begin(running: ExRunning<T, W, R>, name: &TaskName, steps: &mut Steps) -> Self
@@ -123,12 +102,7 @@ where
     }
 }
 
-impl<T, W, R> Dropping<T, W, R>
-where
-    T: Drop + 'static,
-    W: Wake + Drop + 'static,
-    R: Wait + Copy + Drop + 'static,
-{
+impl<T: Output, W: OutsideWaker, R: Runtime> Dropping<T, W, R> {
     /// A task was taken up that is closed: its future is to be dropped.
     pub fn begin(closing: ExClosing<T, W, R>, name: &TaskName, steps: &mut Steps) -> Self
         requires closed { was_closed closing.closed ≡ true }

@@ -16,23 +16,18 @@ use crate::leaving::ToCall;
 use crate::names::{ExDue, ExRealm, ExStoredRunnable, ExWaker};
 use crate::sleeping::SleeperWaker;
 use crate::task_name::TaskName;
-use async_task::{GoesBack, Returning, StoredWaker, Wake};
+use async_task::{GoesBack, Output, OutsideWaker, Returning, Runtime, StoredWaker, Wake};
 use call_steps::{Saw, TickOrRun, Waker};
-use std::sync::Wait;
 
 impl Steps {
     /// Closes a Runnable, as the executor's queue is closed. Where that leads to a task that has to be queued, it is the answer.
-    pub fn close_runnable<T, W, R>(
+    pub fn close_runnable<T: Output, W: OutsideWaker, R: Runtime>(
         &mut self,
         runnable: ExStoredRunnable,
         rt: R,
         realm: &'static ExRealm<T, W, R>,
         unlocked: &Unlocked,
     ) -> Option<Handed<T, W, R>>
-    where
-        T: Drop + 'static,
-        W: Wake + Drop + 'static,
-        R: Wait + Copy + Drop + 'static,
         requires { top self.old ≡ Some (step.Move move.DropRunnable runnable.identity) }
         ensures { self.new ≡ due (of_handed result) (below self.old) }
     {
@@ -57,17 +52,13 @@ impl Steps {
     }
 
     /// Lets the waker of a task go. Where that task has to be queued then, it is the answer.
-    pub fn release<T, W, R>(
+    pub fn release<T: Output, W: OutsideWaker, R: Runtime>(
         &mut self,
         waker: Returning<StoredWaker>,
         rt: R,
         realm: &'static ExRealm<T, W, R>,
         unlocked: &Unlocked,
     ) -> Option<Handed<T, W, R>>
-    where
-        T: Drop + 'static,
-        W: Wake + Drop + 'static,
-        R: Wait + Copy + Drop + 'static,
         requires { top self.old ≡ Some (step.Move move.Release waker.identity) }
         ensures { self.new ≡ due (of_handed result) (below self.old) }
     {
@@ -85,7 +76,7 @@ impl Steps {
     }
 
     /// Calls the waker of a sleeper. Where a task has to be queued then, it is the answer.
-    pub fn call_sleeper<T, W, R>(
+    pub fn call_sleeper<T: Output, W: OutsideWaker, R: Runtime>(
         &mut self,
         waker: SleeperWaker<W>,
         who: &TickOrRun<()>,
@@ -93,10 +84,6 @@ impl Steps {
         realm: &'static ExRealm<T, W, R>,
         unlocked: &Unlocked,
     ) -> Option<Handed<T, W, R>>
-    where
-        T: Drop + 'static,
-        W: Wake + Drop + 'static,
-        R: Wait + Copy + Drop + 'static,
         requires { top self.old ≡ Some (step.Sleeper (sleeper_step.CallSleeper (sleeper_as who.now waker))) }
         ensures { self.new ≡ due (of_handed result) (below self.old) }
     {
@@ -122,16 +109,12 @@ impl Steps {
     }
 
     /// Calls a waker of this name that the caller keeps, with all that this leads to.
-    pub fn call_kept<T, W, R>(
+    pub fn call_kept<T: Output, W: OutsideWaker, R: Runtime>(
         &mut self,
         waker: &ExWaker<T, W, R>,
         name: &Waker<TaskName>,
         unlocked: &Unlocked,
     )
-    where
-        T: Drop + 'static,
-        W: Wake + Drop + 'static,
-        R: Wait + Copy + Drop + 'static,
         requires named { name.now ≡ name_given waker.now }
         requires calls { CallsKept name.now self.old }
         ensures { self.new ≡ called_kept name.now self.old }
@@ -149,7 +132,7 @@ impl Steps {
 
     /// Calls a waker that came out of the table, where so many are left: as a leak does, and an executor's drop. Where a task has to
     /// be queued then, it is the answer.
-    pub fn call_entry<T, W, R>(
+    pub fn call_entry<T: Output, W: OutsideWaker, R: Runtime>(
         &mut self,
         waker: ToCall,
         left: u64,
@@ -157,10 +140,6 @@ impl Steps {
         realm: &'static ExRealm<T, W, R>,
         unlocked: &Unlocked,
     ) -> Option<Handed<T, W, R>>
-    where
-        T: Drop + 'static,
-        W: Wake + Drop + 'static,
-        R: Wait + Copy + Drop + 'static,
         requires { CallsWaker (top self.old) }
         ensures steps { self.new ≡ following (woke waker.identity (is_some result) left) self.old }
         ensures task { IfSome result (λ handed. handed.runnable.stored.identity ≡ waker.identity) }
@@ -181,17 +160,13 @@ impl Steps {
     /// The waker goes of an entry that left, which is of this task by reading alone. What is due then, which is nothing, is a part of
     /// its own.
     #[inline(always)]
-    pub fn release_entry<T, W, R>(
+    pub fn release_entry<T: Output, W: OutsideWaker, R: Runtime>(
         &mut self,
         waker: Returning<StoredWaker>,
         name: &TaskName,
         rt: R,
         realm: &'static ExRealm<T, W, R>,
     ) -> Option<ExDue<T, W, R>>
-    where
-        T: Drop + 'static,
-        W: Wake + Drop + 'static,
-        R: Wait + Copy + Drop + 'static,
         requires { top self.old ≡ Some (step.Move move.Release name.now) }
         ensures { self.new ≡ below self.old }
     {

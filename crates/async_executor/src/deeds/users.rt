@@ -11,24 +11,18 @@ use crate::entry::Unlocked;
 use crate::foreign::Foreign;
 use crate::names::ExWaker;
 use crate::task_name::TaskName;
-use async_task::{Future, Poll, Wake};
+use async_task::{Future, Output, OutsideWaker, Poll, Runtime};
 use call_steps::{Saw, Waker};
-use std::sync::Wait;
 
 impl Steps {
     /// Polls the own future of a run with a waker of this name.
-    pub fn poll_own<G, T, W, R>(
+    pub fn poll_own<G: Future<ExWaker<T, W, R>>, T: Output, W: OutsideWaker, R: Runtime>(
         &mut self,
         future: &mut Foreign<G>,
         waker: &ExWaker<T, W, R>,
         name: &Waker<TaskName>,
         unlocked: &Unlocked,
     ) -> Poll<G::Output>
-    where
-        G: Future<ExWaker<T, W, R>>,
-        T: Drop + 'static,
-        W: Wake + Drop + 'static,
-        R: Wait + Copy + Drop + 'static,
         requires named { name.now ≡ name_given waker.now }
         requires polls { self.old ≡ step.User (user_step.PollOwn (poll_with name.now)) ∷ [] }
         ensures { self.new ≡ polled_own name.now result }

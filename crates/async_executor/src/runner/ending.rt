@@ -15,7 +15,7 @@ use crate::entry::Unlocked;
 use crate::foreign::Foreign;
 use crate::names::{ExRealm, ExStoredRunnable};
 use crate::state::State;
-use async_task::Wake;
+use async_task::{Output, OutsideWaker, Runtime};
 use call_steps::{Reply, Stage};
 use std::mem;
 use std::sync::Wait;
@@ -55,7 +55,7 @@ impl Runner {
 
     /// The run is dropped, with its own future, where that is there. Its own queue goes from the executor's list, where it is there, its
     /// room there is given back, and what is left in the queue is scheduled, in order.
-    pub fn end<G: Drop, T, W, R>(
+    pub fn end<G: Drop, T: Output, W: OutsideWaker, R: Runtime>(
         &mut self,
         future: Option<Foreign<G>>,
         rt: R,
@@ -64,10 +64,6 @@ impl Runner {
         steps: &mut Steps,
         unlocked: &mut Unlocked,
     )
-    where
-        T: Drop + 'static,
-        W: Wake + Drop + 'static,
-        R: Wait + Copy + Drop + 'static,
         requires { steps.old ≡ drop_run (stage_by (has_ended self.old.room self.old.is_drained) self.old.is_listed) tt }
         ensures steps { steps.new ≡ leaves_with reply.Done }
         ensures drained { self.new.is_drained ≡ true }
@@ -104,7 +100,7 @@ impl Runner {
     }
 
     /// Schedules what is left in the own queue, in order, in a call that is answered so.
-    pub fn reschedule<T, W, R>(
+    pub fn reschedule<T: Output, W: OutsideWaker, R: Runtime>(
         &mut self,
         rt: R,
         state: &State<W>,
@@ -113,10 +109,6 @@ impl Runner {
         steps: &mut Steps,
         unlocked: &mut Unlocked,
     )
-    where
-        T: Drop + 'static,
-        W: Wake + Drop + 'static,
-        R: Wait + Copy + Drop + 'static,
         requires { steps.old ≡ step.Run (run_step.Reschedule tt reply) ∷ [] }
         ensures steps { steps.new ≡ leaves_with reply }
         ensures drained { self.new.is_drained ≡ true }

@@ -8,21 +8,17 @@ use crate::deeds::Steps;
 use crate::due::pay_next;
 use crate::entry::Unlocked;
 use crate::names::ExRealm;
-use async_task::Wake;
-use std::sync::Wait;
+use async_task::{Output, OutsideWaker, Runtime};
 
-impl<W: Wake + Drop + 'static> SleeperWaker<W> {
+impl<W: OutsideWaker> SleeperWaker<W> {
     /// It goes, with all that this leads to.
-    pub fn let_go<T, R>(
+    pub fn let_go<T: Output, R: Runtime>(
         self,
         rt: R,
         realm: &'static ExRealm<T, W, R>,
         steps: &mut Steps,
         unlocked: &mut Unlocked,
     )
-    where
-        T: Drop + 'static,
-        R: Wait + Copy + Drop + 'static,
         requires { LetsGo (name_of self) steps.old }
         ensures { steps.new ≡ gone (name_of self) steps.old }
     {

@@ -13,14 +13,13 @@ use crate::entry::Unlocked;
 use crate::names::ExRealm;
 use crate::sleeping::SleeperWaker;
 use crate::state::State;
-use async_task::Wake;
+use async_task::{Output, OutsideWaker, Runtime};
 use call_steps::TickOrRun;
 use executor_parts::{Room, Sleeper, Sleepers, WokenUp as Stood};
-use std::sync::Wait;
 
 impl Ticker {
     /// Leaves the sleepers, where it sleeps there, and then gives its room back, in a section of its own.
-    pub fn leave<T, W, R>(
+    pub fn leave<T: Output, W: OutsideWaker, R: Runtime>(
         self,
         rt: R,
         state: &State<W>,
@@ -29,10 +28,6 @@ impl Ticker {
         steps: &mut Steps,
         unlocked: &mut Unlocked,
     )
-    where
-        T: Drop + 'static,
-        W: Wake + Drop + 'static,
-        R: Wait + Copy + Drop + 'static,
         requires { top steps.old ≡ Some (step.Tick (tick_step.Leave who.now)) }
         ensures { steps.new ≡ below steps.old }
     {
@@ -48,7 +43,7 @@ impl Ticker {
 }
 
 /// One that sleeps leaves the sleepers. If it had been told, it tells another in its place. Its room is the answer.
-fn leave_sleepers<T, W, R>(
+fn leave_sleepers<T: Output, W: OutsideWaker, R: Runtime>(
     rt: R,
     state: &State<W>,
     realm: &'static ExRealm<T, W, R>,
@@ -57,10 +52,6 @@ fn leave_sleepers<T, W, R>(
     steps: &mut Steps,
     unlocked: &mut Unlocked,
 ) -> Room
-where
-    T: Drop + 'static,
-    W: Wake + Drop + 'static,
-    R: Wait + Copy + Drop + 'static,
     requires { top steps.old ≡ Some (step.Tick (tick_step.Leave who.now)) }
     ensures { steps.new ≡ step.Run run_step.ReturnRoom ∷ below steps.old }
 {

@@ -29,7 +29,7 @@ use Rattle.call_steps.specs.declared.step.tick.SleeperStep.TheVariants as sleepe
 use Rattle.call_steps.specs.declared.step.tick.TickStep.TheVariants as tick_step
 use Rattle.call_steps.specs.declared.step.user.UserStep.TheVariants as user_step
 use Rattle.async_executor.specs.declared.own_queues.RunRoom.{RunRoom}
-use Rattle.async_executor.specs.declared.queues.FromQueues.{FromQueues}
+use Rattle.async_executor.specs.declared.deeds.queues.FromQueues.{FromQueues}
 use Rattle.async_executor.specs.Ticks.{sleeping}
 
 abbrev pub Todo : Type 0
@@ -67,11 +67,6 @@ reads_own_length w from then n = step.Steal (steal_step.OwnLength (steal_with w 
 
 abbrev pub puts : Waker Identity → Source (Unit {0}) → Then Identity → ℕ → Identity → Todo
 puts w from then more f = step.Steal (steal_step.Put (steal_with w from then) more f) ∷ []
-
--- its own queue came into the list, or was refused there for want of memory
-abbrev pub registered : Waker Identity → Bool → Todo
-registered w true = step.List list_step.UnlockWrite ∷ step.User (user_step.PollOwn (poll_with w)) ∷ []
-registered w false = step.List list_step.UnlockWrite ∷ step.End reply.NoMemory ∷ []
 
 -- what is left once it looked into its own queue, as a search begins
 abbrev pub looked_own : Searcher → Waker Identity → Option Identity → Todo

@@ -1,10 +1,7 @@
 -- How the poll of a tick goes, step by step, and how ticks and runs fall asleep.
 use Rattle.std.specs.Prelude.{Bool, Option, Some, None, List, [], ◌∷◌}
 use Rattle.async_task.specs.declared.cell.Identity.{Identity}
-use Rattle.executor_parts.specs.declared.mark.Mark.{Mark}
-use Rattle.executor_parts.specs.Marks.{other}
 use Rattle.call_steps.specs.Sleeping.{found_by_tick}
-use Rattle.call_steps.specs.declared.names.Look.TheVariants.{Second}
 use Rattle.call_steps.specs.declared.names.Sleeping.{Sleeping}
 use Rattle.call_steps.specs.declared.names.TickOrRun.{TickOrRun}
 use Rattle.call_steps.specs.declared.names.TickOrRun.TheVariants.{Tick}
@@ -28,11 +25,6 @@ found_asleep sleeps f = found_by_tick sleeps (Tick tt) f
 abbrev pub searched : Waker Identity → Bool → Option Identity → List (CallStep Identity (Unit {0}))
 searched w sleeps None = step.Tick (tick_step.CopyWaker (sleeping (Tick tt) w)) ∷ []
 searched w sleeps (Some f) = found_asleep sleeps f
-
--- the same after its first look, at the queue of this mark
-abbrev pub searched_first : Mark → Waker Identity → Bool → Option Identity → List (CallStep Identity (Unit {0}))
-searched_first mark w sleeps None = step.Tick (tick_step.Look (sleeping (Tick tt) w) (Second (other mark))) ∷ []
-searched_first mark w sleeps (Some f) = found_asleep sleeps f
 
 -- what is left once one slept that found nothing
 abbrev pub slept : TickOrRun (Unit {0}) → Waker Identity → Slept → List (CallStep Identity (Unit {0}))

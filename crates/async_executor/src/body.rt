@@ -9,6 +9,7 @@ ghost use Rattle.call_steps.specs.declared.step.table.QueueStep.TheVariants as q
 ghost use Rattle.call_steps.specs.declared.step.table.TableStep.TheVariants as table_step;
 
 use crate::closing::{ClosesReturned, HasClosed};
+use crate::deeds::{Steps, sections};
 use crate::due::share;
 use crate::entry::Unlocked;
 use crate::errors::SpawnError;
@@ -16,25 +17,16 @@ use crate::locks::Guarded;
 use crate::marked::Marked;
 use crate::names::{ExRealm, ExTask, ExWaker, TableWaker};
 use crate::queue::ExQueue;
-use crate::sections;
-use crate::spawning::{accept, see_accepted};
 use crate::state::State;
-use crate::steps::Steps;
-use async_task::{Future, NoMemory, Wake};
+use async_task::{Future, NoMemory, Output, OutsideWaker, Runtime};
 use call_steps::{Last, Reply};
 use executor_parts::{Mark, Places};
 use std::alloc::Global;
 use std::mem;
-use std::sync::{Arc, Wait};
+use std::sync::Arc;
 
 /// What an executor has, of either kind. It has no drop: an executor ends by it, or forgets it.
-pub struct Body<F, T, W, R>
-where
-    F: Drop,
-    T: Drop + 'static,
-    W: Wake + Drop + 'static,
-    R: Wait + Copy + Drop + 'static,
-{
+pub struct Body<F: Drop, T: Output, W: OutsideWaker, R: Runtime> {
     pub(crate) realm: &'static ExRealm<T, W, R>,
     pub(crate) state: Arc<State<W>, Global>,
     pub(crate) table: Guarded<Places<F, TableWaker>>,
@@ -46,13 +38,7 @@ where
     pub(crate) alloc: Global,
 }
 
-impl<F, T, W, R> Body<F, T, W, R>
-where
-    F: Drop,
-    T: Drop + 'static,
-    W: Wake + Drop + 'static,
-    R: Wait + Copy + Drop + 'static,
-{
+impl<F: Drop, T: Output, W: OutsideWaker, R: Runtime> Body<F, T, W, R> {
     /// Of this kind, with places for so many futures, whose tasks lie in this realm.
     pub fn new(
         rt: R,
@@ -120,12 +106,9 @@ where
     }
 }
 
-impl<F, T, W, R> Body<F, T, W, R>
+impl<F, T: Output, W: OutsideWaker, R: Runtime> Body<F, T, W, R>
 where
     F: Future<ExWaker<T, W, R>, Output = T> + Drop,
-    T: Drop + 'static,
-    W: Wake + Drop + 'static,
-    R: Wait + Copy + Drop + 'static,
 {
     /// Whether each future that was accepted is dropped. The call's end is the second answer.
     pub(crate) fn has_none(&self, steps: Steps, unlocked: &mut Unlocked) -> (bool, Last)
@@ -199,8 +182,8 @@ where
         ensures future { IfErr result (λ error. refused error ≡ future) }
     {
         let schedule = ExQueue::new(self.rt, share(self.rt, &self.state));
-        let accepted = accept(
-            self.table.lock(&self.rt, unlocked).get(),
+        steps.accept(
+            &self.table,
             self.rt,
             self.realm,
             schedule,
@@ -208,9 +191,8 @@ where
             mark,
             future,
             closed,
-        );
-        see_accepted(&accepted, mark, steps);
-        accepted
+            unlocked,
+        )
     }
 
     /// Runs one task, where one is queued, and says whether it did.

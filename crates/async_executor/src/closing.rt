@@ -1,8 +1,7 @@
 //! What was let go of a realm's tasks, and who owes that it is closed.
 use crate::entry::Unlocked;
 use crate::names::ExRealm;
-use async_task::{Wake, close_returned};
-use std::sync::Wait;
+use async_task::{Output, OutsideWaker, Runtime, close_returned};
 
 /// That an executor has to close what was let go of tasks in its realm, at its end too: it has no drop.
 pub struct ClosesReturned {
@@ -23,29 +22,24 @@ impl ClosesReturned {
 
     /// Closes what was let go so far.
     #[inline(always)]
-    pub fn close<T, W, R>(
+    pub fn close<T: Output, W: OutsideWaker, R: Runtime>(
         &self,
         rt: R,
         realm: &'static ExRealm<T, W, R>,
         unlocked: &Unlocked,
-    ) -> HasClosed
-    where
-        T: Drop + 'static,
-        W: Wake + Drop + 'static,
-        R: Wait + Copy + Drop + 'static,
-    {
+    ) -> HasClosed {
         let _ = unlocked;
         close_returned(rt, realm);
         HasClosed { own: () }
     }
 
     /// Closes what was let go, as the executor ends.
-    pub fn end<T, W, R>(self, rt: R, realm: &'static ExRealm<T, W, R>, unlocked: &Unlocked)
-    where
-        T: Drop + 'static,
-        W: Wake + Drop + 'static,
-        R: Wait + Copy + Drop + 'static,
-    {
+    pub fn end<T: Output, W: OutsideWaker, R: Runtime>(
+        self,
+        rt: R,
+        realm: &'static ExRealm<T, W, R>,
+        unlocked: &Unlocked,
+    ) {
         self.close(rt, realm, unlocked).spend();
         let ClosesReturned { own: () } = self;
     }

@@ -1,11 +1,11 @@
 //! What the text of an executor shows.
 use crate::body::Body;
+use crate::deeds::queues::{Queue, Queues};
 use crate::entry::Unlocked;
 use crate::locks::ReadWrite;
 use crate::names::TableWaker;
 use crate::own_queues::OwnQueues;
-use crate::queues::{Queue, Queues};
-use async_task::Wake;
+use async_task::{Output, OutsideWaker, Runtime};
 use executor_parts::Places;
 use std::alloc::Global;
 use std::fmt;
@@ -65,13 +65,7 @@ impl<R: Wait> fmt::Debug for LocalRunners<'_, R> {
     }
 }
 
-impl<F, T, W, R> Body<F, T, W, R>
-where
-    F: Drop,
-    T: Drop + 'static,
-    W: Wake + Drop + 'static,
-    R: Wait + Copy + Drop + 'static,
-{
+impl<F: Drop, T: Output, W: OutsideWaker, R: Runtime> Body<F, T, W, R> {
     /// Writes what an executor of this name shows.
     pub(crate) fn show<O: fmt::Write>(
         &self,

@@ -14,6 +14,7 @@ ghost use Rattle.call_steps.specs.Begins.{begins};
 use crate::body::Body;
 use crate::counts::Counts;
 use crate::debug::LocalRunners;
+use crate::deeds::Steps;
 use crate::errors::{RunError, SpawnError};
 use crate::foreign::Foreign;
 use crate::handles::Handles;
@@ -21,11 +22,14 @@ use crate::leaving::Leaving;
 use crate::names::{ExScheduled, ExTask, ExWaker};
 use crate::queue::ExQueue;
 use crate::runner::Runner;
-use crate::steps::{Answered, Steps};
+use crate::steps::Answered;
 use crate::task_name::{TaskName, name_given_to};
 use crate::ticker::Ticker;
 use crate::{executor, run, tick};
-use async_task::{Future, NoMemory, Poll, Returning, Schedule, ScheduleInfo, StoredWaker, Wake};
+use async_task::{
+    Future, NoMemory, Output, OutsideWaker, Poll, Returning, Runtime, Schedule, ScheduleInfo,
+    StoredWaker,
+};
 use call_steps::{Asked, RunPoll, Sleeping, TickOrRun};
 use executor_parts::Mark;
 use std::collections::VecDeque;
@@ -65,24 +69,15 @@ fn begun(asked: Asked<TaskName, ()>) -> Steps
 }
 
 /// An executor of futures `F`, whose outputs are `T`.
-pub struct Executor<F, T, W, R>
-where
-    F: Drop,
-    T: Drop + 'static,
-    W: Wake + Drop + 'static,
-    R: Wait + Copy + Drop + 'static,
-{
+pub struct Executor<F: Drop, T: Output, W: OutsideWaker, R: Runtime> {
     pub(crate) body: Body<F, T, W, R>,
     /// Empty: room for the wakers that the executor's drop takes out of the table.
     pub(crate) leaving: VecDeque<Returning<StoredWaker>>,
 }
 
-impl<F, T, W, R> Executor<F, T, W, R>
+impl<F, T: Output, W: OutsideWaker, R: Runtime> Executor<F, T, W, R>
 where
     F: Future<ExWaker<T, W, R>, Output = T> + Drop,
-    T: Drop + 'static,
-    W: Wake + Drop + 'static,
-    R: Wait + Copy + Drop + 'static,
 {
     /// Whether each future that was accepted is dropped. It takes no memory.
     pub fn is_empty(&self) -> bool {
@@ -206,13 +201,7 @@ where
     }
 }
 
-impl<F, T, W, R> Drop for Executor<F, T, W, R>
-where
-    F: Drop,
-    T: Drop + 'static,
-    W: Wake + Drop + 'static,
-    R: Wait + Copy + Drop + 'static,
-{
+impl<F: Drop, T: Output, W: OutsideWaker, R: Runtime> Drop for Executor<F, T, W, R> {
     /// Drops each future, in the order of acceptance, calls each waker, in that order, and closes each task that is left. It
     /// takes no memory.
     fn drop(self) {
@@ -225,13 +214,7 @@ where
 
 /// How many futures have a waker in the table, how many tasks stand in the two global queues, how many in each run's own, and how
 /// many ticks and runs sleep; `<locked>` for what stands under a lock that isn't free.
-impl<F, T, W, R> fmt::Debug for Executor<F, T, W, R>
-where
-    F: Drop,
-    T: Drop + 'static,
-    W: Wake + Drop + 'static,
-    R: Wait + Copy + Drop + 'static,
-{
+impl<F: Drop, T: Output, W: OutsideWaker, R: Runtime> fmt::Debug for Executor<F, T, W, R> {
     fn fmt<O: fmt::Write>(&self, f: &mut fmt::Formatter<O>) -> fmt::Result {
         self.body.show("Executor", f, &mut Unlocked::at_entry())
     }
@@ -249,25 +232,16 @@ impl<R: Wait> LocalRunners<'_, R> {
 ///
 /// It is made by `Executor::tick` or `StaticExecutor::tick`.
 #[must_use]
-pub struct Tick<'a, F, T, W, R>
-where
-    F: Drop,
-    T: Drop + 'static,
-    W: Wake + Drop + 'static,
-    R: Wait + Copy + Drop + 'static,
-{
+pub struct Tick<'a, F: Drop, T: Output, W: OutsideWaker, R: Runtime> {
     pub(crate) executor: &'a Body<F, T, W, R>,
     pub(crate) ticker: Ticker,
     /// What its last poll was answered.
     pub(crate) answered: Answered,
 }
 
-impl<F, T, W, R> Future<ExWaker<T, W, R>> for Tick<'_, F, T, W, R>
+impl<F, T: Output, W: OutsideWaker, R: Runtime> Future<ExWaker<T, W, R>> for Tick<'_, F, T, W, R>
 where
     F: Future<ExWaker<T, W, R>, Output = T> + Drop,
-    T: Drop + 'static,
-    W: Wake + Drop + 'static,
-    R: Wait + Copy + Drop + 'static,
 {
     type Output = Result<(), NoMemory>;
 
@@ -284,13 +258,7 @@ where
     }
 }
 
-impl<F, T, W, R> Drop for Tick<'_, F, T, W, R>
-where
-    F: Drop,
-    T: Drop + 'static,
-    W: Wake + Drop + 'static,
-    R: Wait + Copy + Drop + 'static,
-{
+impl<F: Drop, T: Output, W: OutsideWaker, R: Runtime> Drop for Tick<'_, F, T, W, R> {
     /// Leaves the sleepers, and gives its room there back.
     fn drop(self) {
         let Tick {
@@ -308,14 +276,7 @@ where
 ///
 /// It is made by `Executor::run` or `StaticExecutor::run`.
 #[must_use]
-pub struct Run<'a, F, T, W, R, G>
-where
-    F: Drop,
-    T: Drop + 'static,
-    W: Wake + Drop + 'static,
-    R: Wait + Copy + Drop + 'static,
-    G: Drop,
-{
+pub struct Run<'a, F: Drop, T: Output, W: OutsideWaker, R: Runtime, G: Drop> {
     pub(crate) executor: &'a Body<F, T, W, R>,
     /// The future that it runs for, until that is ready.
     pub(crate) future: Option<Foreign<G>>,
@@ -327,12 +288,10 @@ where
     pub(crate) counts: Counts,
 }
 
-impl<F, T, W, R, G> Future<ExWaker<T, W, R>> for Run<'_, F, T, W, R, G>
+impl<F, T: Output, W: OutsideWaker, R: Runtime, G> Future<ExWaker<T, W, R>>
+    for Run<'_, F, T, W, R, G>
 where
     F: Future<ExWaker<T, W, R>, Output = T> + Drop,
-    T: Drop + 'static,
-    W: Wake + Drop + 'static,
-    R: Wait + Copy + Drop + 'static,
     G: Future<ExWaker<T, W, R>> + Drop,
 {
     type Output = Result<G::Output, RunError>;
@@ -353,14 +312,7 @@ where
     }
 }
 
-impl<F, T, W, R, G> Drop for Run<'_, F, T, W, R, G>
-where
-    F: Drop,
-    T: Drop + 'static,
-    W: Wake + Drop + 'static,
-    R: Wait + Copy + Drop + 'static,
-    G: Drop,
-{
+impl<F: Drop, T: Output, W: OutsideWaker, R: Runtime, G: Drop> Drop for Run<'_, F, T, W, R, G> {
     /// Drops its future, schedules what is left in its own queue, and leaves the sleepers. A run that was never polled only
     /// drops its future and gives its room back.
     fn drop(self) {
@@ -378,12 +330,7 @@ where
     }
 }
 
-impl<T, W, R> Schedule<ExScheduled<T, W, R>> for ExQueue<T, W, R>
-where
-    T: Drop + 'static,
-    W: Wake + Drop + 'static,
-    R: Wait + Copy + Drop + 'static,
-{
+impl<T: Output, W: OutsideWaker, R: Runtime> Schedule<ExScheduled<T, W, R>> for ExQueue<T, W, R> {
     /// Appends the Runnable to the executor's queue of its mark, and tells a tick or run that sleeps. Once the executor's drop has begun it
     /// is dropped in its place.
     #[inline(always)]

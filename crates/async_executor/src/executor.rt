@@ -1,5 +1,5 @@
 //! How an executor that isn't static is made and ends, and how it becomes a static one.
-ghost use Rattle.std.specs.Prelude.{◌≡◌, ◌<◌, ◌≤◌, ◌-◌, [], ◌∷◌, ◌++◌, true, false, None, Some, IfOk, IfSome, length, map};
+ghost use Rattle.std.specs.Prelude.{◌≡◌, ◌<◌, ◌≤◌, ◌-◌, [], ◌∷◌, ◌++◌, true, false, None, Some, IfOk, length, map};
 ghost use Rattle.std.specs.VecDeque.{deque_capacity};
 ghost use Rattle.std.specs.Arc.{arc_value};
 ghost use Rattle.call_steps.specs.Closing.{closing, drained, leaking};
@@ -7,32 +7,25 @@ ghost use Rattle.call_steps.specs.declared.reply.Reply.TheVariants as reply;
 ghost use Rattle.call_steps.specs.declared.step.CallStep.TheVariants as step;
 ghost use Rattle.call_steps.specs.declared.step.table.ClosingStep.TheVariants as closing_step;
 ghost use Rattle.executor_parts.specs.Places.{turned, unwoken};
-ghost use Rattle.async_executor.specs.Closing.{listed};
 
 use crate::body::Body;
+use crate::deeds::Steps;
+use crate::deeds::queues::At;
 use crate::due::close_and_pay;
 use crate::entry::{Executor, Unlocked};
-use crate::foreign::Foreign;
-use crate::leaving::{Leaving, NoRoom, ToCall};
+use crate::leaving::Leaving;
 use crate::locks::Guarded;
 use crate::names::{ExRealm, ExWaker, TableWaker};
-use crate::sections;
 use crate::state::State;
-use crate::steps::Steps;
-use crate::task_name::TaskName;
-use async_task::{Future, NoMemory, Returning, StoredWaker, Wake};
-use call_steps::{Last, Reply, Saw};
+use async_task::{Future, NoMemory, Output, OutsideWaker, Returning, Runtime, StoredWaker};
+use call_steps::{Last, Reply};
 use executor_parts::{Mark, Places};
 use std::alloc::Global;
 use std::collections::VecDeque;
-use std::sync::Wait;
 
-impl<F, T, W, R> Executor<F, T, W, R>
+impl<F, T: Output, W: OutsideWaker, R: Runtime> Executor<F, T, W, R>
 where
     F: Future<ExWaker<T, W, R>, Output = T> + Drop,
-    T: Drop + 'static,
-    W: Wake + Drop + 'static,
-    R: Wait + Copy + Drop + 'static,
 {
     /// An executor with places for so many futures, whose tasks lie in this realm. It keeps the runtime value, the
     /// allocator and the realm for its calls. All places of its queues and its table are taken here.
@@ -78,17 +71,12 @@ where
 /// 4. Takes from the urgent queue until nothing is left, then from the plain one, and drops each Runnable: each task is closed, and
 ///    who awaits it is called. A Runnable that a wake in progress still has comes back from the closed queue, and is dropped there.
 /// 5. Closes what was let go of tasks in its realm.
-pub fn end<F, T, W, R>(
+pub fn end<F: Drop, T: Output, W: OutsideWaker, R: Runtime>(
     body: Body<F, T, W, R>,
     leaving: Leaving,
     steps: Steps,
     unlocked: &mut Unlocked,
 ) -> Last
-where
-    F: Drop,
-    T: Drop + 'static,
-    W: Wake + Drop + 'static,
-    R: Wait + Copy + Drop + 'static,
     requires { steps ≡ step.Closing closing_step.TakeOut ∷ step.End reply.Done ∷ [] }
     ensures { result ≡ reply.Done }
 {
@@ -102,8 +90,7 @@ where
         alloc: _,
     } = body;
     let (mut leaving, mut steps) = (leaving, steps);
-    let table = table.into_inner();
-    steps.follow(Saw::Closes(table.len() as u64, leaving.len() as u64));
+    let table = steps.take_out(table, &leaving);
     drop_futures(rt, realm, table, &mut leaving, &mut steps, unlocked);
     leaving.wake_all(rt, realm, &mut steps, unlocked);
     leaving.end();
@@ -116,16 +103,11 @@ where
 
 /// An executor is leaked: it becomes a static one, whose table keeps no waker. Each waker of the table is taken out and called,
 /// in the order of acceptance: each task is queued, or was before. It takes no memory.
-pub fn leak<F, T, W, R>(
+pub fn leak<F: Drop, T: Output, W: OutsideWaker, R: Runtime>(
     body: Body<F, T, W, R>,
     steps: Steps,
     unlocked: &mut Unlocked,
 ) -> (Body<F, T, W, R>, Last)
-where
-    F: Drop,
-    T: Drop + 'static,
-    W: Wake + Drop + 'static,
-    R: Wait + Copy + Drop + 'static,
     requires { steps ≡ step.Closing closing_step.LeakOut ∷ step.End reply.Done ∷ [] }
     ensures kind { result.0.is_static ≡ true }
     ensures here { result.0.realm.now.number ≡ body.realm.now.number }
@@ -141,8 +123,8 @@ where
         rt,
         alloc,
     } = body;
-    let (mut table, mut steps) = (table.into_inner(), steps);
-    steps.follow(Saw::Closes(0, table.len() as u64));
+    let mut steps = steps;
+    let mut table = steps.leak_out(table);
     call_wakers(rt, realm, &mut table, &mut steps, unlocked);
     let leaked = Body {
         realm,
@@ -157,18 +139,13 @@ where
 }
 
 /// Takes each waker out of a table, and calls it, in the order of acceptance. Nothing else goes.
-fn call_wakers<F, T, W, R>(
+fn call_wakers<F: Drop, T: Output, W: OutsideWaker, R: Runtime>(
     rt: R,
     realm: &'static ExRealm<T, W, R>,
     table: &mut Places<F, TableWaker>,
     steps: &mut Steps,
     unlocked: &mut Unlocked,
 )
-where
-    F: Drop,
-    T: Drop + 'static,
-    W: Wake + Drop + 'static,
-    R: Wait + Copy + Drop + 'static,
     requires { steps.old ≡ leaking (length table.old.entries) ++ step.End reply.Done ∷ [] }
     ensures none { table.new.entries ≡ map unwoken table.old.entries }
     ensures rest { table.new ≡ record table.old { entries = table.new.entries } }
@@ -181,7 +158,7 @@ where
 }
 
 /// Takes the next waker out, where so many entries are still to come to, and calls it. One without a waker counts as woken.
-fn call_next<F, T, W, R>(
+fn call_next<F: Drop, T: Output, W: OutsideWaker, R: Runtime>(
     rt: R,
     realm: &'static ExRealm<T, W, R>,
     table: &mut Places<F, TableWaker>,
@@ -189,11 +166,6 @@ fn call_next<F, T, W, R>(
     steps: &mut Steps,
     unlocked: &mut Unlocked,
 )
-where
-    F: Drop,
-    T: Drop + 'static,
-    W: Wake + Drop + 'static,
-    R: Wait + Copy + Drop + 'static,
     requires some { 0 < left }
     requires leaks { steps.old ≡ leaking left ++ step.End reply.Done ∷ [] }
     ensures steps { steps.new ≡ leaking (left - 1) ++ step.End reply.Done ∷ [] }
@@ -201,14 +173,14 @@ where
     ensures rest { table.new ≡ record table.old { entries = table.new.entries } }
 {
     let left = (left - 1) as u64;
-    match sections::turn(table) {
+    match steps.turn(table, left) {
         Some(waker) => waker.call_and_pay(rt, realm, left, steps, unlocked),
-        None => steps.see_woken(TaskName::of_none(), false, left),
+        None => {}
     }
 }
 
 /// Drops each Runnable that is left in the executor's queue of this mark, which is closed.
-fn drain<T, W, R>(
+fn drain<T: Output, W: OutsideWaker, R: Runtime>(
     rt: R,
     realm: &'static ExRealm<T, W, R>,
     state: &State<W>,
@@ -216,15 +188,11 @@ fn drain<T, W, R>(
     steps: &mut Steps,
     unlocked: &mut Unlocked,
 )
-where
-    T: Drop + 'static,
-    W: Wake + Drop + 'static,
-    R: Wait + Copy + Drop + 'static,
     requires { steps.old ≡ step.Closing (closing_step.Drain mark) ∷ step.End reply.Done ∷ [] }
     ensures { steps.new ≡ drained mark ++ step.End reply.Done ∷ [] }
 {
     for _ in rt.forever() {
-        let Some(runnable) = state.take_closed(mark, &rt, steps) else {
+        let Some(runnable) = steps.take(At::Common(&state.queues, mark), None, &rt) else {
             return;
         };
         close_and_pay(rt, realm, steps, runnable, unlocked);
@@ -234,7 +202,7 @@ where
 
 /// Drops each future of a table, in the order of acceptance. Their wakers go into a list that has room for them, in the same
 /// order. One for which it hadn't would be called behind the drop of its future, as a part of its own.
-fn drop_futures<F, T, W, R>(
+fn drop_futures<F: Drop, T: Output, W: OutsideWaker, R: Runtime>(
     rt: R,
     realm: &'static ExRealm<T, W, R>,
     table: Places<F, TableWaker>,
@@ -242,47 +210,17 @@ fn drop_futures<F, T, W, R>(
     steps: &mut Steps,
     unlocked: &mut Unlocked,
 )
-where
-    F: Drop,
-    T: Drop + 'static,
-    W: Wake + Drop + 'static,
-    R: Wait + Copy + Drop + 'static,
     requires { steps.old ≡ closing (length table.entries) (length leaving.old.wakers.items) ++ step.End reply.Done ∷ [] }
     ensures { steps.new ≡ closing 0 (length leaving.new.wakers.items) ++ step.End reply.Done ∷ [] }
 {
     let mut table = table;
     for _ in rt.forever() {
-        let Some((future, waker)) = sections::leave_first(&mut table) else {
+        let Some(refused) = steps.drop_next(&mut table, leaving, unlocked) else {
             return;
         };
-        let left = table.len() as u64;
-        if let Some(refused) = drop_next(future, waker, left, leaving, steps, unlocked) {
+        if let Some(refused) = refused {
             refused.call_apart(rt, realm, unlocked);
         }
     }
     unreachable!()
-}
-
-/// Drops the future of the first entry, where so many entries are left, and keeps its waker, which comes last. It comes back where
-/// there is no room for it.
-fn drop_next<F: Drop>(
-    future: Option<Foreign<F>>,
-    waker: Option<ToCall>,
-    left: u64,
-    leaving: &mut Leaving,
-    steps: &mut Steps,
-    unlocked: &Unlocked,
-) -> Option<NoRoom>
-    requires { steps.old ≡ step.Closing closing_step.DropNext ∷ step.End reply.Done ∷ [] }
-    ensures steps { steps.new ≡ closing left (length leaving.new.wakers.items) ++ step.End reply.Done ∷ [] }
-    ensures kept { result ≡ None → leaving.new.wakers.items ≡ leaving.old.wakers.items ++ listed waker }
-    ensures back { IfSome result (λ back. (waker ≡ Some back.waker) × (leaving.new.wakers.items ≡ leaving.old.wakers.items)) }
-{
-    let (name, refused) = leaving.keep(waker);
-    steps.follow(Saw::Drops(name, left, leaving.len() as u64));
-    if let Some(future) = future {
-        future.let_go(unlocked);
-    }
-    steps.follow(Saw::Nothing);
-    refused
 }

@@ -1,29 +1,21 @@
 //! Values of a user's, which came out from under a lock.
-ghost use Rattle.std.specs.Prelude.{◌≡◌, ◌∷◌, [], true, Some};
+ghost use Rattle.std.specs.Prelude.{◌≡◌, Some};
 ghost use Rattle.call_steps.specs.Seeing.{due};
 ghost use Rattle.call_steps.specs.Todo.{below, top};
-ghost use Rattle.call_steps.specs.declared.reply.Reply.TheVariants as reply;
 ghost use Rattle.call_steps.specs.declared.step.CallStep.TheVariants as step;
-ghost use Rattle.call_steps.specs.declared.step.run.RunStep.TheVariants as run_step;
 ghost use Rattle.call_steps.specs.declared.step.tick.SleeperStep.TheVariants as sleeper_step;
-ghost use Rattle.call_steps.specs.declared.step.tick.TickStep.TheVariants as tick_step;
-ghost use Rattle.call_steps.specs.declared.step.user.UserStep.TheVariants as user_step;
 ghost use Rattle.async_executor.specs.Foreign.{value_of};
-ghost use Rattle.async_executor.specs.Runs.{poll_with, polled_own};
-ghost use Rattle.async_executor.specs.Sleeping.{sleeps_with};
-ghost use Rattle.async_executor.specs.Steps.{name_given, of_handed, sleeper_as};
-ghost use Rattle.async_executor.specs.Ticks.{sleeping};
+ghost use Rattle.async_executor.specs.Deeds.{gone, LetsGo};
+ghost use Rattle.async_executor.specs.Steps.{name_of, of_handed, sleeper_as};
 
+use crate::deeds::Steps;
 use crate::due::{Handed, pay_next};
 use crate::entry::Unlocked;
 use crate::names::{ExRealm, ExWaker};
 use crate::sleeping::SleeperWaker;
-use crate::steps::Steps;
 use crate::task_name::TaskName;
-use crate::ticker::Ticker;
-use async_task::{Future, Poll, Wake};
-use call_steps::{Saw, TickOrRun, Waker};
-use std::sync::Wait;
+use async_task::{Future, Output, OutsideWaker, Poll, Runtime, Wake};
+use call_steps::{TickOrRun, Waker};
 
 /// A value of a user's, whose code runs only while no lock is held. It has no drop: it is let go, or called, by who is lent an
 /// `Unlocked`.
@@ -47,30 +39,17 @@ impl<X> Foreign<X> {
         value
     }
 
-    /// Polls the own future of a run once, with a waker of this name.
-    pub fn poll<T, W, R>(
+    /// Polls the own future of a run once.
+    pub fn poll<T: Output, W: OutsideWaker, R: Runtime>(
         &mut self,
         waker: &ExWaker<T, W, R>,
-        name: &Waker<TaskName>,
-        steps: &mut Steps,
         unlocked: &Unlocked,
     ) -> Poll<X::Output>
     where
         X: Future<ExWaker<T, W, R>>,
-        T: Drop + 'static,
-        W: Wake + Drop + 'static,
-        R: Wait + Copy + Drop + 'static,
-        requires named { name.now ≡ name_given waker.now }
-        requires polls { steps.old ≡ step.User (user_step.PollOwn (poll_with name.now)) ∷ [] }
-        ensures { steps.new ≡ polled_own name.now result }
     {
-        let (_, _) = (unlocked, name);
-        let polled = self.value.poll(waker);
-        match &polled {
-            Poll::Ready(_) => steps.follow(Saw::Ready),
-            Poll::Pending => steps.follow(Saw::Pending),
-        }
-        polled
+        let _ = unlocked;
+        self.value.poll(waker)
     }
 
     /// Drops the value.
@@ -94,9 +73,19 @@ pub fn came_out<X>(value: Option<X>) -> Option<Foreign<X>>
     }
 }
 
-impl<W: Wake + Drop + 'static> Foreign<SleeperWaker<W>> {
+impl<W> Foreign<SleeperWaker<W>> {
+    /// Its name.
+    #[inline(always)]
+    pub fn name(&self) -> Waker<TaskName>
+        ensures { result ≡ name_of self.now.value }
+    {
+        self.value.name()
+    }
+}
+
+impl<W: OutsideWaker> Foreign<SleeperWaker<W>> {
     /// Calls the waker. Where a task has to be queued then, it is the answer.
-    pub fn wake<T, R>(
+    pub fn wake<T: Output, R: Runtime>(
         self,
         rt: R,
         realm: &'static ExRealm<T, W, R>,
@@ -104,18 +93,15 @@ impl<W: Wake + Drop + 'static> Foreign<SleeperWaker<W>> {
         steps: &mut Steps,
         unlocked: &Unlocked,
     ) -> Option<Handed<T, W, R>>
-    where
-        T: Drop + 'static,
-        R: Wait + Copy + Drop + 'static,
         requires { top steps.old ≡ Some (step.Sleeper (sleeper_step.CallSleeper (sleeper_as who.now self.value))) }
         ensures { steps.new ≡ due (of_handed result) (below steps.old) }
     {
         let Foreign { value } = self;
-        value.wake(rt, realm, who, steps, unlocked)
+        steps.call_sleeper(value, who, rt, realm, unlocked)
     }
 
     /// Calls the waker, with all that this leads to.
-    pub fn wake_and_pay<T, R>(
+    pub fn wake_and_pay<T: Output, R: Runtime>(
         self,
         rt: R,
         realm: &'static ExRealm<T, W, R>,
@@ -123,9 +109,6 @@ impl<W: Wake + Drop + 'static> Foreign<SleeperWaker<W>> {
         steps: &mut Steps,
         unlocked: &mut Unlocked,
     )
-    where
-        T: Drop + 'static,
-        R: Wait + Copy + Drop + 'static,
         requires { top steps.old ≡ Some (step.Sleeper (sleeper_step.CallSleeper (sleeper_as who.now self.value))) }
         ensures { steps.new ≡ below steps.old }
     {
@@ -133,63 +116,18 @@ impl<W: Wake + Drop + 'static> Foreign<SleeperWaker<W>> {
         pay_next(rt, handed, steps, unlocked);
     }
 
-    /// One leaves the sleepers with this waker, which goes, with all that this leads to.
-    pub fn leave_with<T, R>(
+    /// It goes, with all that this leads to.
+    pub fn let_go_and_pay<T: Output, R: Runtime>(
         self,
         rt: R,
         realm: &'static ExRealm<T, W, R>,
-        who: &TickOrRun<()>,
         steps: &mut Steps,
         unlocked: &mut Unlocked,
     )
-    where
-        T: Drop + 'static,
-        R: Wait + Copy + Drop + 'static,
-        requires { top steps.old ≡ Some (step.Tick (tick_step.Leave who.now)) }
-        ensures { steps.new ≡ step.Run run_step.ReturnRoom ∷ below steps.old }
+        requires { LetsGo (name_of self.value) steps.old }
+        ensures { steps.new ≡ gone (name_of self.value) steps.old }
     {
         let Foreign { value } = self;
-        value.leave_with(rt, realm, who, steps, unlocked);
-    }
-
-    /// One wakes up with this waker, which goes, with all that this leads to.
-    pub fn wake_up_with<T, R>(
-        self,
-        rt: R,
-        realm: &'static ExRealm<T, W, R>,
-        who: &TickOrRun<()>,
-        steps: &mut Steps,
-        unlocked: &mut Unlocked,
-    )
-    where
-        T: Drop + 'static,
-        R: Wait + Copy + Drop + 'static,
-        requires { top steps.old ≡ Some (step.Tick (tick_step.WakeUp who.now)) }
-        ensures { steps.new ≡ below steps.old }
-    {
-        let Foreign { value } = self;
-        value.wake_up_with(rt, realm, who, steps, unlocked);
-    }
-
-    /// One that sleeps does so with another waker, of this name, and without this one, which goes, with all that this leads to.
-    pub fn sleep_on_without<T, R>(
-        self,
-        ticker: &Ticker,
-        rt: R,
-        realm: &'static ExRealm<T, W, R>,
-        name: &Waker<TaskName>,
-        who: &TickOrRun<()>,
-        steps: &mut Steps,
-        unlocked: &mut Unlocked,
-    )
-    where
-        T: Drop + 'static,
-        R: Wait + Copy + Drop + 'static,
-        requires asleep { sleeps_with ticker.now ≡ Some name.now }
-        requires falls { steps.old ≡ step.Tick (tick_step.FallAsleep (sleeping who.now name.now)) ∷ [] }
-        ensures { steps.new ≡ step.End reply.Pending ∷ [] }
-    {
-        let Foreign { value } = self;
-        value.sleep_on_without(ticker, rt, realm, name, who, steps, unlocked);
+        value.let_go(rt, realm, steps, unlocked);
     }
 }

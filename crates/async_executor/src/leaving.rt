@@ -10,15 +10,14 @@ ghost use Rattle.call_steps.specs.declared.step.CallStep.TheVariants as step;
 ghost use Rattle.call_steps.specs.declared.step.table.ClosingStep.TheVariants as closing_step;
 ghost use Rattle.executor_parts.specs.declared.mark.Mark.TheVariants as mark;
 
+use crate::deeds::Steps;
 use crate::due::{Handed, pay, pay_next};
 use crate::entry::Unlocked;
 use crate::names::{ExRealm, TableWaker};
-use crate::steps::Steps;
 use crate::task_name::TaskName;
-use async_task::{Returning, StoredWaker, Wake};
+use async_task::{Output, OutsideWaker, Returning, Runtime, StoredWaker, Wake};
 use std::collections::VecDeque;
 use std::marker::Model;
-use std::sync::Wait;
 
 /// A waker that came out of the table. It has no drop: it is called.
 #[must_use]
@@ -58,23 +57,19 @@ impl ToCall {
     }
 
     /// Whose it is.
-    fn name(&self) -> TaskName
+    pub fn name(&self) -> TaskName
         ensures { result ≡ self.now.identity }
     {
         TaskName::of_waker(&self.waker)
     }
 
     /// Calls it. Its task is queued then, or was before: where it is to be queued, it is the answer.
-    fn call<T, W, R>(
+    pub fn call<T: Output, W: OutsideWaker, R: Runtime>(
         self,
         rt: R,
         realm: &'static ExRealm<T, W, R>,
         unlocked: &Unlocked,
     ) -> Option<Handed<T, W, R>>
-    where
-        T: Drop + 'static,
-        W: Wake + Drop + 'static,
-        R: Wait + Copy + Drop + 'static,
         ensures { IfSome result (λ handed. handed.runnable.stored.identity ≡ self.identity) }
     {
         let _ = unlocked;
@@ -87,7 +82,7 @@ impl ToCall {
 
     /// Calls it, with all that this leads to, where so many are left: as a leak does, and an executor's drop.
     #[tactic(auto, using(crate::proofs::Waking::sees_waking, crate::proofs::Waking::appends_first))]
-    pub fn call_and_pay<T, W, R>(
+    pub fn call_and_pay<T: Output, W: OutsideWaker, R: Runtime>(
         self,
         rt: R,
         realm: &'static ExRealm<T, W, R>,
@@ -95,37 +90,22 @@ impl ToCall {
         steps: &mut Steps,
         unlocked: &mut Unlocked,
     )
-    where
-        T: Drop + 'static,
-        W: Wake + Drop + 'static,
-        R: Wait + Copy + Drop + 'static,
         requires { CallsWaker (top steps.old) }
         ensures { steps.new ≡ following (woke self.identity false left) steps.old }
     {
-        let name = self.name();
-        match self.call(rt, realm, unlocked) {
-            Some(handed) => {
-                steps.see_woken(name, true, left);
-                pay_next(rt, Some(handed), steps, unlocked);
-            }
-            None => steps.see_woken(name, false, left),
-        }
+        let handed = steps.call_entry(self, left, rt, realm, unlocked);
+        pay_next(rt, handed, steps, unlocked);
     }
 }
 
 impl NoRoom {
     /// Calls it, with all that this leads to, as a part of its own.
-    pub fn call_apart<T, W, R>(
+    pub fn call_apart<T: Output, W: OutsideWaker, R: Runtime>(
         self,
         rt: R,
         realm: &'static ExRealm<T, W, R>,
         unlocked: &mut Unlocked,
-    )
-    where
-        T: Drop + 'static,
-        W: Wake + Drop + 'static,
-        R: Wait + Copy + Drop + 'static,
-    {
+    ) {
         let NoRoom { waker } = self;
         let ToCall { waker } = waker;
         let due = waker.wake(rt, realm);
@@ -200,17 +180,13 @@ impl Leaving {
     }
 
     /// An executor's drop calls each waker, in order.
-    pub fn wake_all<T, W, R>(
+    pub fn wake_all<T: Output, W: OutsideWaker, R: Runtime>(
         &mut self,
         rt: R,
         realm: &'static ExRealm<T, W, R>,
         steps: &mut Steps,
         unlocked: &mut Unlocked,
     )
-    where
-        T: Drop + 'static,
-        W: Wake + Drop + 'static,
-        R: Wait + Copy + Drop + 'static,
         requires { steps.old ≡ closing 0 (length self.old.wakers.items) ++ step.End reply.Done ∷ [] }
         ensures called { self.new.wakers.items ≡ [] }
         ensures steps { steps.new ≡ step.Closing (closing_step.Close mark.Urgent) ∷ step.End reply.Done ∷ [] }

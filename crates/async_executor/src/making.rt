@@ -13,24 +13,20 @@ ghost use Rattle.call_steps.specs.declared.step.tick.TickStep.TheVariants as tic
 
 use crate::body::Body;
 use crate::counts::Counts;
+use crate::deeds::Steps;
 use crate::entry::{Run, Tick, Unlocked};
 use crate::foreign::Foreign;
 use crate::names::ExWaker;
 use crate::runner::Runner;
-use crate::sections::{give_back, make_room};
-use crate::steps::{Answered, Steps};
+use crate::steps::Answered;
 use crate::ticker::Ticker;
-use async_task::{Future, NoMemory, Wake};
-use call_steps::{Last, Reply, Saw};
+use async_task::{Future, NoMemory, Output, OutsideWaker, Runtime};
+use call_steps::{Last, Reply};
 use executor_parts::Room;
-use std::sync::Wait;
 
-impl<F, T, W, R> Body<F, T, W, R>
+impl<F, T: Output, W: OutsideWaker, R: Runtime> Body<F, T, W, R>
 where
     F: Future<ExWaker<T, W, R>, Output = T> + Drop,
-    T: Drop + 'static,
-    W: Wake + Drop + 'static,
-    R: Wait + Copy + Drop + 'static,
 {
     /// A tick, which is awake. The call's end is the second answer.
     pub(crate) fn make_tick(
@@ -43,10 +39,8 @@ where
         ensures answer { result.1 ≡ made result.0 }
     {
         let mut steps = steps;
-        let made = make_room(self.state.sleepers.lock(&self.rt, unlocked).get());
-        match made {
+        match steps.make_room(&self.state, &self.rt, unlocked) {
             Ok(new_room) => {
-                steps.follow(Saw::Something);
                 let tick = Tick {
                     executor: self,
                     ticker: Ticker::Awake(new_room),
@@ -54,10 +48,7 @@ where
                 };
                 (Ok(tick), steps.end(Reply::Made))
             }
-            Err(_) => {
-                steps.follow(Saw::NoMemory);
-                (Err(NoMemory), steps.end(Reply::NoMemory))
-            }
+            Err(NoMemory) => (Err(NoMemory), steps.end(Reply::NoMemory)),
         }
     }
 
@@ -79,16 +70,9 @@ where
         ensures answer { result.1 ≡ made result.0 }
     {
         let mut steps = steps;
-        let made = make_room(self.state.sleepers.lock(&self.rt, unlocked).get());
-        match made {
-            Ok(room) => {
-                steps.follow(Saw::Something);
-                self.make_run_in(room, future, seed, steps, unlocked)
-            }
-            Err(_) => {
-                steps.follow(Saw::NoMemory);
-                (Err(future), steps.end(Reply::NoMemory))
-            }
+        match steps.make_room(&self.state, &self.rt, unlocked) {
+            Ok(room) => self.make_run_in(room, future, seed, steps, unlocked),
+            Err(NoMemory) => (Err(future), steps.end(Reply::NoMemory)),
         }
     }
 
@@ -111,19 +95,13 @@ where
         ensures answer { result.1 ≡ made result.0 }
     {
         let mut steps = steps;
-        steps.follow(Saw::Nothing);
-        match Runner::new(&self.rt, self.alloc, &self.state, seed, unlocked) {
+        match steps.make_runner(&self.state, seed, self.alloc, &self.rt, unlocked) {
             Ok(runner) => {
-                steps.follow(Saw::Something);
-                steps.follow(Saw::Nothing);
                 let run = self.run_of(future, runner, room);
                 (Ok(run), steps.end(Reply::Made))
             }
             Err(NoMemory) => {
-                steps.follow(Saw::NoMemory);
-                steps.follow(Saw::Nothing);
-                give_back(self.state.sleepers.lock(&self.rt, unlocked).get(), room);
-                steps.follow(Saw::Nothing);
+                steps.return_room(room, &self.state, &self.rt, unlocked);
                 (Err(future), steps.end(Reply::NoMemory))
             }
         }

@@ -3,9 +3,8 @@ ghost use Rattle.std.specs.Prelude.{◌≡◌};
 
 use crate::names::{ExScheduled, ExStoredRunnable};
 use crate::task_name::TaskName;
-use async_task::Wake;
+use async_task::{Output, OutsideWaker, Runtime};
 use executor_parts::Mark;
-use std::sync::Wait;
 
 /// A Runnable as a queue keeps it, and the mark that its task was made with, which says into which queue it comes. It has no
 /// drop: it is appended, or closed.
@@ -19,11 +18,7 @@ pub struct Marked {
 impl Marked {
     /// A Runnable of a task, for the queue of its mark.
     #[inline(always)]
-    pub fn of<T, W, R>(runnable: ExScheduled<T, W, R>) -> Marked
-    where
-        T: Drop + 'static,
-        W: Wake + Drop + 'static,
-        R: Wait + Copy + Drop + 'static,
+    pub fn of<T: Output, W: OutsideWaker, R: Runtime>(runnable: ExScheduled<T, W, R>) -> Marked
         ensures task { result.stored.identity ≡ runnable.identity }
         ensures metadata { result.stored.metadata ≡ runnable.metadata }
     {

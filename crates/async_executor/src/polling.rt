@@ -10,27 +10,22 @@ ghost use Rattle.call_steps.specs.declared.step.user.UserStep.TheVariants as use
 ghost use Rattle.async_executor.specs.Polling.{end_by, end_of, end_step};
 
 use crate::body::Body;
+use crate::deeds::sections::Taken;
+use crate::deeds::task_run::{Dropping, Polling, Settled};
+use crate::deeds::{Steps, sections};
 use crate::due::pay;
 use crate::entry::Unlocked;
-use crate::marked::Marked;
 use crate::names::{ExStoredRunnable, ExWaker};
-use crate::sections;
-use crate::sections::Taken;
 use crate::state::redeem;
-use crate::steps::Steps;
 use crate::task_name::TaskName;
-use crate::task_run::{Dropping, Polling, see_due};
-use async_task::{Back, Due, Future, Poll, Returning, RunEnd, Started, StoredWaker, Wake};
-use call_steps::Saw;
+use async_task::{
+    Back, Future, Output, OutsideWaker, Poll, Returning, Runtime, Started, StoredWaker,
+};
 use executor_parts::EntryPlace;
-use std::sync::Wait;
 
-impl<F, T, W, R> Body<F, T, W, R>
+impl<F, T: Output, W: OutsideWaker, R: Runtime> Body<F, T, W, R>
 where
     F: Future<ExWaker<T, W, R>, Output = T> + Drop,
-    T: Drop + 'static,
-    W: Wake + Drop + 'static,
-    R: Wait + Copy + Drop + 'static,
 {
     /// Runs a task that was found.
     #[inline(always)]
@@ -45,7 +40,7 @@ where
     {
         let name = TaskName::of_runnable(&stored);
         let Some(scheduled) = redeem(self.rt, self.realm, stored) else {
-            steps.see_moved(false);
+            steps.take_up_elsewhere(&name);
             return;
         };
         match scheduled.into_runnable().start() {
@@ -100,19 +95,13 @@ where
         requires ends { top steps.old ≡ Some (step.Move (end_by back) name.now) }
         ensures { steps.new ≡ below steps.old }
     {
-        match polling.settle(back, name, unlocked) {
-            RunEnd::Over => steps.see_moved(false),
-            RunEnd::Pause(pause) => match pause.into_due() {
-                Some(Due { runnable, info: _ }) => {
-                    see_due(name, steps);
-                    let marked = Marked::of(runnable);
-                    self.state
-                        .push_and_pay(self.rt, self.realm, steps, marked, unlocked);
-                }
-                None => steps.see_moved(false),
-            },
-            RunEnd::Drop(place, closing) => {
-                let dropping = Dropping::left(closing, name, steps);
+        match polling.settle(back, name, steps, unlocked) {
+            Settled::Over => {}
+            Settled::Due(marked) => {
+                self.state
+                    .push_and_pay(self.rt, self.realm, steps, marked, unlocked);
+            }
+            Settled::Drop(place, dropping) => {
                 self.drop_future(place, dropping, name, steps, unlocked);
             }
         }
@@ -136,8 +125,7 @@ where
         match taken {
             Some(taken) => self.poll_future(place, taken, polling, name, steps, unlocked),
             None => {
-                steps.follow(Saw::Pending);
-                steps.follow(Saw::Something);
+                steps.poll_nothing(name);
                 Poll::Pending
             }
         }
@@ -255,9 +243,7 @@ where
         requires { top steps.old ≡ Some (step.Move move.Release name.now) }
         ensures { steps.new ≡ below steps.old }
     {
-        let _ = name;
-        steps.see_moved(false);
-        let due = waker.release(self.rt, self.realm);
+        let due = steps.release_entry(waker, name, self.rt, self.realm);
         pay(self.rt, due, unlocked);
     }
 }

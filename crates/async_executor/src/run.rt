@@ -19,19 +19,17 @@ ghost use Rattle.call_steps.specs.declared.step.user.UserStep.TheVariants as use
 
 use crate::body::Body;
 use crate::counts::GivesWay;
+use crate::deeds::Steps;
 use crate::entry::{Run, Unlocked};
 use crate::errors::RunError;
 use crate::foreign::Foreign;
 use crate::names::{ExStoredRunnable, ExWaker};
 use crate::runner::{Runner, Search};
-use crate::sleeping::call_kept;
-use crate::steps::Steps;
 use crate::task_name::{TaskName, name_given_to};
 use crate::ticker::{Slept, Ticker};
-use async_task::{Future, Poll, Wake};
-use call_steps::{Last, Reply, Saw, Searcher, Stage, TickOrRun, Waker};
+use async_task::{Future, Output, OutsideWaker, Poll, Runtime};
+use call_steps::{Last, Reply, Searcher, Stage, TickOrRun, Waker};
 use std::mem;
-use std::sync::Wait;
 
 /// What a run has found.
 pub enum Sought {
@@ -43,14 +41,7 @@ pub enum Sought {
     NoMemory,
 }
 
-impl<F, T, W, R, G> Run<'_, F, T, W, R, G>
-where
-    F: Drop,
-    T: Drop + 'static,
-    W: Wake + Drop + 'static,
-    R: Wait + Copy + Drop + 'static,
-    G: Drop,
-{
+impl<F: Drop, T: Output, W: OutsideWaker, R: Runtime, G: Drop> Run<'_, F, T, W, R, G> {
     /// At which stage it is polled.
     pub(crate) fn stage(&self) -> Stage
         ensures { result ≡ stage_polled self.now.future self.now.runner.is_listed }
@@ -62,12 +53,9 @@ where
     }
 }
 
-impl<F, T, W, R, G> Run<'_, F, T, W, R, G>
+impl<F, T: Output, W: OutsideWaker, R: Runtime, G> Run<'_, F, T, W, R, G>
 where
     F: Future<ExWaker<T, W, R>, Output = T> + Drop,
-    T: Drop + 'static,
-    W: Wake + Drop + 'static,
-    R: Wait + Copy + Drop + 'static,
     G: Future<ExWaker<T, W, R>> + Drop,
 {
     /// Polls its future, and then runs tasks.
@@ -103,7 +91,7 @@ where
                 .end(Reply::NoMemory, steps.end(Reply::NoMemory));
             return Poll::Ready(Err(RunError::NoMemory));
         }
-        match future.poll(waker, &name, &mut steps, unlocked) {
+        match steps.poll_own(future, waker, &name, unlocked) {
             Poll::Ready(output) => {
                 self.leave(steps, unlocked);
                 Poll::Ready(Ok(output))
@@ -123,17 +111,9 @@ where
     {
         let executor = self.executor;
         let mut steps = steps;
-        if let Some(future) = mem::replace(&mut self.future, None) {
-            future.let_go(unlocked);
-        }
-        steps.follow(Saw::Nothing);
-        self.runner.unregister(
-            &executor.rt,
-            &executor.state,
-            Reply::Ready,
-            &mut steps,
-            unlocked,
-        );
+        steps.drop_own(mem::replace(&mut self.future, None), unlocked);
+        let (rt, state) = (&executor.rt, &executor.state);
+        steps.unregister(&mut self.runner, state, Reply::Ready, rt, unlocked);
         self.runner.reschedule(
             executor.rt,
             &executor.state,
@@ -396,22 +376,18 @@ where
 
 /// A run that has taken 200 tasks calls the waker of this name that it was polled with, and lets others go first.
 #[tactic(auto, using(crate::proofs::Calling::own_is_kept, crate::proofs::Calling::own_was_called))]
-fn give_way<T, W, R>(
+fn give_way<T: Output, W: OutsideWaker, R: Runtime>(
     waker: &ExWaker<T, W, R>,
     name: &Waker<TaskName>,
     steps: Steps,
     unlocked: &Unlocked,
 ) -> Last
-where
-    T: Drop + 'static,
-    W: Wake + Drop + 'static,
-    R: Wait + Copy + Drop + 'static,
     requires named { name.now ≡ name_given waker.now }
     requires gives { steps ≡ ran true name.now }
     ensures { result ≡ reply.Pending }
 {
     let mut steps = steps;
-    call_kept(waker, name, &mut steps, unlocked);
+    steps.call_kept(waker, name, unlocked);
     steps.end(Reply::Pending)
 }
 
@@ -421,7 +397,7 @@ where
 /// 2. Takes its own queue out of the executor's list, gives its room there back, and schedules each Runnable that is left in the
 ///    queue, in order.
 /// 3. Leaves the sleepers, and gives its room there back.
-pub fn end<F, T, W, R, G>(
+pub fn end<F: Drop, T: Output, W: OutsideWaker, R: Runtime, G: Drop>(
     executor: &Body<F, T, W, R>,
     future: Option<Foreign<G>>,
     runner: Runner,
@@ -429,20 +405,12 @@ pub fn end<F, T, W, R, G>(
     steps: Steps,
     unlocked: &mut Unlocked,
 ) -> Last
-where
-    F: Drop,
-    T: Drop + 'static,
-    W: Wake + Drop + 'static,
-    R: Wait + Copy + Drop + 'static,
-    G: Drop,
     requires { steps ≡ drop_run (stage_by (has_ended runner.room runner.is_drained) runner.is_listed) tt }
     ensures { result ≡ reply.Done }
 {
     let (mut runner, mut steps) = (runner, steps);
-    if let Some(future) = future {
-        future.let_go(unlocked);
-    }
     runner.end(
+        future,
         executor.rt,
         &executor.state,
         executor.realm,

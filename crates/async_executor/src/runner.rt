@@ -3,39 +3,35 @@ ghost use Rattle.std.specs.Prelude.{◌≡◌, ◌∷◌, [], true, false, None,
 ghost use Rattle.std.specs.Arc.{arc_value};
 ghost use Rattle.call_steps.specs.Begins.{poll_run};
 ghost use Rattle.call_steps.specs.Stealing.{is_walk, stolen_as};
-ghost use Rattle.call_steps.specs.declared.names.Section.TheVariants as section;
 ghost use Rattle.call_steps.specs.declared.names.Source.TheVariants as source;
 ghost use Rattle.call_steps.specs.declared.names.Then.TheVariants as then;
 ghost use Rattle.call_steps.specs.declared.names.TickOrRun.TheVariants as tick_or_run;
 ghost use Rattle.call_steps.specs.declared.reply.Reply.TheVariants as reply;
 ghost use Rattle.call_steps.specs.declared.step.CallStep.TheVariants as step;
-ghost use Rattle.call_steps.specs.declared.step.run.ListStep.TheVariants as list_step;
 ghost use Rattle.call_steps.specs.declared.step.tick.TickStep.TheVariants as tick_step;
 ghost use Rattle.call_steps.specs.declared.step.user.UserStep.TheVariants as user_step;
 ghost use Rattle.executor_parts.specs.declared.mark.Mark.TheVariants as mark;
 ghost use Rattle.async_executor.specs.Seeds.{seeded};
 ghost use Rattle.async_executor.specs.Making.{IsUnlisted};
 ghost use Rattle.async_executor.specs.OwnQueues.{listed};
-ghost use Rattle.async_executor.specs.Runs.{looked_own, poll_with, reads_length, registered, robbed, runs};
+ghost use Rattle.async_executor.specs.Runs.{looked_own, poll_with, reads_length, robbed, runs};
 ghost use Rattle.async_executor.specs.Runs.{searched_by_run, stage_by};
 ghost use Rattle.async_executor.specs.Searched.{searched};
 ghost use Rattle.async_executor.specs.Steps.{of_stored};
 ghost use Rattle.async_executor.specs.Ticks.{sleeping};
 
 use crate::counts::OwesSteal;
+use crate::deeds::Steps;
+use crate::deeds::queues::{At, FromQueues, Queue};
 use crate::due::{close_and_pay, share};
 use crate::entry::Unlocked;
-use crate::looking::pop;
 use crate::names::{ExRealm, ExStoredRunnable};
 use crate::own_queues::{OwnQueues, RunRoom};
-use crate::queues::{FromQueues, Queue};
 use crate::state::{OWN_PLACES, State};
 use crate::steal::{Theft, steal};
-use crate::steps::Steps;
 use crate::task_name::TaskName;
-use async_task::{NoMemory, Wake};
-use call_steps::{Saw, Searcher, Source, Then, Waker};
-use concurrent_queue::ConcurrentQueue;
+use async_task::{NoMemory, Output, OutsideWaker, Runtime};
+use call_steps::{Searcher, Then, Waker};
 use executor_parts::Mark;
 use rand_core::SeedableRng;
 use rand_xoshiro::Xoshiro256PlusPlus;
@@ -89,7 +85,7 @@ impl Runner {
         ensures unlisted { IfOk result (λ runner. IsUnlisted runner) }
         ensures own { IfOk result (λ runner. (arc_value runner.own).capacity ≡ Some 512) }
     {
-        let Ok(own) = ConcurrentQueue::bounded(alloc, OWN_PLACES) else {
+        let Ok(own) = Queue::bounded(alloc, OWN_PLACES) else {
             return Err(NoMemory);
         };
         let Ok(own) = Arc::new(alloc, own) else {
@@ -147,50 +143,33 @@ impl Runner {
         if self.is_listed {
             return true;
         }
-        steps.follow(Saw::Nothing);
-        if self.register(rt, state, name, steps, unlocked) {
+        if steps.register(self, state, name, rt, unlocked) {
             self.is_listed = true;
-            steps.follow(Saw::Nothing);
             return true;
         }
-        steps.follow(Saw::Nothing);
         false
     }
 
     /// The own queue comes into the list, or is refused there.
-    fn register<W: Drop, R: Wait + Copy + Drop>(
+    pub fn list<W: Drop, R: Wait + Copy + Drop>(
         &self,
         rt: R,
         state: &State<W>,
-        name: &Waker<TaskName>,
-        steps: &mut Steps,
         unlocked: &mut Unlocked,
-    ) -> bool
-        requires { steps.old ≡ step.List (list_step.Write (section.Register (poll_with name.now))) ∷ [] }
-        ensures { steps.new ≡ registered name.now result }
-    {
+    ) -> bool {
         match &self.room {
             Some(room) => {
                 let queue = share(rt, &self.own);
-                list_in(
-                    state.own_queues.write(&rt, unlocked).get(),
-                    room,
-                    queue,
-                    name,
-                    steps,
-                )
+                list_in(state.own_queues.write(&rt, unlocked).get(), room, queue)
             }
             // It has left the list, and isn't polled again.
-            None => {
-                steps.follow(Saw::NoMemory);
-                false
-            }
+            None => false,
         }
     }
 
     /// The look at the executor's queues that is due at each 64th task: it steals from the urgent one, and then from the plain one,
     /// before this task is run, which it has counted.
-    pub fn pay<T, W, R>(
+    pub fn pay<T: Output, W: OutsideWaker, R: Runtime>(
         &mut self,
         rt: R,
         state: &State<W>,
@@ -201,10 +180,6 @@ impl Runner {
         steps: &mut Steps,
         unlocked: &mut Unlocked,
     )
-    where
-        T: Drop + 'static,
-        W: Wake + Drop + 'static,
-        R: Wait + Copy + Drop + 'static,
         requires { steps.old ≡ reads_length search.now.name.now (source.Common mark.Urgent) (then.StealPlain found.now.identity) }
         ensures { steps.new ≡ runs search.now.at search.now.name.now found.now.identity }
     {
@@ -217,7 +192,7 @@ impl Runner {
     }
 
     /// Steals from the executor's queue of this mark, and goes on with this.
-    fn steal_from<T, W, R>(
+    fn steal_from<T: Output, W: OutsideWaker, R: Runtime>(
         &self,
         mark: Mark,
         rt: R,
@@ -228,27 +203,23 @@ impl Runner {
         steps: &mut Steps,
         unlocked: &mut Unlocked,
     )
-    where
-        T: Drop + 'static,
-        W: Wake + Drop + 'static,
-        R: Wait + Copy + Drop + 'static,
         requires apart { is_walk then.now ≡ false }
         requires steals { steps.old ≡ reads_length search.now.name.now (source.Common mark) then.now }
         ensures { steps.new ≡ stolen_as then.now search.now.at (poll_with search.now.name.now) }
     {
         let theft = Theft {
             name: search.name,
-            from: &Source::Common(mark),
+            from: At::Common(&state.queues, mark),
             then,
             at: search.at,
         };
-        let refused = steal(&rt, state.queues.of(mark), &self.own, &theft, steps);
+        let refused = steal(&rt, &self.own, &theft, steps);
         drop_refused(rt, realm, refused, &theft, steps, unlocked);
     }
 
     /// The next Runnable of the run, or None where none was found. What its own queue gave back in a walk is closed, and it
     /// searches anew.
-    pub fn search<T, W, R>(
+    pub fn search<T: Output, W: OutsideWaker, R: Runtime>(
         &mut self,
         rt: R,
         state: &State<W>,
@@ -257,10 +228,6 @@ impl Runner {
         steps: &mut Steps,
         unlocked: &mut Unlocked,
     ) -> Option<ExStoredRunnable>
-    where
-        T: Drop + 'static,
-        W: Wake + Drop + 'static,
-        R: Wait + Copy + Drop + 'static,
         requires { steps.old ≡ step.Tick (tick_step.Search (sleeping (tick_or_run.Run tt) search.now.name.now)) ∷ [] }
         ensures { steps.new ≡ searched_by_run search.now.at search.now.name.now (of_stored result) }
     {
@@ -282,7 +249,7 @@ impl Runner {
     /// 2. The first of the global queue that its turn names, or else of the other one; then it steals from where that stood.
     /// 3. Under the read lock of the list, round the other runs' queues from the starting place: it steals from each, and
     ///    takes the first of its own queue.
-    fn search_once<T, W, R>(
+    fn search_once<T: Output, W: OutsideWaker, R: Runtime>(
         &mut self,
         rt: R,
         state: &State<W>,
@@ -291,10 +258,6 @@ impl Runner {
         steps: &mut Steps,
         unlocked: &mut Unlocked,
     ) -> Searched
-    where
-        T: Drop + 'static,
-        W: Wake + Drop + 'static,
-        R: Wait + Copy + Drop + 'static,
         requires { steps.old ≡ step.Tick (tick_step.Search (sleeping (tick_or_run.Run tt) search.now.name.now)) ∷ [] }
         ensures { steps.new ≡ searched search.now.at search.now.name.now result }
     {
@@ -320,49 +283,22 @@ impl Runner {
         requires { steps.old ≡ step.Tick (tick_step.Search (sleeping (tick_or_run.Run tt) search.now.name.now)) ∷ [] }
         ensures { steps.new ≡ looked_own search.now.at search.now.name.now (of_stored result) }
     {
-        match pop(&self.own, rt) {
-            Some(runnable) => {
-                steps.follow(Saw::FoundBy(TaskName::of_runnable(&runnable), search.at));
-                Some(runnable)
-            }
-            None => {
-                steps.follow(Saw::Nothing);
-                None
-            }
-        }
+        steps.take(At::Own(&self.own), Some(search.at), rt)
     }
 }
 
 /// The section of the list's lock in which a run's own queue comes into it. Whether memory for it was there is the answer. Refused,
 /// the list is as it was.
-fn list_in<Q: Drop>(
-    queues: &mut OwnQueues<Q>,
-    room: &RunRoom,
-    queue: Q,
-    name: &Waker<TaskName>,
-    steps: &mut Steps,
-) -> bool
-    requires { steps.old ≡ step.List (list_step.Write (section.Register (poll_with name.now))) ∷ [] }
-    ensures steps { steps.new ≡ registered name.now result }
+fn list_in<Q: Drop>(queues: &mut OwnQueues<Q>, room: &RunRoom, queue: Q) -> bool
     ensures listed { result ≡ true → queues.new.queues.items ≡ listed room.now.number queue queues.old.queues.items }
     ensures refused { result ≡ false → queues.new.queues.items ≡ queues.old.queues.items }
 {
-    let _ = name;
-    match queues.insert(room, queue) {
-        Ok(()) => {
-            steps.follow(Saw::Nothing);
-            true
-        }
-        Err(_) => {
-            steps.follow(Saw::NoMemory);
-            false
-        }
-    }
+    queues.insert(room, queue).is_ok()
 }
 
 /// Closes a Runnable that came back from a full queue, where one did. No lock is held, as this was no walk.
 #[tactic(auto, using(crate::proofs::Refusing::drops_it))]
-fn drop_refused<T, W, R>(
+fn drop_refused<T: Output, W: OutsideWaker, R: Runtime>(
     rt: R,
     realm: &'static ExRealm<T, W, R>,
     refused: Option<ExStoredRunnable>,
@@ -370,10 +306,6 @@ fn drop_refused<T, W, R>(
     steps: &mut Steps,
     unlocked: &mut Unlocked,
 )
-where
-    T: Drop + 'static,
-    W: Wake + Drop + 'static,
-    R: Wait + Copy + Drop + 'static,
     requires apart { is_walk theft.now.then.now ≡ false }
     requires steals { steps.old ≡ robbed theft.now.name.now theft.now.then.now theft.now.at (of_stored refused) }
     ensures { steps.new ≡ stolen_as theft.now.then.now theft.now.at (poll_with theft.now.name.now) }

@@ -1,21 +1,13 @@
-ghost use Rattle.std.specs.Prelude.{◌≡◌, IfSome, Some};
-ghost use Rattle.call_steps.specs.Seeing.{due};
-ghost use Rattle.call_steps.specs.Todo.{below, top};
-ghost use Rattle.call_steps.specs.declared.step.CallStep.TheVariants as step;
-ghost use Rattle.call_steps.specs.declared.step.tick.SleeperStep.TheVariants as sleeper_step;
-ghost use Rattle.async_executor.specs.Calling.{called_kept, CallsKept};
+ghost use Rattle.std.specs.Prelude.{◌≡◌, IfSome};
 ghost use Rattle.async_executor.specs.Copies.{IsCopyOf};
-ghost use Rattle.async_executor.specs.Steps.{name_given, name_of, of_handed, sleeper, sleeper_as};
+ghost use Rattle.async_executor.specs.Steps.{name_given, name_of, sleeper};
 
-use crate::due::Handed;
 use crate::entry::Unlocked;
 use crate::foreign::Foreign;
-use crate::names::{ExRealm, ExWaker};
-use crate::steps::Steps;
+use crate::names::ExWaker;
 use crate::task_name::TaskName;
-use async_task::{Awaiter, Returning, StoredWaker, Wake};
-use call_steps::{Saw, Sleeping, TickOrRun, Waker};
-use std::sync::Wait;
+use async_task::{Awaiter, Output, OutsideWaker, Returning, Runtime, StoredWaker, Wake};
+use call_steps::{Sleeping, TickOrRun, Waker};
 
 mod going;
 
@@ -29,28 +21,35 @@ pub enum SleeperWaker<W> {
 }
 
 impl<W> SleeperWaker<W> {
+    /// Its name.
+    #[inline(always)]
+    pub fn name(&self) -> Waker<TaskName>
+        ensures { result ≡ name_of self.now }
+    {
+        match self {
+            SleeperWaker::Task(waker) => Waker::Task(TaskName::of_waker(waker)),
+            SleeperWaker::Outside(_) => Waker::Outside,
+        }
+    }
+
     /// Who sleeps with the waker.
     #[inline(always)]
     pub fn sleeper(&self) -> Sleeping<TaskName, ()>
         ensures { result ≡ sleeper self.now }
     {
-        let waker = match self {
-            SleeperWaker::Task(waker) => Waker::Task(TaskName::of_waker(waker)),
-            SleeperWaker::Outside(_) => Waker::Outside,
-        };
         Sleeping {
-            waker,
+            waker: self.name(),
             who: TickOrRun::Tick(()),
         }
     }
 }
 
-impl<W: Wake + Drop + 'static> SleeperWaker<W> {
+impl<W: OutsideWaker> SleeperWaker<W> {
     /// A copy of a waker for the list of sleepers, or None where none can be had: then memory was wanted.
-    pub fn of<T, R>(waker: &ExWaker<T, W, R>, unlocked: &Unlocked) -> Option<Foreign<Self>>
-    where
-        T: Drop + 'static,
-        R: Wait + Copy + Drop + 'static,
+    pub fn of<T: Output, R: Runtime>(
+        waker: &ExWaker<T, W, R>,
+        unlocked: &Unlocked,
+    ) -> Option<Foreign<Self>>
         ensures copy { IfSome result (λ copy. IsCopyOf W.is_same copy.value waker.now) }
         ensures name { IfSome result (λ copy. name_of copy.value ≡ name_given waker.now) }
     {
@@ -61,10 +60,7 @@ impl<W: Wake + Drop + 'static> SleeperWaker<W> {
         }
     }
 
-    fn copy_of<T, R>(waker: &ExWaker<T, W, R>) -> Option<Self>
-    where
-        T: Drop + 'static,
-        R: Wait + Copy + Drop + 'static,
+    fn copy_of<T: Output, R: Runtime>(waker: &ExWaker<T, W, R>) -> Option<Self>
         ensures copy { IfSome result (λ copy. IsCopyOf W.is_same copy waker.now) }
         ensures name { IfSome result (λ copy. name_of copy ≡ name_given waker.now) }
     {
@@ -81,68 +77,6 @@ impl<W: Wake + Drop + 'static> SleeperWaker<W> {
                 Some(copy) => Some(SleeperWaker::Outside(copy)),
                 None => None,
             },
-        }
-    }
-
-    /// Calls the waker. Where a task has to be queued then, it is the answer.
-    pub fn wake<T, R>(
-        self,
-        rt: R,
-        realm: &'static ExRealm<T, W, R>,
-        who: &TickOrRun<()>,
-        steps: &mut Steps,
-        unlocked: &Unlocked,
-    ) -> Option<Handed<T, W, R>>
-    where
-        T: Drop + 'static,
-        R: Wait + Copy + Drop + 'static,
-        requires { top steps.old ≡ Some (step.Sleeper (sleeper_step.CallSleeper (sleeper_as who.now self))) }
-        ensures { steps.new ≡ due (of_handed result) (below steps.old) }
-    {
-        let (_, _) = (unlocked, who);
-        match self {
-            SleeperWaker::Task(waker) => match waker.wake(rt, realm) {
-                Some(due) => {
-                    steps.see_moved(true);
-                    Some(Handed::of(due))
-                }
-                None => {
-                    steps.see_moved(false);
-                    None
-                }
-            },
-            SleeperWaker::Outside(waker) => {
-                waker.wake();
-                steps.follow(Saw::Outside);
-                steps.follow(Saw::Nothing);
-                None
-            }
-        }
-    }
-}
-
-/// Calls a waker of this name that the caller keeps, with all that this leads to.
-pub fn call_kept<T, W, R>(
-    waker: &ExWaker<T, W, R>,
-    name: &Waker<TaskName>,
-    steps: &mut Steps,
-    unlocked: &Unlocked,
-)
-where
-    T: Drop + 'static,
-    W: Wake + Drop + 'static,
-    R: Wait + Copy + Drop + 'static,
-    requires named { name.now ≡ name_given waker.now }
-    requires calls { CallsKept name.now steps.old }
-    ensures { steps.new ≡ called_kept name.now steps.old }
-{
-    let _ = unlocked;
-    waker.wake_by_ref();
-    match name {
-        Waker::Task(_) => steps.see_moved(false),
-        Waker::Outside => {
-            steps.follow(Saw::Outside);
-            steps.follow(Saw::Nothing);
         }
     }
 }

@@ -1,10 +1,6 @@
-ghost use Rattle.std.specs.Prelude.{◌≡◌, ◌∷◌, [], IfOk, IfErr, IfSome};
-ghost use Rattle.call_steps.specs.Todo.{following};
-ghost use Rattle.call_steps.specs.declared.step.CallStep.TheVariants as step;
-ghost use Rattle.call_steps.specs.declared.step.table.TableStep.TheVariants as table_step;
+ghost use Rattle.std.specs.Prelude.{◌≡◌, IfOk, IfErr, IfSome};
 ghost use Rattle.async_executor.specs.Accepting.{Accepts, IsRefusedAt, WakerFits};
 ghost use Rattle.async_executor.specs.Errors.{refused};
-ghost use Rattle.async_executor.specs.Steps.{accepted_as};
 ghost use Rattle.async_task.specs.Handles.{task_of};
 ghost use Rattle.executor_parts.specs.Places.{IsVacancy};
 
@@ -13,11 +9,8 @@ use crate::errors::SpawnError;
 use crate::marked::Marked;
 use crate::names::{ExRealm, ExRunnable, ExTask, TableWaker};
 use crate::queue::ExQueue;
-use crate::steps::Steps;
-use async_task::{Builder, Returning, Wake};
-use call_steps::Saw;
+use async_task::{Builder, Output, OutsideWaker, Returning, Runtime};
 use executor_parts::{EntryPlace, Mark, Places, SpawnRefused, Vacancy};
-use std::sync::Wait;
 
 /// Accepts a future: what a spawn does under the table's lock, once it has closed what was let go.
 ///
@@ -25,7 +18,7 @@ use std::sync::Wait;
 /// 2. Makes the task's cell, which has the number of the future's place. Without memory for it, the place is given back.
 /// 3. Enters the future, with a waker of the task, where the executor isn't static.
 #[inline(always)]
-pub fn accept<F, T, W, R>(
+pub fn accept<F: Drop, T: Output, W: OutsideWaker, R: Runtime>(
     table: &mut Places<F, TableWaker>,
     rt: R,
     realm: &'static ExRealm<T, W, R>,
@@ -35,11 +28,6 @@ pub fn accept<F, T, W, R>(
     future: F,
     closed: HasClosed,
 ) -> Result<(Marked, ExTask<T, W, R>), SpawnError<F>>
-where
-    F: Drop,
-    T: Drop + 'static,
-    W: Wake + Drop + 'static,
-    R: Wait + Copy + Drop + 'static,
     ensures here { IfOk result (λ both. both.1.identity.realm ≡ realm.now.number) }
     ensures accepted { IfOk result (λ both. Accepts is_static table.old table.new future (task_of both.1)) }
     ensures one_task { IfOk result (λ both. both.0.stored.identity ≡ both.1.identity) }
@@ -59,7 +47,7 @@ where
 
 /// The same once there is a place for the future.
 #[inline(always)]
-fn enter<F, T, W, R>(
+fn enter<F: Drop, T: Output, W: OutsideWaker, R: Runtime>(
     table: &mut Places<F, TableWaker>,
     vacancy: Vacancy,
     rt: R,
@@ -69,11 +57,6 @@ fn enter<F, T, W, R>(
     mark: Mark,
     future: F,
 ) -> Result<(Marked, ExTask<T, W, R>), SpawnError<F>>
-where
-    F: Drop,
-    T: Drop + 'static,
-    W: Wake + Drop + 'static,
-    R: Wait + Copy + Drop + 'static,
     requires { IsVacancy vacancy table.old }
     ensures here { IfOk result (λ both. both.1.identity.realm ≡ realm.now.number) }
     ensures accepted { IfOk result (λ both. Accepts is_static table.old table.new future (task_of both.1)) }
@@ -96,33 +79,10 @@ where
     }
 }
 
-/// What a spawn saw in the table.
-#[inline(always)]
-pub fn see_accepted<F, T, W, R>(
-    accepted: &Result<(Marked, ExTask<T, W, R>), SpawnError<F>>,
-    mark: Mark,
-    steps: &mut Steps,
-)
-where
-    F: Drop,
-    T: Drop + 'static,
-    W: Wake + Drop + 'static,
-    R: Wait + Copy + Drop + 'static,
-    requires { steps.old ≡ step.Table (table_step.Enter mark) ∷ [] }
-    ensures { steps.new ≡ following (accepted_as accepted.now) steps.old }
-{
-    let _ = mark;
-    match accepted {
-        Ok((runnable, _)) => steps.follow(Saw::Entered(runnable.name())),
-        Err(SpawnError::Full(_)) => steps.follow(Saw::Full),
-        Err(SpawnError::NoMemory(_)) => steps.follow(Saw::NoMemory),
-    }
-}
-
 /// A task of this mark whose future is at this place, with its handle and what the table keeps beside the future: a waker, and none where
 /// the executor is static.
 #[inline(always)]
-fn made<T, W, R>(
+fn made<T: Output, W: OutsideWaker, R: Runtime>(
     rt: R,
     realm: &'static ExRealm<T, W, R>,
     schedule: ExQueue<T, W, R>,
@@ -130,10 +90,6 @@ fn made<T, W, R>(
     mark: Mark,
     place: EntryPlace,
 ) -> Option<(ExRunnable<T, W, R>, ExTask<T, W, R>, TableWaker)>
-where
-    T: Drop + 'static,
-    W: Wake + Drop + 'static,
-    R: Wait + Copy + Drop + 'static,
     ensures one_task { IfSome result (λ made. made.0 ≡ task_of made.1) }
     ensures marked { IfSome result (λ made. made.0.metadata ≡ mark) }
     ensures here { IfSome result (λ made. made.0.identity.realm ≡ realm.now.number) }

@@ -1,20 +1,19 @@
 //! What the threads of an executor share, but for its futures.
-ghost use Rattle.std.specs.Prelude.{◌≡◌, ◌≢◌, ◌<◌, ◌∷◌, [], ◌++◌, Some, None, IfOk, IfErr, IfSome, is_ok, length};
-ghost use Rattle.task_moves.specs.declared.moves.owed.Move.TheVariants as move;
-ghost use Rattle.call_steps.specs.Closing.{closed};
-ghost use Rattle.call_steps.specs.Seeing.{called, due, seen};
-ghost use Rattle.call_steps.specs.Todo.{below, following, top};
+ghost use Rattle.std.specs.Prelude.{◌≡◌, ◌<◌, ◌∷◌, [], Some, None, IfOk, IfSome};
+ghost use Rattle.call_steps.specs.Seeing.{due};
+ghost use Rattle.call_steps.specs.Todo.{below, top};
 ghost use Rattle.call_steps.specs.declared.reply.Reply.TheVariants as reply;
 ghost use Rattle.call_steps.specs.declared.step.CallStep.TheVariants as step;
 ghost use Rattle.call_steps.specs.declared.step.table.ClosingStep.TheVariants as closing_step;
 ghost use Rattle.call_steps.specs.declared.step.table.QueueStep.TheVariants as queue_step;
 ghost use Rattle.call_steps.specs.declared.step.tick.SleeperStep.TheVariants as sleeper_step;
-ghost use Rattle.executor_parts.specs.Sleepers.{flag_of, last_waker, without_last};
+ghost use Rattle.executor_parts.specs.Sleepers.{flag_of};
 ghost use Rattle.executor_parts.specs.declared.mark.Mark.TheVariants as mark;
-ghost use Rattle.async_executor.specs.Foreign.{value_of};
 ghost use Rattle.async_executor.specs.Sleeping.{laid_as, SaysFellAsleep};
-ghost use Rattle.async_executor.specs.Steps.{of_handed, sleeper_of};
+ghost use Rattle.async_executor.specs.Steps.{of_handed};
 
+use crate::deeds::Steps;
+use crate::deeds::queues::{Queue, Queues};
 use crate::due::Handed;
 use crate::entry::Unlocked;
 use crate::flag::Flag;
@@ -23,14 +22,12 @@ use crate::locks::{Guarded, ReadWrite};
 use crate::marked::Marked;
 use crate::names::{ExRealm, ExScheduled, ExStoredRunnable};
 use crate::own_queues::OwnQueues;
-use crate::queues::{Queue, Queues};
 use crate::sleeping::SleeperWaker;
-use crate::steps::Steps;
 use crate::task_name::TaskName;
 use crate::ticker::{FellAsleep, Laid, WokenUp};
 use crate::turns::Turns;
-use async_task::{GoesBack, NoMemory, Returning, Wake};
-use call_steps::{Saw, TickOrRun};
+use async_task::{GoesBack, NoMemory, Output, OutsideWaker, Runtime, Wake};
+use call_steps::TickOrRun;
 use executor_parts::{Mark, Sleepers};
 use std::alloc::Global;
 use std::sync::{Arc, Wait};
@@ -89,66 +86,8 @@ impl<W: Drop> State<W> {
         requires { steps.old ≡ step.Closing (closing_step.Close mark.Urgent) ∷ step.End reply.Done ∷ [] }
         ensures { steps.new ≡ step.Closing (closing_step.Drain mark.Urgent) ∷ step.End reply.Done ∷ [] }
     {
-        self.close_queue(Mark::Urgent, rt, steps);
-        self.close_queue(Mark::Plain, rt, steps);
-    }
-
-    /// It closes the queue of this mark.
-    fn close_queue<R: Wait>(&self, mark: Mark, rt: &R, steps: &mut Steps)
-        requires { steps.old ≡ step.Closing (closing_step.Close mark) ∷ step.End reply.Done ∷ [] }
-        ensures { steps.new ≡ closed mark ++ step.End reply.Done ∷ [] }
-    {
-        self.queues.of(mark).close(rt);
-        steps.follow(Saw::Nothing);
-    }
-
-    /// Puts a Runnable into the executor's queue of its mark, or answers it where that is closed.
-    #[inline(always)]
-    pub fn append<R: Wait>(
-        &self,
-        rt: &R,
-        steps: &mut Steps,
-        runnable: Marked,
-    ) -> Result<(), ExStoredRunnable>
-        requires { top steps.old ≡ Some (step.Queue (queue_step.Append runnable.stored.identity)) }
-        ensures steps { steps.new ≡ following (seen (is_ok result)) steps.old }
-        ensures back { IfErr result (λ back. back ≡ runnable.stored) }
-    {
-        let Marked { mark, stored } = runnable;
-        match self.queues.of(mark).push(rt, Returning::new(stored)) {
-            Ok(()) => {
-                steps.follow(Saw::Something);
-                Ok(())
-            }
-            Err(refused) => {
-                steps.follow(Saw::Nothing);
-                Err(refused.into_inner().into_inner())
-            }
-        }
-    }
-
-    /// Exchanges the flag from false to true, and says whether it was false: then a waker is to be handed out.
-    #[inline(always)]
-    pub fn exchange(&self, steps: &mut Steps) -> bool
-        requires { top steps.old ≡ Some (step.Sleeper sleeper_step.ExchangeFlag) }
-        ensures { steps.new ≡ following (seen result) steps.old }
-    {
-        let won = self.notified.exchange();
-        steps.see(won);
-        won
-    }
-
-    /// Takes, under the sleepers' lock, the waker added last, where it won the exchange of the flag.
-    pub fn take_waker<R: Wait>(
-        &self,
-        rt: &R,
-        steps: &mut Steps,
-        unlocked: &mut Unlocked,
-    ) -> Option<Foreign<SleeperWaker<W>>>
-        requires { top steps.old ≡ Some (step.Sleeper sleeper_step.HandOut) }
-        ensures { steps.new ≡ called (sleeper_of result) (below steps.old) }
-    {
-        hand_out(self.sleepers.lock(rt, unlocked).get(), steps)
+        steps.close_queue(&self.queues, Mark::Urgent, rt);
+        steps.close_queue(&self.queues, Mark::Plain, rt);
     }
 
     /// Stores what the flag becomes where one fell asleep, as the list of sleepers says, which is lent while their lock is held.
@@ -185,75 +124,13 @@ impl<W: Drop> State<W> {
     }
 }
 
-/// The section of the sleepers' lock in which the winner of the flag's exchange takes a waker out.
-pub fn hand_out<W>(
-    sleepers: &mut Sleepers<SleeperWaker<W>>,
-    steps: &mut Steps,
-) -> Option<Foreign<SleeperWaker<W>>>
-    requires { top steps.old ≡ Some (step.Sleeper sleeper_step.HandOut) }
-    ensures handed { steps.new ≡ called (sleeper_of result) (below steps.old) }
-    ensures told { length sleepers.old.wakers ≢ sleepers.old.count → (result ≡ None) × (sleepers.new ≡ sleepers.old) }
-    ensures last { length sleepers.old.wakers ≡ sleepers.old.count → value_of result ≡ last_waker sleepers.old.wakers }
-    ensures left { length sleepers.old.wakers ≡ sleepers.old.count → sleepers.new ≡ without_last sleepers.old }
-{
-    match sleepers.hand_out() {
-        Some(waker) => {
-            steps.follow(Saw::HandedOut(waker.sleeper()));
-            Some(Foreign::of(waker))
-        }
-        None => {
-            steps.follow(Saw::Nothing);
-            None
-        }
-    }
-}
-
-/// Closes a Runnable, as the executor's queue is closed. Where that leads to a task that has to be queued, it is the answer.
-pub fn close<T, W, R>(
-    rt: R,
-    realm: &'static ExRealm<T, W, R>,
-    steps: &mut Steps,
-    runnable: ExStoredRunnable,
-    unlocked: &Unlocked,
-) -> Option<Handed<T, W, R>>
-where
-    T: Drop + 'static,
-    W: Wake + Drop + 'static,
-    R: Wait + Copy + Drop + 'static,
-    requires { top steps.old ≡ Some (step.Move move.DropRunnable runnable.identity) }
-    ensures { steps.new ≡ due (of_handed result) (below steps.old) }
-{
-    let _ = unlocked;
-    let closed = TaskName::of_runnable(&runnable);
-    match runnable.close(rt, realm) {
-        Ok(Some(due)) => {
-            let handed = Handed::of(due);
-            steps.see_awaiter_woken(&closed, handed.name());
-            Some(handed)
-        }
-        Ok(None) => {
-            steps.see_moved(false);
-            None
-        }
-        Err(runnable) => {
-            runnable.go_back();
-            steps.see_moved(false);
-            None
-        }
-    }
-}
-
 /// A Runnable, of its place. Where that is of another realm it goes back there.
 #[inline(always)]
-pub fn redeem<T, W, R>(
+pub fn redeem<T: Output, W: OutsideWaker, R: Runtime>(
     rt: R,
     realm: &'static ExRealm<T, W, R>,
     runnable: ExStoredRunnable,
 ) -> Option<ExScheduled<T, W, R>>
-where
-    T: Drop + 'static,
-    W: Wake + Drop + 'static,
-    R: Wait + Copy + Drop + 'static,
     ensures { IfSome result (λ found. found.identity ≡ runnable.identity) }
 {
     match runnable.redeem(rt, realm) {
@@ -265,10 +142,10 @@ where
     }
 }
 
-impl<W: Wake + Drop + 'static> State<W> {
+impl<W: OutsideWaker> State<W> {
     /// Puts a Runnable into the executor's queue of its mark, and tells a sleeper. Where that leads to a task that has to be
     /// queued, it is the answer. From a queue that is closed the Runnable comes back, and is dropped.
-    pub fn push<T, R>(
+    pub fn push<T: Output, R: Runtime>(
         &self,
         rt: R,
         realm: &'static ExRealm<T, W, R>,
@@ -276,21 +153,18 @@ impl<W: Wake + Drop + 'static> State<W> {
         runnable: Marked,
         unlocked: &mut Unlocked,
     ) -> Option<Handed<T, W, R>>
-    where
-        T: Drop + 'static,
-        R: Wait + Copy + Drop + 'static,
         requires { top steps.old ≡ Some (step.Queue (queue_step.Append runnable.stored.identity)) }
         ensures { steps.new ≡ due (of_handed result) (below steps.old) }
     {
-        match self.append(&rt, steps, runnable) {
+        match steps.append(&self.queues, runnable, &rt) {
             Ok(()) => self.notify(rt, realm, steps, unlocked),
-            Err(back) => close(rt, realm, steps, back, unlocked),
+            Err(back) => steps.close_runnable(back, rt, realm, unlocked),
         }
     }
 
     /// Puts a Runnable that rested in a run's own queue into the executor's queue, and tells a sleeper, with all that this leads
     /// to. One of another realm goes back there.
-    pub fn push_stored<T, R>(
+    pub fn push_stored<T: Output, R: Runtime>(
         &self,
         rt: R,
         realm: &'static ExRealm<T, W, R>,
@@ -298,21 +172,16 @@ impl<W: Wake + Drop + 'static> State<W> {
         steps: &mut Steps,
         unlocked: &mut Unlocked,
     )
-    where
-        T: Drop + 'static,
-        R: Wait + Copy + Drop + 'static,
         requires { top steps.old ≡ Some (step.Queue (queue_step.Append stored.identity)) }
         ensures { steps.new ≡ below steps.old }
     {
+        let name = TaskName::of_runnable(&stored);
         match redeem(rt, realm, stored) {
             Some(runnable) => {
                 let marked = Marked::of(runnable);
                 self.push_and_pay(rt, realm, steps, marked, unlocked);
             }
-            None => {
-                steps.follow(Saw::Nothing);
-                steps.see_moved(false);
-            }
+            None => steps.append_elsewhere(&name),
         }
     }
 
@@ -321,23 +190,20 @@ impl<W: Wake + Drop + 'static> State<W> {
     ///
     /// 1. Exchanges the flag from false to true. Where it was true, that is all.
     /// 2. Takes, under the sleepers' lock, the waker added last, if there are as many wakers as sleepers.
-    fn notify<T, R>(
+    fn notify<T: Output, R: Runtime>(
         &self,
         rt: R,
         realm: &'static ExRealm<T, W, R>,
         steps: &mut Steps,
         unlocked: &mut Unlocked,
     ) -> Option<Handed<T, W, R>>
-    where
-        T: Drop + 'static,
-        R: Wait + Copy + Drop + 'static,
         requires { top steps.old ≡ Some (step.Sleeper sleeper_step.ExchangeFlag) }
         ensures { steps.new ≡ due (of_handed result) (below steps.old) }
     {
-        if !self.exchange(steps) {
+        if !steps.exchange(&self.notified) {
             return None;
         }
-        match self.take_waker(&rt, steps, unlocked) {
+        match steps.hand_out(self, &rt, unlocked) {
             Some(waker) => waker.wake(rt, realm, &TickOrRun::Tick(()), steps, unlocked),
             None => None,
         }

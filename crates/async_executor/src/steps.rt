@@ -1,15 +1,9 @@
-//! How calls on the executor go, step by step.
+//! What the polls of ticks and runs were answered.
 ghost use Rattle.std.specs.Prelude.{◌≡◌, not, true, None, Some};
 ghost use Rattle.call_steps.specs.declared.reply.Reply.TheVariants as reply;
 
 use crate::counts::GivesWay;
-use crate::entry::Entered;
-use crate::task_name::TaskName;
-use call_steps::{Call, Last, Reply};
-
-/// A call, or a part of one, that goes as the machine of `call_steps` does. Futures have the names of their tasks. The list of
-/// sleepers knows no names of ticks and runs, so they have none here. A call is begun in `entry`, as the user's call begins.
-pub type Steps = Call<TaskName, (), Entered>;
+use call_steps::{Last, Reply};
 
 /// What the last poll of a tick or run was answered. Only contracts read it, and it is written by the end of that poll's call alone.
 #[derive(Drop)]

@@ -3,11 +3,10 @@ ghost use Rattle.std.specs.Prelude.{◌≡◌};
 ghost use Rattle.async_executor.specs.Steps.{name_given};
 
 use crate::names::{ExStoredRunnable, ExWaker};
-use async_task::{Identity, Returning, StoredWaker, Wake};
+use async_task::{Identity, Output, OutsideWaker, Returning, Runtime, StoredWaker};
 use call_steps::Waker;
 use std::marker::Model;
 use std::snapshot::Snapshot;
-use std::sync::Wait;
 
 /// What a task is known by: a Runnable or a waker of it, or what that says of itself.
 #[derive(Drop)]
@@ -64,11 +63,9 @@ impl TaskName {
 
 /// The name of the waker that a poll was given.
 #[inline(always)]
-pub fn name_given_to<T, W, R>(waker: &ExWaker<T, W, R>) -> Waker<TaskName>
-where
-    T: Drop + 'static,
-    W: Wake + Drop + 'static,
-    R: Wait + Copy + Drop + 'static,
+pub fn name_given_to<T: Output, W: OutsideWaker, R: Runtime>(
+    waker: &ExWaker<T, W, R>,
+) -> Waker<TaskName>
     ensures { result ≡ name_given waker.now }
 {
     match waker.identity() {

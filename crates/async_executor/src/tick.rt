@@ -10,21 +10,17 @@ ghost use Rattle.call_steps.specs.declared.step.tick.TickStep.TheVariants as tic
 ghost use Rattle.call_steps.specs.declared.reply.Reply.TheVariants as reply;
 
 use crate::body::Body;
+use crate::deeds::Steps;
 use crate::entry::{Tick, Unlocked};
 use crate::names::{ExStoredRunnable, ExWaker};
-use crate::steps::Steps;
 use crate::task_name::{TaskName, name_given_to};
 use crate::ticker::{Slept, Ticker};
-use async_task::{Future, NoMemory, Poll, Wake};
+use async_task::{Future, NoMemory, Output, OutsideWaker, Poll, Runtime};
 use call_steps::{Last, Reply, TickOrRun, Waker};
-use std::sync::Wait;
 
-impl<F, T, W, R> Tick<'_, F, T, W, R>
+impl<F, T: Output, W: OutsideWaker, R: Runtime> Tick<'_, F, T, W, R>
 where
     F: Future<ExWaker<T, W, R>, Output = T> + Drop,
-    T: Drop + 'static,
-    W: Wake + Drop + 'static,
-    R: Wait + Copy + Drop + 'static,
 {
     /// Looks for a future that is to be polled.
     ///
@@ -140,17 +136,12 @@ where
 }
 
 /// A tick ends: it leaves the sleepers, and gives its room there back.
-pub fn end<F, T, W, R>(
+pub fn end<F: Drop, T: Output, W: OutsideWaker, R: Runtime>(
     executor: &Body<F, T, W, R>,
     ticker: Ticker,
     steps: Steps,
     unlocked: &mut Unlocked,
 ) -> Last
-where
-    F: Drop,
-    T: Drop + 'static,
-    W: Wake + Drop + 'static,
-    R: Wait + Copy + Drop + 'static,
     requires { steps ≡ step.Tick (tick_step.Leave (tick_or_run.Tick tt)) ∷ step.End reply.Done ∷ [] }
     ensures { result ≡ reply.Done }
 {

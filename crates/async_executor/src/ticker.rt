@@ -12,24 +12,24 @@ ghost use Rattle.async_executor.specs.Ticks.{sleeping, slept};
 ghost use Rattle.call_steps.specs.Todo.{below, top};
 ghost use Rattle.executor_parts.specs.Sleepers.{flag_of};
 
+use crate::deeds::Steps;
 use crate::entry::Unlocked;
 use crate::flag::NewFlag;
 use crate::foreign::{Foreign, came_out};
 use crate::names::{ExRealm, ExWaker};
-use crate::sleeping::{SleeperWaker, call_kept};
+use crate::sleeping::SleeperWaker;
 use crate::state::State;
-use crate::steps::Steps;
 use crate::task_name::TaskName;
 use crate::waker_name::WakerName;
-use async_task::Wake;
-use call_steps::{Saw, TickOrRun, Waker};
+use async_task::{Output, OutsideWaker, Runtime};
+use call_steps::{TickOrRun, Waker};
 use executor_parts::{
     Again, Room, Sleeper, Sleepers, Slept as Started, Unreserved, WokenUp as Stood,
 };
 use std::mem;
 use std::sync::Wait;
 
-mod leave;
+pub mod leave;
 
 /// Whether a tick or run is among the sleepers. It has no drop: it leaves them.
 pub enum Ticker {
@@ -80,7 +80,7 @@ pub struct WokenUp<W> {
 
 impl Ticker {
     /// Wakes up. That it had been told is of no account, as the call tells another.
-    pub fn wake_up<T, W, R>(
+    pub fn wake_up<T: Output, W: OutsideWaker, R: Runtime>(
         &mut self,
         rt: R,
         state: &State<W>,
@@ -89,24 +89,19 @@ impl Ticker {
         steps: &mut Steps,
         unlocked: &mut Unlocked,
     )
-    where
-        T: Drop + 'static,
-        W: Wake + Drop + 'static,
-        R: Wait + Copy + Drop + 'static,
         requires { top steps.old ≡ Some (step.Tick (tick_step.WakeUp who.now)) }
         ensures steps { steps.new ≡ below steps.old }
         ensures awake { is_asleep self.new ≡ false }
         ensures stays { has_left self.new ≡ has_left self.old }
     {
-        match self.stand_up(&rt, state, unlocked) {
-            Some(waker) => waker.wake_up_with(rt, realm, who, steps, unlocked),
-            None => steps.follow(Saw::Awake(None)),
+        if let Some(old) = steps.wake_up(self, who, state, &rt, unlocked) {
+            old.let_go_and_pay(rt, realm, steps, unlocked);
         }
     }
 
     /// What one does that found nothing: it copies the waker that its poll was given, of this name, and falls asleep with the
     /// copy. A waker of a task of another realm can't be found from here: it is called at once.
-    pub fn sleep<T, W, R>(
+    pub fn sleep<T: Output, W: OutsideWaker, R: Runtime>(
         &mut self,
         rt: R,
         state: &State<W>,
@@ -117,10 +112,6 @@ impl Ticker {
         steps: &mut Steps,
         unlocked: &mut Unlocked,
     ) -> Slept
-    where
-        T: Drop + 'static,
-        W: Wake + Drop + 'static,
-        R: Wait + Copy + Drop + 'static,
         requires named { name.now ≡ name_given waker.now }
         requires copies { steps.old ≡ step.Tick (tick_step.CopyWaker (sleeping who.now name.now)) ∷ [] }
         ensures steps { steps.new ≡ slept who.now name.now result }
@@ -131,16 +122,14 @@ impl Ticker {
             call_at_once(waker, name, who, steps, unlocked);
             return Slept::Called;
         }
-        let Some(copy) = SleeperWaker::of(waker, unlocked) else {
-            steps.follow(Saw::NoMemory);
+        let Some(copy) = steps.copy_waker(waker, name, who, unlocked) else {
             return Slept::NoMemory;
         };
-        steps.follow(Saw::Something);
         self.sleep_with(rt, state, realm, copy, name, who, steps, unlocked)
     }
 
     /// Falls asleep with a copy of the waker of this name. It has to search again where it wasn't asleep, or had been told.
-    fn sleep_with<T, W, R>(
+    fn sleep_with<T: Output, W: OutsideWaker, R: Runtime>(
         &mut self,
         rt: R,
         state: &State<W>,
@@ -151,27 +140,19 @@ impl Ticker {
         steps: &mut Steps,
         unlocked: &mut Unlocked,
     ) -> Slept
-    where
-        T: Drop + 'static,
-        W: Wake + Drop + 'static,
-        R: Wait + Copy + Drop + 'static,
         requires named { name_of copy.value ≡ name.now }
         requires falls { steps.old ≡ step.Tick (tick_step.FallAsleep (sleeping who.now name.now)) ∷ [] }
         ensures steps { steps.new ≡ slept who.now name.now result }
         ensures asleep { SleepsBy name.now self.new result }
         ensures stays { has_left self.new ≡ has_left self.old }
     {
-        match self.lie_down(&rt, state, copy, name, unlocked) {
-            Laid::Anew => {
-                steps.follow(Saw::Anew);
-                Slept::Anew
-            }
+        match steps.fall_asleep(self, copy, name, who, state, &rt, unlocked) {
+            Laid::Anew => Slept::Anew,
             Laid::Already(old) => {
-                old.sleep_on_without(self, rt, realm, name, who, steps, unlocked);
+                old.let_go_and_pay(rt, realm, steps, unlocked);
                 Slept::Still
             }
             Laid::Nowhere(waker) => {
-                steps.follow(Saw::Nowhere);
                 waker.wake_and_pay(rt, realm, who, steps, unlocked);
                 Slept::Called
             }
@@ -179,7 +160,7 @@ impl Ticker {
     }
 
     /// Falls asleep with this waker, of this name, in one section of the sleepers' lock.
-    fn lie_down<W: Drop, R: Wait>(
+    pub fn lie_down<W: Drop, R: Wait>(
         &mut self,
         rt: &R,
         state: &State<W>,
@@ -202,7 +183,7 @@ impl Ticker {
     }
 
     /// Wakes up, where it sleeps, in one section of the sleepers' lock. The waker that it had there is the answer.
-    fn stand_up<W: Drop, R: Wait>(
+    pub fn stand_up<W: Drop, R: Wait>(
         &mut self,
         rt: &R,
         state: &State<W>,
@@ -323,12 +304,10 @@ fn woken_up_with<W>(notified: bool, waker: Option<SleeperWaker<W>>) -> WokenUp<W
 }
 
 /// Whether it is a waker of a task of another realm.
-fn sleeps_elsewhere<T, W, R>(waker: &ExWaker<T, W, R>, realm: &'static ExRealm<T, W, R>) -> bool
-where
-    T: Drop + 'static,
-    W: Wake + Drop + 'static,
-    R: Wait + Copy + Drop + 'static,
-{
+fn sleeps_elsewhere<T: Output, W: OutsideWaker, R: Runtime>(
+    waker: &ExWaker<T, W, R>,
+    realm: &'static ExRealm<T, W, R>,
+) -> bool {
     match waker.identity() {
         Some(identity) => identity.realm != realm.number(),
         None => false,
@@ -337,23 +316,17 @@ where
 
 /// Calls the waker of this name that one was polled with, which can't be kept, at once.
 #[tactic(auto, using(crate::proofs::Calling::sleepers_is_kept, crate::proofs::Calling::sleepers_was_called))]
-fn call_at_once<T, W, R>(
+fn call_at_once<T: Output, W: OutsideWaker, R: Runtime>(
     waker: &ExWaker<T, W, R>,
     name: &Waker<TaskName>,
     who: &TickOrRun<()>,
     steps: &mut Steps,
     unlocked: &Unlocked,
 )
-where
-    T: Drop + 'static,
-    W: Wake + Drop + 'static,
-    R: Wait + Copy + Drop + 'static,
     requires named { name.now ≡ name_given waker.now }
     requires copies { steps.old ≡ step.Tick (tick_step.CopyWaker (sleeping who.now name.now)) ∷ [] }
     ensures { steps.new ≡ step.End reply.Pending ∷ [] }
 {
-    let _ = who;
-    steps.follow(Saw::Something);
-    steps.follow(Saw::Nowhere);
-    call_kept(waker, name, steps, unlocked);
+    steps.keep_nowhere(name, who);
+    steps.call_kept(waker, name, unlocked);
 }

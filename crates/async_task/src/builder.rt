@@ -1,11 +1,11 @@
 ghost use Rattle.std.specs.Prelude.{◌≡◌, IfOk, IfErr};
 ghost use Rattle.async_task.specs.Handles.{task_of};
 
+use crate::bounds::{Output, OutsideWaker};
 use crate::cell::{Held, Made, Parts, Realm, Scheduled};
 use crate::runnable::Runnable;
 use crate::schedule::Schedule;
 use crate::task::Task;
-use crate::wake::Wake;
 use std::sync::Wait;
 
 /// Makes tasks with metadata.
@@ -40,7 +40,7 @@ impl<M> Builder<M> {
     /// A task in this realm: the Runnable that begins it, and its handle. For want of memory the
     /// future, the schedule value and the metadata come back.
     #[inline(always)]
-    pub fn spawn<F, T, S, W, R>(
+    pub fn spawn<F: Drop + 'static, T: Output, S, W: OutsideWaker, R: Wait + Copy + Drop>(
         self,
         rt: R,
         realm: &'static Realm<F, T, S, M, W>,
@@ -48,12 +48,8 @@ impl<M> Builder<M> {
         schedule: S,
     ) -> Result<(Runnable<F, T, S, M, W, R>, Task<F, T, S, M, W, R>), Parts<F, S, M>>
     where
-        F: Drop + 'static,
-        T: Drop + 'static,
         S: Schedule<Scheduled<F, T, S, M, W, R>> + Drop + 'static,
         M: Copy + Drop + 'static,
-        W: Wake + Drop + 'static,
-        R: Wait + Copy + Drop,
         ensures one_task { IfOk result (λ both. both.0 ≡ task_of both.1) }
         ensures metadata { IfOk result (λ both. both.0.metadata ≡ self.metadata) }
         ensures here { IfOk result (λ both. both.0.identity.realm ≡ realm.now.number) }
@@ -88,18 +84,14 @@ impl<M> Builder<M> {
 /// A task with no metadata in this realm: the Runnable that begins it, and its handle. For want of
 /// memory the future and the schedule value come back.
 #[inline(always)]
-pub fn spawn<F, T, S, W, R>(
+pub fn spawn<F: Drop + 'static, T: Output, S, W: OutsideWaker, R: Wait + Copy + Drop>(
     rt: R,
     realm: &'static Realm<F, T, S, (), W>,
     future: F,
     schedule: S,
 ) -> Result<(Runnable<F, T, S, (), W, R>, Task<F, T, S, (), W, R>), Parts<F, S, ()>>
 where
-    F: Drop + 'static,
-    T: Drop + 'static,
     S: Schedule<Scheduled<F, T, S, (), W, R>> + Drop + 'static,
-    W: Wake + Drop + 'static,
-    R: Wait + Copy + Drop,
     ensures one_task { IfOk result (λ both. both.0 ≡ task_of both.1) }
     ensures here { IfOk result (λ both. both.0.identity.realm ≡ realm.now.number) }
     ensures future { IfErr result (λ back. back.future ≡ future) }

@@ -2,13 +2,13 @@ ghost use Rattle.std.specs.Prelude.{◌≡◌, ◌||◌, false, true};
 ghost use Rattle.async_task.specs.Polls.{FoundAt, found_if_any, gives};
 ghost use Rattle.task_word.specs.Tokens.{IsThere};
 
+use crate::bounds::{Output, OutsideWaker};
 use crate::cell::{Duty, Held, Place, Scheduled};
 use crate::errors::NoMemory;
 use crate::fallible::found;
 use crate::poll::{Future, Poll};
 use crate::polling::poll;
 use crate::schedule::Schedule;
-use crate::wake::Wake;
 use crate::waker::Awaiter;
 use std::marker::Model;
 use std::sync::Wait;
@@ -16,13 +16,11 @@ use std::sync::Wait;
 /// The end of a task that its handle closes. The first poll cancels it. It is ready once the future
 /// is dropped, with the output where that was there before. Its drop cancels the task too.
 #[must_use]
-pub struct Cancel<F, T, S, M, W, R>
+pub struct Cancel<F, T: Output, S, M, W: OutsideWaker, R>
 where
     F: Drop + 'static,
-    T: Drop + 'static,
     S: Schedule<Scheduled<F, T, S, M, W, R>> + Drop + 'static,
     M: Copy + Drop + 'static,
-    W: Wake + Drop + 'static,
     R: Wait + Copy + Drop,
 {
     held: Held<F, T, S, M, W, R>,
@@ -32,13 +30,11 @@ where
     ghost there: { IsThere handle.cell.now.board.shared handle.claim },
 }
 
-impl<F, T, S, M, W, R> Model for Cancel<F, T, S, M, W, R>
+impl<F, T: Output, S, M, W: OutsideWaker, R> Model for Cancel<F, T, S, M, W, R>
 where
     F: Drop + 'static,
-    T: Drop + 'static,
     S: Schedule<Scheduled<F, T, S, M, W, R>> + Drop + 'static,
     M: Copy + Drop + 'static,
-    W: Wake + Drop + 'static,
     R: Wait + Copy + Drop,
 {
     ghost use Rattle.std.specs.Prelude.{is_none};
@@ -55,13 +51,11 @@ where
     } };
 }
 
-impl<F, T, S, M, W, R> Cancel<F, T, S, M, W, R>
+impl<F, T: Output, S, M, W: OutsideWaker, R> Cancel<F, T, S, M, W, R>
 where
     F: Drop + 'static,
-    T: Drop + 'static,
     S: Schedule<Scheduled<F, T, S, M, W, R>> + Drop + 'static,
     M: Copy + Drop + 'static,
-    W: Wake + Drop + 'static,
     R: Wait + Copy + Drop,
 {
     /// What closes the task of this handle.
@@ -79,13 +73,12 @@ where
     }
 }
 
-impl<F, T, S, M, W, R> Future<Awaiter<F, T, S, M, W, R>> for Cancel<F, T, S, M, W, R>
+impl<F, T: Output, S, M, W: OutsideWaker, R> Future<Awaiter<F, T, S, M, W, R>>
+    for Cancel<F, T, S, M, W, R>
 where
     F: Drop + 'static,
-    T: Drop + 'static,
     S: Schedule<Scheduled<F, T, S, M, W, R>> + Drop + 'static,
     M: Copy + Drop + 'static,
-    W: Wake + Drop + 'static,
     R: Wait + Copy + Drop,
 {
     type Output = Result<Option<T>, NoMemory>;
@@ -105,13 +98,11 @@ where
     }
 }
 
-impl<F, T, S, M, W, R> Drop for Cancel<F, T, S, M, W, R>
+impl<F, T: Output, S, M, W: OutsideWaker, R> Drop for Cancel<F, T, S, M, W, R>
 where
     F: Drop + 'static,
-    T: Drop + 'static,
     S: Schedule<Scheduled<F, T, S, M, W, R>> + Drop + 'static,
     M: Copy + Drop + 'static,
-    W: Wake + Drop + 'static,
     R: Wait + Copy + Drop,
 {
     fn drop(self) {

@@ -10,6 +10,7 @@ mod scheduled;
 mod site;
 mod turns;
 
+use crate::bounds::Output;
 use crate::cell::fixed::{Fixed, Slot, no_task_s};
 pub(crate) use crate::cell::paying::pay_due;
 pub use crate::cell::resting::Detached;
@@ -141,10 +142,9 @@ struct Spot<F: 'static, T: 'static, S: 'static, M: 'static, W: 'static> {
     duty: Duty,
 }
 
-impl<F, T, S, M, W, R> Held<F, T, S, M, W, R>
+impl<F, T: Output, S, M, W, R> Held<F, T, S, M, W, R>
 where
     F: Drop + 'static,
-    T: Drop + 'static,
     S: Drop + 'static,
     M: Copy + Drop + 'static,
     W: Drop + 'static,
@@ -288,13 +288,12 @@ where
 
 /// The cell at a place that nobody else has. It is made where no task lay there before; for want of memory the place goes back.
 #[inline(always)]
-fn furnished<F, T, S, M, W>(
+fn furnished<F, T: Output, S, M, W>(
     realm: &'static Realm<F, T, S, M, W>,
     place: usize,
 ) -> Option<&'static Cell<F, T, S, M, W>>
 where
     F: Drop + 'static,
-    T: Drop + 'static,
     S: Drop + 'static,
     M: Copy + Drop + 'static,
     W: Drop + 'static,
@@ -314,14 +313,13 @@ where
 /// A new task in a cell that nobody has. One that isn't empty, as its place was taken for a free one, is passed over. All
 /// comes back where there is no place.
 #[inline(always)]
-fn make<F, T, S, M, W, R>(
+fn make<F, T: Output, S, M, W, R>(
     rt: &R,
     realm: &'static Realm<F, T, S, M, W>,
     parts: Parts<F, S, M>,
 ) -> Result<Spot<F, T, S, M, W>, Parts<F, S, M>>
 where
     F: Drop + 'static,
-    T: Drop + 'static,
     S: Drop + 'static,
     M: Copy + Drop + 'static,
     W: Drop + 'static,
@@ -354,14 +352,13 @@ where
 
 /// A new task in this cell, where it is empty; else all comes back.
 #[inline(always)]
-fn fill<F, T, S, M, W, R>(
+fn fill<F, T: Output, S, M, W, R>(
     rt: &R,
     cell: &'static Cell<F, T, S, M, W>,
     parts: Parts<F, S, M>,
 ) -> Result<(RunnableToken<F, T, W>, TaskToken<F, T, W>, Duty), Parts<F, S, M>>
 where
     F: Drop + 'static,
-    T: Drop + 'static,
     S: Drop + 'static,
     M: Copy + Drop + 'static,
     W: Drop + 'static,

@@ -1,23 +1,22 @@
 //! What `Debug` shows of the handles: the marks of the task at one moment, how many references it
 //! has, and its metadata; and of what rests in a cell: of which task it is.
+use crate::bounds::{Output, OutsideWaker};
 use crate::cell::{GoesBack, Held, Returning, Scheduled, StoredRunnable, StoredWaker};
 use crate::fallible::FallibleTask;
 use crate::runnable::Runnable;
 use crate::schedule::Schedule;
 use crate::stored_task::StoredTask;
 use crate::task::Task;
-use crate::wake::Wake;
 use std::fmt;
 use std::sync::Wait;
 
-fn show<F, T, S, M, W, R, D>(
+fn show<F, T: Output, S, M, W, R, D>(
     name: &str,
     held: &Held<F, T, S, M, W, R>,
     f: &mut fmt::Formatter<D>,
 ) -> fmt::Result
 where
     F: Drop + 'static,
-    T: Drop + 'static,
     S: Drop + 'static,
     M: Copy + fmt::Debug + Drop + 'static,
     W: Drop + 'static,
@@ -37,13 +36,11 @@ where
         .finish()
 }
 
-impl<F, T, S, M, W, R> fmt::Debug for Runnable<F, T, S, M, W, R>
+impl<F, T: Output, S, M, W: OutsideWaker, R> fmt::Debug for Runnable<F, T, S, M, W, R>
 where
     F: Drop + 'static,
-    T: Drop + 'static,
     S: Schedule<Scheduled<F, T, S, M, W, R>> + Drop + 'static,
     M: Copy + fmt::Debug + Drop + 'static,
-    W: Wake + Drop + 'static,
     R: Wait + Copy + Drop,
 {
     fn fmt<D: fmt::Write>(&self, f: &mut fmt::Formatter<D>) -> fmt::Result {
@@ -51,13 +48,11 @@ where
     }
 }
 
-impl<F, T, S, M, W, R> fmt::Debug for Task<F, T, S, M, W, R>
+impl<F, T: Output, S, M, W: OutsideWaker, R> fmt::Debug for Task<F, T, S, M, W, R>
 where
     F: Drop + 'static,
-    T: Drop + 'static,
     S: Schedule<Scheduled<F, T, S, M, W, R>> + Drop + 'static,
     M: Copy + fmt::Debug + Drop + 'static,
-    W: Wake + Drop + 'static,
     R: Wait + Copy + Drop,
 {
     fn fmt<D: fmt::Write>(&self, f: &mut fmt::Formatter<D>) -> fmt::Result {
@@ -65,13 +60,11 @@ where
     }
 }
 
-impl<F, T, S, M, W, R> fmt::Debug for FallibleTask<F, T, S, M, W, R>
+impl<F, T: Output, S, M, W: OutsideWaker, R> fmt::Debug for FallibleTask<F, T, S, M, W, R>
 where
     F: Drop + 'static,
-    T: Drop + 'static,
     S: Schedule<Scheduled<F, T, S, M, W, R>> + Drop + 'static,
     M: Copy + fmt::Debug + Drop + 'static,
-    W: Wake + Drop + 'static,
     R: Wait + Copy + Drop,
 {
     fn fmt<D: fmt::Write>(&self, f: &mut fmt::Formatter<D>) -> fmt::Result {

@@ -3,6 +3,7 @@ ghost use Rattle.async_task.specs.Handles.{task_of};
 ghost use Rattle.async_task.specs.Polls.{FoundAt, found_if_any, gives};
 ghost use Rattle.task_word.specs.Tokens.{IsThere};
 
+use crate::bounds::{Output, OutsideWaker};
 use crate::cancel::Cancel;
 use crate::cell::{Detached, Duty, Held, Place, Scheduled};
 use crate::errors::NoMemory;
@@ -10,20 +11,17 @@ use crate::look::Look;
 use crate::poll::{Future, Poll};
 use crate::polling::{Found, poll};
 use crate::schedule::Schedule;
-use crate::wake::Wake;
 use crate::waker::Awaiter;
 use std::marker::Model;
 use std::sync::Wait;
 
 /// The handle of a task whose closing is no error. Its drop cancels the task.
 #[must_use]
-pub struct FallibleTask<F, T, S, M, W, R>
+pub struct FallibleTask<F, T: Output, S, M, W: OutsideWaker, R>
 where
     F: Drop + 'static,
-    T: Drop + 'static,
     S: Schedule<Scheduled<F, T, S, M, W, R>> + Drop + 'static,
     M: Copy + Drop + 'static,
-    W: Wake + Drop + 'static,
     R: Wait + Copy + Drop,
 {
     pub(crate) held: Held<F, T, S, M, W, R>,
@@ -32,13 +30,11 @@ where
     ghost there: { IsThere handle.cell.now.board.shared handle.claim },
 }
 
-impl<F, T, S, M, W, R> Model for FallibleTask<F, T, S, M, W, R>
+impl<F, T: Output, S, M, W: OutsideWaker, R> Model for FallibleTask<F, T, S, M, W, R>
 where
     F: Drop + 'static,
-    T: Drop + 'static,
     S: Schedule<Scheduled<F, T, S, M, W, R>> + Drop + 'static,
     M: Copy + Drop + 'static,
-    W: Wake + Drop + 'static,
     R: Wait + Copy + Drop,
 {
     ghost use Rattle.async_task.specs.Handles.{Polling};
@@ -54,13 +50,11 @@ where
     } };
 }
 
-impl<F, T, S, M, W, R> FallibleTask<F, T, S, M, W, R>
+impl<F, T: Output, S, M, W: OutsideWaker, R> FallibleTask<F, T, S, M, W, R>
 where
     F: Drop + 'static,
-    T: Drop + 'static,
     S: Schedule<Scheduled<F, T, S, M, W, R>> + Drop + 'static,
     M: Copy + Drop + 'static,
-    W: Wake + Drop + 'static,
     R: Wait + Copy + Drop,
 {
     /// The metadata that the task was made with.
@@ -98,13 +92,12 @@ where
     }
 }
 
-impl<F, T, S, M, W, R> Future<Awaiter<F, T, S, M, W, R>> for FallibleTask<F, T, S, M, W, R>
+impl<F, T: Output, S, M, W: OutsideWaker, R> Future<Awaiter<F, T, S, M, W, R>>
+    for FallibleTask<F, T, S, M, W, R>
 where
     F: Drop + 'static,
-    T: Drop + 'static,
     S: Schedule<Scheduled<F, T, S, M, W, R>> + Drop + 'static,
     M: Copy + Drop + 'static,
-    W: Wake + Drop + 'static,
     R: Wait + Copy + Drop,
 {
     type Output = Result<Option<T>, NoMemory>;
@@ -131,13 +124,11 @@ pub fn found<T>(found: Found<T>) -> Poll<Result<Option<T>, NoMemory>>
     }
 }
 
-impl<F, T, S, M, W, R> Drop for FallibleTask<F, T, S, M, W, R>
+impl<F, T: Output, S, M, W: OutsideWaker, R> Drop for FallibleTask<F, T, S, M, W, R>
 where
     F: Drop + 'static,
-    T: Drop + 'static,
     S: Schedule<Scheduled<F, T, S, M, W, R>> + Drop + 'static,
     M: Copy + Drop + 'static,
-    W: Wake + Drop + 'static,
     R: Wait + Copy + Drop,
 {
     fn drop(self) {

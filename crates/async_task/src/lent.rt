@@ -1,9 +1,9 @@
 //! The waker that a poll is lent.
 ghost use Rattle.std.specs.Prelude.{◌≡◌, ◌↔◌, IsTrue, IfSome};
 
+use crate::bounds::{Output, OutsideWaker};
 use crate::cell::{Held, Realm, Scheduled};
 use crate::schedule::Schedule;
-use crate::wake::Wake;
 use crate::waker::TaskWaker;
 use std::marker::Model;
 use std::sync::Wait;
@@ -11,25 +11,21 @@ use std::sync::Wait;
 /// The waker of a task that is polled, as its poll is lent it. It has no reference of the task, since the run has the task for as
 /// long as the poll goes; who keeps a waker asks for one. A contract sees which task it is of.
 #[derive(Drop)]
-pub struct LentWaker<F, T, S, M, W, R>
+pub struct LentWaker<F, T: Output, S, M, W: OutsideWaker, R>
 where
     F: Drop + 'static,
-    T: Drop + 'static,
     S: Schedule<Scheduled<F, T, S, M, W, R>> + Drop + 'static,
     M: Copy + Drop + 'static,
-    W: Wake + Drop + 'static,
     R: Wait + Copy + Drop,
 {
     pub(crate) held: Held<F, T, S, M, W, R>,
 }
 
-impl<F, T, S, M, W, R> Model for LentWaker<F, T, S, M, W, R>
+impl<F, T: Output, S, M, W: OutsideWaker, R> Model for LentWaker<F, T, S, M, W, R>
 where
     F: Drop + 'static,
-    T: Drop + 'static,
     S: Schedule<Scheduled<F, T, S, M, W, R>> + Drop + 'static,
     M: Copy + Drop + 'static,
-    W: Wake + Drop + 'static,
     R: Wait + Copy + Drop,
 {
     ghost use Rattle.async_task.specs.Handles.{Handle};
@@ -39,13 +35,11 @@ where
     ghost view = { λ w. w.held };
 }
 
-impl<F, T, S, M, W, R> LentWaker<F, T, S, M, W, R>
+impl<F, T: Output, S, M, W: OutsideWaker, R> LentWaker<F, T, S, M, W, R>
 where
     F: Drop + 'static,
-    T: Drop + 'static,
     S: Schedule<Scheduled<F, T, S, M, W, R>> + Drop + 'static,
     M: Copy + Drop + 'static,
-    W: Wake + Drop + 'static,
     R: Wait + Copy + Drop,
 {
     /// Of the task that is about to be polled.

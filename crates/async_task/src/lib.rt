@@ -1,6 +1,7 @@
 //! One future, its handle and its wakers.
 #![tactic(auto)]
 
+mod bounds;
 mod builder;
 mod cancel;
 mod cell;
@@ -20,6 +21,7 @@ mod task;
 mod wake;
 mod waker;
 
+pub use bounds::{Output, OutsideWaker, Runtime};
 pub use builder::{Builder, spawn};
 pub use cancel::Cancel;
 pub use cell::{

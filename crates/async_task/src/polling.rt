@@ -4,6 +4,7 @@ ghost use Rattle.async_task.specs.Polls.{found_by, FoundAt, gives, IsTold};
 ghost use Rattle.task_word.specs.Handles.{IsHandleOf};
 ghost use Rattle.task_word.specs.Tokens.{IsThere};
 
+use crate::bounds::{Output, OutsideWaker};
 use crate::cell::{Held, Kept, Place, Scheduled, Site, TaskToken, kept, paid, pay_due};
 use crate::schedule::Schedule;
 use crate::wake::Wake;
@@ -27,17 +28,15 @@ pub enum Found<T> {
 /// Polls the handle. Where there is an answer already no waker is copied, so that such a poll
 /// takes no memory; else one copy is made. A waker of a task of another realm can't be kept: it is
 /// called at once.
-pub(crate) fn poll<F, T, S, M, W, R>(
+pub(crate) fn poll<F, T: Output, S, M, W: OutsideWaker, R>(
     held: &Held<F, T, S, M, W, R>,
     place: &mut Place<F, T, W>,
     waker: &Awaiter<F, T, S, M, W, R>,
 ) -> Found<T>
 where
     F: Drop + 'static,
-    T: Drop + 'static,
     S: Schedule<Scheduled<F, T, S, M, W, R>> + Drop + 'static,
     M: Copy + Drop + 'static,
-    W: Wake + Drop + 'static,
     R: Wait + Copy + Drop,
     requires { IsThere place.old.cell.now.board.shared place.old.claim }
     ensures there { IsThere place.new.cell.now.board.shared place.new.claim }
@@ -57,17 +56,15 @@ where
 
 /// The handle looks, and waits where there is no answer.
 #[inline(always)]
-fn looked<F, T, S, M, W, R>(
+fn looked<F, T: Output, S, M, W: OutsideWaker, R>(
     held: &Held<F, T, S, M, W, R>,
     token: TaskToken<F, T, W>,
     waker: &Awaiter<F, T, S, M, W, R>,
 ) -> (TaskToken<F, T, W>, Found<Given<T>>)
 where
     F: Drop + 'static,
-    T: Drop + 'static,
     S: Schedule<Scheduled<F, T, S, M, W, R>> + Drop + 'static,
     M: Copy + Drop + 'static,
-    W: Wake + Drop + 'static,
     R: Wait + Copy + Drop,
     ensures same { result.0.cell.now ≡ token.entry.cell.now }
     ensures found { FoundAt token.entry.cell.now.board.shared result.0.claim result.1 }
@@ -84,7 +81,7 @@ where
 
 /// The waker is registered, and the handle looks again.
 #[inline(always)]
-fn registered<F, T, S, M, W, R>(
+fn registered<F, T: Output, S, M, W: OutsideWaker, R>(
     held: &Held<F, T, S, M, W, R>,
     waiting: WaitingTask<F, T, Kept<W>>,
     kept: Kept<W>,
@@ -92,10 +89,8 @@ fn registered<F, T, S, M, W, R>(
 ) -> (TaskToken<F, T, W>, Found<Given<T>>)
 where
     F: Drop + 'static,
-    T: Drop + 'static,
     S: Schedule<Scheduled<F, T, S, M, W, R>> + Drop + 'static,
     M: Copy + Drop + 'static,
-    W: Wake + Drop + 'static,
     R: Wait + Copy + Drop,
     ensures same { result.0.cell.now ≡ waiting.entry.task.cell.now }
     ensures found { FoundAt waiting.entry.task.cell.now.board.shared result.0.claim result.1 }
@@ -121,17 +116,15 @@ where
 
 /// What the poll has found. An awaiter that is owed a call is called.
 #[inline(always)]
-fn answered<F, T, S, M, W, R>(
+fn answered<F, T: Output, S, M, W: OutsideWaker, R>(
     held: &Held<F, T, S, M, W, R>,
     owed: Owed,
     polled: Polled<F, T, Kept<W>>,
 ) -> (TaskToken<F, T, W>, Found<Given<T>>)
 where
     F: Drop + 'static,
-    T: Drop + 'static,
     S: Schedule<Scheduled<F, T, S, M, W, R>> + Drop + 'static,
     M: Copy + Drop + 'static,
-    W: Wake + Drop + 'static,
     R: Wait + Copy + Drop,
     ensures found { result.1 ≡ found_by polled.output owed.answer }
     ensures same { IsHandleOf result.0.cell.now polled.task }
@@ -152,16 +145,14 @@ where
 /// A copy of the waker, as the cell is to keep it. Of a waker of a task that is its place, and one
 /// reference more of that task.
 #[inline(always)]
-fn to_keep<F, T, S, M, W, R>(
+fn to_keep<F, T: Output, S, M, W: OutsideWaker, R>(
     held: &Held<F, T, S, M, W, R>,
     waker: &Awaiter<F, T, S, M, W, R>,
 ) -> Option<Kept<W>>
 where
     F: Drop + 'static,
-    T: Drop + 'static,
     S: Schedule<Scheduled<F, T, S, M, W, R>> + Drop + 'static,
     M: Copy + Drop + 'static,
-    W: Wake + Drop + 'static,
     R: Wait + Copy + Drop,
 {
     if is_foreign(held, waker) {
@@ -178,16 +169,14 @@ where
 
 /// Whether it is a waker of a task of another realm.
 #[inline(always)]
-fn is_foreign<F, T, S, M, W, R>(
+fn is_foreign<F, T: Output, S, M, W: OutsideWaker, R>(
     held: &Held<F, T, S, M, W, R>,
     waker: &Awaiter<F, T, S, M, W, R>,
 ) -> bool
 where
     F: Drop + 'static,
-    T: Drop + 'static,
     S: Schedule<Scheduled<F, T, S, M, W, R>> + Drop + 'static,
     M: Copy + Drop + 'static,
-    W: Wake + Drop + 'static,
     R: Wait + Copy + Drop,
 {
     match waker.identity() {

@@ -2,6 +2,7 @@ ghost use Rattle.std.specs.Prelude.{◌≡◌, IfOk, MatchOption, None, Some};
 ghost use Rattle.async_task.specs.Rests.{was_woken_by};
 ghost use Rattle.async_task.specs.Runs.{BeginsAt, was_closed};
 
+use crate::bounds::{Output, OutsideWaker};
 use crate::cell::{
     Due, Held, Kept, Remains, Rest, RunnableToken, Scheduled, Site, Woken, pay_due, was_woken,
 };
@@ -10,7 +11,6 @@ use crate::look::TooManyReferences;
 use crate::poll::Future;
 use crate::running::Running;
 use crate::schedule::{Schedule, ScheduleInfo};
-use crate::wake::Wake;
 use crate::waker::{Awaiter, TaskWaker};
 use std::marker::Model;
 use std::sync::Wait;
@@ -18,26 +18,22 @@ use task_word::tokens::{ClosedRun, ClosedRunnable};
 
 /// A task that is to be run: at most one is there of a task. Its drop closes the task, and drops the
 /// future.
-pub struct Runnable<F, T, S, M, W, R>
+pub struct Runnable<F, T: Output, S, M, W: OutsideWaker, R>
 where
     F: Drop + 'static,
-    T: Drop + 'static,
     S: Schedule<Scheduled<F, T, S, M, W, R>> + Drop + 'static,
     M: Copy + Drop + 'static,
-    W: Wake + Drop + 'static,
     R: Wait + Copy + Drop,
 {
     pub(crate) held: Held<F, T, S, M, W, R>,
     pub(crate) token: RunnableToken<F, T, W>,
 }
 
-impl<F, T, S, M, W, R> Model for Runnable<F, T, S, M, W, R>
+impl<F, T: Output, S, M, W: OutsideWaker, R> Model for Runnable<F, T, S, M, W, R>
 where
     F: Drop + 'static,
-    T: Drop + 'static,
     S: Schedule<Scheduled<F, T, S, M, W, R>> + Drop + 'static,
     M: Copy + Drop + 'static,
-    W: Wake + Drop + 'static,
     R: Wait + Copy + Drop,
 {
     ghost use Rattle.async_task.specs.Handles.{Handle};
@@ -49,13 +45,11 @@ where
 
 /// What a Runnable begins.
 #[must_use]
-pub enum Started<F, T, S, M, W, R>
+pub enum Started<F, T: Output, S, M, W: OutsideWaker, R>
 where
     F: Drop + 'static,
-    T: Drop + 'static,
     S: Schedule<Scheduled<F, T, S, M, W, R>> + Drop + 'static,
     M: Copy + Drop + 'static,
-    W: Wake + Drop + 'static,
     R: Wait + Copy + Drop,
 {
     /// The future is polled, with the run's waker, and the run is then settled.
@@ -74,13 +68,11 @@ pub(crate) enum Closed<F: 'static, T: 'static, W: 'static> {
 
 /// A call that closes a task whose future is being dropped. It has no drop: it is finished.
 #[must_use]
-pub struct Closing<F, T, S, M, W, R>
+pub struct Closing<F, T: Output, S, M, W: OutsideWaker, R>
 where
     F: Drop + 'static,
-    T: Drop + 'static,
     S: Schedule<Scheduled<F, T, S, M, W, R>> + Drop + 'static,
     M: Copy + Drop + 'static,
-    W: Wake + Drop + 'static,
     R: Wait + Copy + Drop,
 {
     pub(crate) held: Held<F, T, S, M, W, R>,
@@ -89,13 +81,11 @@ where
 
 /// A poll that gave no output, while its task is neither closed nor out of reach. It has no drop: it is finished.
 #[must_use]
-pub struct Pause<F, T, S, M, W, R>
+pub struct Pause<F, T: Output, S, M, W: OutsideWaker, R>
 where
     F: Drop + 'static,
-    T: Drop + 'static,
     S: Schedule<Scheduled<F, T, S, M, W, R>> + Drop + 'static,
     M: Copy + Drop + 'static,
-    W: Wake + Drop + 'static,
     R: Wait + Copy + Drop,
 {
     pub(crate) held: Held<F, T, S, M, W, R>,
@@ -104,13 +94,11 @@ where
 
 /// How a run ends.
 #[must_use]
-pub enum RunEnd<F, T, S, M, W, R>
+pub enum RunEnd<F, T: Output, S, M, W: OutsideWaker, R>
 where
     F: Drop + 'static,
-    T: Drop + 'static,
     S: Schedule<Scheduled<F, T, S, M, W, R>> + Drop + 'static,
     M: Copy + Drop + 'static,
-    W: Wake + Drop + 'static,
     R: Wait + Copy + Drop,
 {
     /// It is over: the future gave its output.
@@ -123,13 +111,11 @@ where
     Drop(F, Closing<F, T, S, M, W, R>),
 }
 
-impl<F, T, S, M, W, R> Runnable<F, T, S, M, W, R>
+impl<F, T: Output, S, M, W: OutsideWaker, R> Runnable<F, T, S, M, W, R>
 where
     F: Drop + 'static,
-    T: Drop + 'static,
     S: Schedule<Scheduled<F, T, S, M, W, R>> + Drop + 'static,
     M: Copy + Drop + 'static,
-    W: Wake + Drop + 'static,
     R: Wait + Copy + Drop,
 {
     /// The metadata that the task was made with.
@@ -189,13 +175,11 @@ where
     }
 }
 
-impl<F, T, S, M, W, R> Runnable<F, T, S, M, W, R>
+impl<F, T: Output, S, M, W: OutsideWaker, R> Runnable<F, T, S, M, W, R>
 where
     F: Future<Awaiter<F, T, S, M, W, R>, Output = T> + Drop + 'static,
-    T: Drop + 'static,
     S: Schedule<Scheduled<F, T, S, M, W, R>> + Drop + 'static,
     M: Copy + Drop + 'static,
-    W: Wake + Drop + 'static,
     R: Wait + Copy + Drop,
 {
     /// Polls the future once, or drops it where the task is closed. The answer is true exactly
@@ -213,13 +197,11 @@ where
     }
 }
 
-impl<F, T, S, M, W, R> Closing<F, T, S, M, W, R>
+impl<F, T: Output, S, M, W: OutsideWaker, R> Closing<F, T, S, M, W, R>
 where
     F: Drop + 'static,
-    T: Drop + 'static,
     S: Schedule<Scheduled<F, T, S, M, W, R>> + Drop + 'static,
     M: Copy + Drop + 'static,
-    W: Wake + Drop + 'static,
     R: Wait + Copy + Drop,
 {
     /// Whether the task was closed: else nobody can reach it any more.
@@ -245,13 +227,11 @@ where
     }
 }
 
-impl<F, T, S, M, W, R> Pause<F, T, S, M, W, R>
+impl<F, T: Output, S, M, W: OutsideWaker, R> Pause<F, T, S, M, W, R>
 where
     F: Drop + 'static,
-    T: Drop + 'static,
     S: Schedule<Scheduled<F, T, S, M, W, R>> + Drop + 'static,
     M: Copy + Drop + 'static,
-    W: Wake + Drop + 'static,
     R: Wait + Copy + Drop,
 {
     /// Ends the call. The answer is whether the task was woken during the poll, and was handed to its
@@ -291,13 +271,11 @@ where
     }
 }
 
-impl<F, T, S, M, W, R> Drop for Runnable<F, T, S, M, W, R>
+impl<F, T: Output, S, M, W: OutsideWaker, R> Drop for Runnable<F, T, S, M, W, R>
 where
     F: Drop + 'static,
-    T: Drop + 'static,
     S: Schedule<Scheduled<F, T, S, M, W, R>> + Drop + 'static,
     M: Copy + Drop + 'static,
-    W: Wake + Drop + 'static,
     R: Wait + Copy + Drop,
 {
     fn drop(self) {

@@ -1,11 +1,11 @@
 ghost use Rattle.std.specs.Prelude.{◌≡◌, true};
 ghost use Rattle.async_task.specs.Awaiters.{is_lent};
 
+use crate::bounds::{Output, OutsideWaker};
 use crate::cell::{Kept, Remains, Scheduled, paid};
 use crate::poll::{Future, Poll};
 use crate::runnable::{Closed, Closing, Pause, RunEnd};
 use crate::schedule::Schedule;
-use crate::wake::Wake;
 use crate::waker::Awaiter;
 use std::sync::Wait;
 use task_moves::local_task::Back;
@@ -13,13 +13,11 @@ use task_word::tokens::ReadyRun;
 
 /// A run whose future is being polled. It has no drop: it is settled.
 #[must_use]
-pub struct Running<F, T, S, M, W, R>
+pub struct Running<F, T: Output, S, M, W: OutsideWaker, R>
 where
     F: Drop + 'static,
-    T: Drop + 'static,
     S: Schedule<Scheduled<F, T, S, M, W, R>> + Drop + 'static,
     M: Copy + Drop + 'static,
-    W: Wake + Drop + 'static,
     R: Wait + Copy + Drop,
 {
     pub(crate) waker: Awaiter<F, T, S, M, W, R>,
@@ -27,13 +25,11 @@ where
     ghost lent: { is_lent waker ≡ true },
 }
 
-impl<F, T, S, M, W, R> Running<F, T, S, M, W, R>
+impl<F, T: Output, S, M, W: OutsideWaker, R> Running<F, T, S, M, W, R>
 where
     F: Future<Awaiter<F, T, S, M, W, R>, Output = T> + Drop + 'static,
-    T: Drop + 'static,
     S: Schedule<Scheduled<F, T, S, M, W, R>> + Drop + 'static,
     M: Copy + Drop + 'static,
-    W: Wake + Drop + 'static,
     R: Wait + Copy + Drop,
 {
     #[inline(always)]
@@ -58,13 +54,11 @@ where
     }
 }
 
-impl<F, T, S, M, W, R> Running<F, T, S, M, W, R>
+impl<F, T: Output, S, M, W: OutsideWaker, R> Running<F, T, S, M, W, R>
 where
     F: Drop + 'static,
-    T: Drop + 'static,
     S: Schedule<Scheduled<F, T, S, M, W, R>> + Drop + 'static,
     M: Copy + Drop + 'static,
-    W: Wake + Drop + 'static,
     R: Wait + Copy + Drop,
 {
     ghost use Rattle.async_task.specs.Runs.{EndsRun};

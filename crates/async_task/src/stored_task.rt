@@ -1,11 +1,11 @@
 ghost use Rattle.std.specs.Prelude.{◌≡◌, IfErr, IfOk};
 ghost use Rattle.async_task.specs.Handles.{task_of};
 
+use crate::bounds::{Output, OutsideWaker};
 use crate::cell::{GoesBack, Identity, Parked, Realm, Scheduled, Thing, find_with};
 use crate::realm::Returns;
 use crate::schedule::Schedule;
 use crate::task::Task;
-use crate::wake::Wake;
 use std::marker::Model;
 use std::sync::Wait;
 
@@ -53,18 +53,14 @@ impl<M> StoredTask<M> {
 
     /// The handle that was stored. It takes no memory. Where it is of another realm it comes back; so it would where no handle
     /// rested at its place, which tests exclude and no clause does.
-    pub fn redeem<F, T, S, W, R>(
+    pub fn redeem<F: Drop + 'static, T: Output, S, W: OutsideWaker, R: Wait + Copy + Drop>(
         self,
         rt: R,
         realm: &'static Realm<F, T, S, M, W>,
     ) -> Result<Task<F, T, S, M, W, R>, Self>
     where
-        F: Drop + 'static,
-        T: Drop + 'static,
         S: Schedule<Scheduled<F, T, S, M, W, R>> + Drop + 'static,
         M: Copy + Drop + 'static,
-        W: Wake + Drop + 'static,
-        R: Wait + Copy + Drop,
         ensures found { IfOk result (λ found. task_of found ≡ self) }
         ensures here { IfOk result (λ found. found.identity.realm ≡ realm.now.number) }
         ensures back { IfErr result (λ back. back ≡ self) }

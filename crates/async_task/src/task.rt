@@ -3,6 +3,7 @@ ghost use Rattle.async_task.specs.Handles.{task_of};
 ghost use Rattle.async_task.specs.Polls.{FoundAt, found_in, gives};
 ghost use Rattle.task_word.specs.Tokens.{IsThere};
 
+use crate::bounds::{Output, OutsideWaker};
 use crate::cancel::Cancel;
 use crate::cell::{Detached, Duty, Held, Place, Scheduled, TaskToken, park};
 use crate::fallible::FallibleTask;
@@ -11,7 +12,6 @@ use crate::poll::{Future, Poll};
 use crate::polling::{Found, poll};
 use crate::schedule::Schedule;
 use crate::stored_task::StoredTask;
-use crate::wake::Wake;
 use crate::waker::Awaiter;
 use std::marker::Model;
 use std::sync::Wait;
@@ -27,13 +27,11 @@ pub enum TaskError {
 
 /// The handle of a task. It is polled for the output. Its drop cancels the task.
 #[must_use]
-pub struct Task<F, T, S, M, W, R>
+pub struct Task<F, T: Output, S, M, W: OutsideWaker, R>
 where
     F: Drop + 'static,
-    T: Drop + 'static,
     S: Schedule<Scheduled<F, T, S, M, W, R>> + Drop + 'static,
     M: Copy + Drop + 'static,
-    W: Wake + Drop + 'static,
     R: Wait + Copy + Drop,
 {
     pub(crate) held: Held<F, T, S, M, W, R>,
@@ -42,13 +40,11 @@ where
     ghost there: { IsThere handle.cell.now.board.shared handle.claim },
 }
 
-impl<F, T, S, M, W, R> Model for Task<F, T, S, M, W, R>
+impl<F, T: Output, S, M, W: OutsideWaker, R> Model for Task<F, T, S, M, W, R>
 where
     F: Drop + 'static,
-    T: Drop + 'static,
     S: Schedule<Scheduled<F, T, S, M, W, R>> + Drop + 'static,
     M: Copy + Drop + 'static,
-    W: Wake + Drop + 'static,
     R: Wait + Copy + Drop,
 {
     ghost use Rattle.async_task.specs.Handles.{Polling};
@@ -64,13 +60,11 @@ where
     } };
 }
 
-impl<F, T, S, M, W, R> Task<F, T, S, M, W, R>
+impl<F, T: Output, S, M, W: OutsideWaker, R> Task<F, T, S, M, W, R>
 where
     F: Drop + 'static,
-    T: Drop + 'static,
     S: Schedule<Scheduled<F, T, S, M, W, R>> + Drop + 'static,
     M: Copy + Drop + 'static,
-    W: Wake + Drop + 'static,
     R: Wait + Copy + Drop,
 {
     pub(crate) fn of(held: Held<F, T, S, M, W, R>, token: TaskToken<F, T, W>, duty: Duty) -> Self
@@ -133,13 +127,12 @@ where
     }
 }
 
-impl<F, T, S, M, W, R> Future<Awaiter<F, T, S, M, W, R>> for Task<F, T, S, M, W, R>
+impl<F, T: Output, S, M, W: OutsideWaker, R> Future<Awaiter<F, T, S, M, W, R>>
+    for Task<F, T, S, M, W, R>
 where
     F: Drop + 'static,
-    T: Drop + 'static,
     S: Schedule<Scheduled<F, T, S, M, W, R>> + Drop + 'static,
     M: Copy + Drop + 'static,
-    W: Wake + Drop + 'static,
     R: Wait + Copy + Drop,
 {
     type Output = Result<T, TaskError>;
@@ -166,13 +159,11 @@ fn answer<T>(found: Found<T>) -> Poll<Result<T, TaskError>>
     }
 }
 
-impl<F, T, S, M, W, R> Drop for Task<F, T, S, M, W, R>
+impl<F, T: Output, S, M, W: OutsideWaker, R> Drop for Task<F, T, S, M, W, R>
 where
     F: Drop + 'static,
-    T: Drop + 'static,
     S: Schedule<Scheduled<F, T, S, M, W, R>> + Drop + 'static,
     M: Copy + Drop + 'static,
-    W: Wake + Drop + 'static,
     R: Wait + Copy + Drop,
 {
     fn drop(self) {

@@ -1,6 +1,7 @@
 ghost use Rattle.std.specs.Prelude.{◌≡◌, ◌↔◌, IsTrue, IfSome, MatchOption, None};
 ghost use Rattle.async_task.specs.Awaiters.{IsTaskS};
 
+use crate::bounds::{Output, OutsideWaker};
 use crate::cell::{Held, Identity, Realm, Scheduled, StoredWaker, WakerToken};
 use crate::lent::LentWaker;
 use crate::schedule::Schedule;
@@ -9,26 +10,22 @@ use std::marker::Model;
 use std::sync::Wait;
 
 /// A waker of a task, which has one of its references. A contract sees which task it is of.
-pub struct TaskWaker<F, T, S, M, W, R>
+pub struct TaskWaker<F, T: Output, S, M, W: OutsideWaker, R>
 where
     F: Drop + 'static,
-    T: Drop + 'static,
     S: Schedule<Scheduled<F, T, S, M, W, R>> + Drop + 'static,
     M: Copy + Drop + 'static,
-    W: Wake + Drop + 'static,
     R: Wait + Copy + Drop,
 {
     held: Held<F, T, S, M, W, R>,
     token: WakerToken<F, T, W>,
 }
 
-impl<F, T, S, M, W, R> Model for TaskWaker<F, T, S, M, W, R>
+impl<F, T: Output, S, M, W: OutsideWaker, R> Model for TaskWaker<F, T, S, M, W, R>
 where
     F: Drop + 'static,
-    T: Drop + 'static,
     S: Schedule<Scheduled<F, T, S, M, W, R>> + Drop + 'static,
     M: Copy + Drop + 'static,
-    W: Wake + Drop + 'static,
     R: Wait + Copy + Drop,
 {
     ghost use Rattle.async_task.specs.Handles.{Handle};
@@ -40,13 +37,11 @@ where
 
 /// The one type of waker that futures are polled with, and that handles keep.
 #[derive(Drop)]
-pub enum Awaiter<F, T, S, M, W, R>
+pub enum Awaiter<F, T: Output, S, M, W: OutsideWaker, R>
 where
     F: Drop + 'static,
-    T: Drop + 'static,
     S: Schedule<Scheduled<F, T, S, M, W, R>> + Drop + 'static,
     M: Copy + Drop + 'static,
-    W: Wake + Drop + 'static,
     R: Wait + Copy + Drop,
 {
     /// Of a task.
@@ -57,13 +52,11 @@ where
     Outside(W),
 }
 
-impl<F, T, S, M, W, R> TaskWaker<F, T, S, M, W, R>
+impl<F, T: Output, S, M, W: OutsideWaker, R> TaskWaker<F, T, S, M, W, R>
 where
     F: Drop + 'static,
-    T: Drop + 'static,
     S: Schedule<Scheduled<F, T, S, M, W, R>> + Drop + 'static,
     M: Copy + Drop + 'static,
-    W: Wake + Drop + 'static,
     R: Wait + Copy + Drop,
 {
     /// A waker that has this reference.
@@ -96,13 +89,11 @@ where
     }
 }
 
-impl<F, T, S, M, W, R> Wake for TaskWaker<F, T, S, M, W, R>
+impl<F, T: Output, S, M, W: OutsideWaker, R> Wake for TaskWaker<F, T, S, M, W, R>
 where
     F: Drop + 'static,
-    T: Drop + 'static,
     S: Schedule<Scheduled<F, T, S, M, W, R>> + Drop + 'static,
     M: Copy + Drop + 'static,
-    W: Wake + Drop + 'static,
     R: Wait + Copy + Drop,
 {
     ghost use Rattle.std.specs.Prelude.{◌↔◌, IsTrue, IfSome};
@@ -137,13 +128,11 @@ where
     }
 }
 
-impl<F, T, S, M, W, R> Drop for TaskWaker<F, T, S, M, W, R>
+impl<F, T: Output, S, M, W: OutsideWaker, R> Drop for TaskWaker<F, T, S, M, W, R>
 where
     F: Drop + 'static,
-    T: Drop + 'static,
     S: Schedule<Scheduled<F, T, S, M, W, R>> + Drop + 'static,
     M: Copy + Drop + 'static,
-    W: Wake + Drop + 'static,
     R: Wait + Copy + Drop,
 {
     fn drop(self) {
@@ -152,13 +141,11 @@ where
     }
 }
 
-impl<F, T, S, M, W, R> Awaiter<F, T, S, M, W, R>
+impl<F, T: Output, S, M, W: OutsideWaker, R> Awaiter<F, T, S, M, W, R>
 where
     F: Drop + 'static,
-    T: Drop + 'static,
     S: Schedule<Scheduled<F, T, S, M, W, R>> + Drop + 'static,
     M: Copy + Drop + 'static,
-    W: Wake + Drop + 'static,
     R: Wait + Copy + Drop,
 {
     ghost use Rattle.async_task.specs.Awaiters.{identity_of};
@@ -188,13 +175,11 @@ where
     }
 }
 
-impl<F, T, S, M, W, R> Wake for Awaiter<F, T, S, M, W, R>
+impl<F, T: Output, S, M, W: OutsideWaker, R> Wake for Awaiter<F, T, S, M, W, R>
 where
     F: Drop + 'static,
-    T: Drop + 'static,
     S: Schedule<Scheduled<F, T, S, M, W, R>> + Drop + 'static,
     M: Copy + Drop + 'static,
-    W: Wake + Drop + 'static,
     R: Wait + Copy + Drop,
 {
     ghost use Rattle.std.specs.Prelude.{◌≡◌, false, IsTrue, IfSome};
@@ -252,15 +237,13 @@ where
 }
 
 /// The waker of a task, as an awaiter.
-fn of_task<F, T, S, M, W, R>(
+fn of_task<F, T: Output, S, M, W: OutsideWaker, R>(
     waker: Option<TaskWaker<F, T, S, M, W, R>>,
 ) -> Option<Awaiter<F, T, S, M, W, R>>
 where
     F: Drop + 'static,
-    T: Drop + 'static,
     S: Schedule<Scheduled<F, T, S, M, W, R>> + Drop + 'static,
     M: Copy + Drop + 'static,
-    W: Wake + Drop + 'static,
     R: Wait + Copy + Drop,
     ensures { MatchOption waker (result ≡ None) (λ waker. IfSome result (IsTaskS waker)) }
 {

@@ -11,14 +11,13 @@ mod sim;
 mod steps;
 mod words;
 
-use async_task::Future;
+use async_task::{Future, Runtime};
 use line::Line;
 use runs::Realms;
 use std::env;
 use std::process::ExitCode;
 use std::random::RandomSource;
 use std::rt::{Clock, Env};
-use std::sync::Wait;
 use std::thread::Threads;
 use std::time::Duration;
 use words::{Asked, named, read_words};
@@ -66,18 +65,7 @@ where
     L: Chain<R> + Future<Waker<R>, Output = u64> + Drop,
     P: Worker<R> + Sync + Drop,
     J: JobSite<R, Gate = Open> + Sync + Drop,
-    R: AllocGlobal
-        + Env
-        + Print
-        + Eprint
-        + Clock
-        + RandomSource
-        + Wait
-        + Threads
-        + Sync
-        + Copy
-        + Drop
-        + 'static,
+    R: Runtime + AllocGlobal + Env + Print + Eprint + Clock + RandomSource + Threads + Sync,
 {
     match arguments(rt)? {
         Asked::List => list(rt),
@@ -116,17 +104,7 @@ where
     L: Chain<R> + Future<Waker<R>, Output = u64> + Drop,
     P: Worker<R> + Sync + Drop,
     J: JobSite<R, Gate = Open> + Sync + Drop,
-    R: AllocGlobal
-        + Print
-        + Eprint
-        + Clock
-        + RandomSource
-        + Wait
-        + Threads
-        + Sync
-        + Copy
-        + Drop
-        + 'static,
+    R: Runtime + AllocGlobal + Print + Eprint + Clock + RandomSource + Threads + Sync,
 {
     let timing = runs::run::<L, P, J, R>(workload.work(), rt, realms, ops)?;
     eprintln!(rt; "{} moved {}", workload.name(), timing.moved)?;
@@ -145,7 +123,7 @@ where
     L: Chain<R> + Future<Waker<R>, Output = u64> + Drop,
     P: Worker<R> + Sync + Drop,
     J: JobSite<R, Gate = Open> + Sync + Drop,
-    R: AllocGlobal + Print + Clock + RandomSource + Wait + Threads + Sync + Copy + Drop + 'static,
+    R: Runtime + AllocGlobal + Print + Clock + RandomSource + Threads + Sync,
 {
     let timing = runs::run::<L, P, J, R>(workload.work(), rt, realms, ops)?;
     let line = Line {

@@ -1,9 +1,8 @@
 use crate::{local, sim, steps};
-use async_task::Future;
+use async_task::{Future, Runtime};
 use std::alloc::AllocGlobal;
 use std::random::RandomSource;
 use std::rt::Clock;
-use std::sync::Wait;
 use std::thread::Threads;
 use workloads::executor::{self, Chain, Futures, Waker, Worker};
 use workloads::job::{self, JobRealm, JobSite, Open};
@@ -13,7 +12,7 @@ use workloads::{Fault, Timing, base, on_queue_of_one, on_shared_queue};
 
 /// The realms in which the tasks lie.
 #[derive(Drop)]
-pub struct Realms<R: Wait + Copy + Drop + 'static> {
+pub struct Realms<R: Runtime> {
     pub tasks: &'static Tasks<R>,
     pub futures: &'static Futures<R>,
     pub jobs: &'static JobRealm<R>,
@@ -26,7 +25,7 @@ where
     L: Chain<R> + Future<Waker<R>, Output = u64> + Drop,
     P: Worker<R> + Sync + Drop,
     J: JobSite<R, Gate = Open> + Sync + Drop,
-    R: AllocGlobal + Clock + RandomSource + Wait + Threads + Sync + Copy + Drop + 'static,
+    R: Runtime + AllocGlobal + Clock + RandomSource + Threads + Sync,
 {
     match work {
         Work::FetchAdd => base::fetch_add(rt, ops),

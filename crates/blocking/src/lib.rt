@@ -3,7 +3,7 @@
 
 ghost use Rattle.std.specs.Prelude.{◌≡◌, IfErr};
 
-use async_task::{Awaiter, Future, Poll, Schedule, Scheduled, Wake};
+use async_task::{Awaiter, Future, Output, Poll, Schedule, Scheduled, Wake};
 use crossbeam_utils::sync::{Parker, Unparker};
 use std::alloc::{AllocError, Global};
 use std::sync::Wait;
@@ -42,10 +42,9 @@ fn pair(alloc: Global) -> Result<(Parker, ThreadWaker), AllocError> {
     Ok((parker, waker))
 }
 
-impl<F, T, S, M, R> From<ThreadWaker> for Awaiter<F, T, S, M, ThreadWaker, R>
+impl<F, T: Output, S, M, R> From<ThreadWaker> for Awaiter<F, T, S, M, ThreadWaker, R>
 where
     F: Drop + 'static,
-    T: Drop + 'static,
     S: Schedule<Scheduled<F, T, S, M, ThreadWaker, R>> + Drop + 'static,
     M: Copy + Drop + 'static,
     R: Wait + Copy + Drop,
@@ -57,11 +56,10 @@ where
 
 /// Polls the future on this thread until it is ready, and answers its output. Between two polls the thread parks until
 /// its waker is woken. For want of memory for the parker the future comes back, never polled.
-pub fn block_on<K, F, R>(rt: &R, alloc: Global, future: F) -> Result<F::Output, F>
+pub fn block_on<K, F, R: Wait>(rt: &R, alloc: Global, future: F) -> Result<F::Output, F>
 where
     K: From<ThreadWaker> + Drop,
     F: Future<K> + Drop,
-    R: Wait,
     ensures { IfErr result (λ back. back ≡ future) }
 {
     let (parker, thread) = match pair(alloc) {

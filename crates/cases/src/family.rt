@@ -130,17 +130,12 @@ impl Family {
     }
 
     /// What it shows of a script, by the one of these players that plays it. The error is a want of memory.
-    pub fn play<E, T, R>(
+    pub fn play<E: Plays, T: PlaysTasks, R: AllocGlobal + RandomSource + Wait + Copy + Drop>(
         self,
         rt: R,
         players: &mut Players<E, T>,
         script: &[u8],
-    ) -> Result<Shown, AllocError>
-    where
-        E: Plays,
-        T: PlaysTasks,
-        R: AllocGlobal + RandomSource + Wait + Copy + Drop,
-    {
+    ) -> Result<Shown, AllocError> {
         match self {
             Family::Machine => machine(rt.alloc(), script),
             Family::Executor => shown_by_executor(players.executors.play(script)),

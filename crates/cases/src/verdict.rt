@@ -32,17 +32,12 @@ pub struct Difference<'a> {
 
 /// Plays the cases of a text, one after the other. The errors are `NoMemory`, and `NoCase` where the text goes on with what is no
 /// case.
-pub fn judged<'a, E, T, R>(
+pub fn judged<'a, E: Plays, T: PlaysTasks, R: AllocGlobal + RandomSource + Wait + Copy + Drop>(
     rt: R,
     players: &mut Players<E, T>,
     family: Family,
     text: &'a str,
-) -> Result<Verdict<'a>, Fault>
-where
-    E: Plays,
-    T: PlaysTasks,
-    R: AllocGlobal + RandomSource + Wait + Copy + Drop,
-{
+) -> Result<Verdict<'a>, Fault> {
     let mut verdict = Verdict {
         agreed: 0,
         all: 0,

@@ -9,17 +9,17 @@ ghost use Rattle.commands.specs.Writes.{WritesAnswers};
 use crate::fault::Fault;
 use crate::input;
 use crate::output::write_all;
+use async_task::Runtime;
 use jobs::{JobRealm, JobSite, Open, parse, print, run_jobs};
 use std::alloc::Global;
 use std::io::{Read, Write};
-use std::sync::Wait;
 use std::thread::Threads;
 
 /// Reads a list of jobs whole, does them on so many workers, and writes their answers, last and in one piece. The faults come
 /// in this order: `ReadFailed`, `BadLine` with the first bad line, `NoThread`, `Missing` with the least missing job,
 /// `WriteFailed`; `NoMemory` comes where it is met. Only a call that ends in `WriteFailed` may have written something, and how
 /// much is then left open.
-pub fn jobs<P, R, I, O>(
+pub fn jobs<P, R: Runtime + Threads + Sync, I: Read, O: Write>(
     rt: R,
     alloc: Global,
     realm: &'static JobRealm<R>,
@@ -29,9 +29,6 @@ pub fn jobs<P, R, I, O>(
 ) -> Result<(), Fault>
 where
     P: JobSite<R, Gate = Open> + Sync + Drop,
-    R: Threads + Sync + Wait + Copy + Drop + 'static,
-    I: Read,
-    O: Write,
     requires { (0 < workers) × (workers ≤ 64) }
 
     // All there is is read, and the answers to it are written and nothing else.
@@ -60,16 +57,13 @@ where
 }
 
 /// The text of the answers of the jobs that this input says.
-fn answers<P, R>(
+fn answers<P: JobSite<R, Gate = Open> + Sync + Drop, R: Runtime + Threads + Sync>(
     rt: R,
     alloc: Global,
     realm: &'static JobRealm<R>,
     input: &[u8],
     workers: usize,
 ) -> Result<Vec<u8>, Fault>
-where
-    P: JobSite<R, Gate = Open> + Sync + Drop,
-    R: Threads + Sync + Wait + Copy + Drop + 'static,
     requires { (0 < workers) × (workers ≤ 64) }
     ensures answer { IfOk result (λ text. IsAnswerToJobs input.now text.items) }
     ensures fault { IfErr result (IsFaultOf P.brings workers input.now) }

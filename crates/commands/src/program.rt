@@ -7,15 +7,15 @@ use crate::fault::Fault;
 use crate::job_list::jobs;
 use crate::sim::sim;
 use crate::words::{Asked, read_words};
+use async_task::Runtime;
 use jobs::{JobRealm, JobSite, Open};
 use std::alloc::Global;
 use std::io::{Read, Write};
-use std::sync::Wait;
 use std::thread::Threads;
 
 /// Does what the words say that stand after the program's name in its arguments. `sim` runs a script, and `jobs` with a number
 /// of workers does jobs, as the functions of these names say; any other words are `Usage`, and then nothing is read or written.
-pub fn program<P, R, I, O>(
+pub fn program<P, R: Runtime + Threads + Sync, I: Read, O: Write>(
     rt: R,
     alloc: Global,
     realm: &'static JobRealm<R>,
@@ -25,9 +25,6 @@ pub fn program<P, R, I, O>(
 ) -> Result<(), Fault>
 where
     P: JobSite<R, Gate = Open> + Sync + Drop,
-    R: Threads + Sync + Wait + Copy + Drop + 'static,
-    I: Read,
-    O: Write,
     ensures usage { (result ≡ Err Fault.Usage) ↔ ((asked : Asked) → ¬ (AskFor (map string_bytes words.now) asked)) }
     ensures unread { result ≡ Err Fault.Usage → reader.new ≡ reader.old }
 

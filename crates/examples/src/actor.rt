@@ -1,8 +1,7 @@
 //! An actor: an account with a mailbox of four places. Three clients, each on a thread, send it deposits.
 use async_executor::{ExWaker, Executor};
-use async_task::{Future, Poll, Realm};
+use async_task::{Future, Poll, Realm, Runtime};
 use blocking::{ThreadWaker, block_on};
-use std::sync::Wait;
 use std::{io, thread};
 use waiting::channel::{self, Receiver};
 use workers::complete;
@@ -11,9 +10,9 @@ type Waker<R> = ExWaker<u64, ThreadWaker, R>;
 
 /// Its mailbox, and its balance.
 #[derive(Drop)]
-struct Account<R: Wait + Copy + Drop + 'static>(R, Receiver<u64, Waker<R>, R>, u64);
+struct Account<R: Runtime>(R, Receiver<u64, Waker<R>, R>, u64);
 
-impl<R: Wait + Copy + Drop + 'static> Future<Waker<R>> for Account<R> {
+impl<R: Runtime> Future<Waker<R>> for Account<R> {
     type Output = u64;
 
     fn poll(&mut self, waker: &Waker<R>) -> Poll<u64> {

@@ -1,10 +1,9 @@
 //! Echo over pipes in memory: ten connections, each a pipe to the server and one back, with a future at either end. The server's
 //! end sends back what it hears. A client sends 10, then the next lower number each time, until 0 came back.
 use async_executor::{ExWaker, Executor};
-use async_task::{Future, Poll, Realm};
+use async_task::{Future, Poll, Realm, Runtime};
 use blocking::ThreadWaker;
 use std::io;
-use std::sync::Wait;
 use waiting::channel::{self, Receiver, Sender};
 use workers::{JoinAll, run_until};
 
@@ -14,9 +13,9 @@ type Pipes<R> = (Sender<u64, Waker<R>, R>, Receiver<u64, Waker<R>, R>);
 
 /// An end: its pipes, what it sends next, how much lower it sends a number back than it came, and how many came.
 #[derive(Drop)]
-struct End<R: Wait + Copy + Drop + 'static>(R, Pipes<R>, Option<u64>, u64, u64);
+struct End<R: Runtime>(R, Pipes<R>, Option<u64>, u64, u64);
 
-impl<R: Wait + Copy + Drop + 'static> Future<Waker<R>> for End<R> {
+impl<R: Runtime> Future<Waker<R>> for End<R> {
     type Output = u64;
 
     fn poll(&mut self, waker: &Waker<R>) -> Poll<u64> {

@@ -2,7 +2,7 @@
 //! `first_task`, as long as that wakes itself, and polls its handle then.
 use crate::first_task::Sum;
 use async_task::{
-    Awaiter, Future, Nobody, Poll, Realm, Returning, Schedule, ScheduleInfo, Scheduled,
+    Awaiter, Future, Nobody, Poll, Realm, Returning, Runtime, Schedule, ScheduleInfo, Scheduled,
     StoredRunnable, TaskError, spawn,
 };
 use std::alloc::{AllocError, Global};
@@ -18,7 +18,7 @@ impl<R: Wait + Copy + Drop> Schedule<Scheduled<Sum, u64, Turn<R>, (), Nobody, R>
     }
 }
 
-pub fn run<R: Wait + Copy + Drop + 'static>(
+pub fn run<R: Runtime>(
     rt: R,
     alloc: Global,
     realm: &'static Realm<Sum, u64, Turn<R>, (), Nobody>,

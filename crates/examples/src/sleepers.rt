@@ -1,8 +1,7 @@
 //! A hundred sleepers: futures that each sleep for a time of their own, and one timer that calls them.
 use async_executor::{ExWaker, Executor};
-use async_task::{Future, Poll, Realm};
+use async_task::{Future, Poll, Realm, Runtime};
 use blocking::ThreadWaker;
-use std::sync::Wait;
 use std::time::Duration;
 use std::{io, thread};
 use timer::{Sleep, Timer};
@@ -12,9 +11,9 @@ type Waker<R> = ExWaker<u64, ThreadWaker, R>;
 
 /// Sleeps, and then gives its number.
 #[derive(Drop)]
-struct Sleeper<R: Wait + Copy + Drop + 'static>(Sleep<Waker<R>, R>, u64);
+struct Sleeper<R: Runtime>(Sleep<Waker<R>, R>, u64);
 
-impl<R: Wait + Copy + Drop + 'static> Future<Waker<R>> for Sleeper<R> {
+impl<R: Runtime> Future<Waker<R>> for Sleeper<R> {
     type Output = u64;
 
     fn poll(&mut self, waker: &Waker<R>) -> Poll<u64> {

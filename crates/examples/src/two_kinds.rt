@@ -1,10 +1,9 @@
 //! Two kinds of futures on one queue. Visitors wait at a door and leave their wakers there, and a
 //! doorkeeper opens it and wakes them.
-use async_task::{Awaiter, Future, Nobody, Poll, Realm, Returning, StoredWaker, Wake};
+use async_task::{Awaiter, Future, Nobody, Poll, Realm, Returning, Runtime, StoredWaker, Wake};
 use concurrent_queue::ConcurrentQueue;
 use ready_queue::{Places, QueueWaker, ReadyQueue};
 use std::io::{self, ErrorKind};
-use std::sync::Wait;
 
 /// The wakers of those who wait, as a list keeps them, until it is closed: the door is open then.
 type Door = ConcurrentQueue<Returning<StoredWaker>>;
@@ -26,7 +25,7 @@ enum Said {
 
 type JobWaker<R> = QueueWaker<Job<R>, Said, Nobody, R>;
 
-impl<R: Wait + Copy + Drop + 'static> Future<JobWaker<R>> for Job<R> {
+impl<R: Runtime> Future<JobWaker<R>> for Job<R> {
     type Output = Said;
 
     fn poll(&mut self, waker: &JobWaker<R>) -> Poll<Said> {
@@ -38,7 +37,7 @@ impl<R: Wait + Copy + Drop + 'static> Future<JobWaker<R>> for Job<R> {
 }
 
 /// Leaves a copy of the waker at the door, or comes in where it is open.
-fn visit<R: Wait + Copy + Drop + 'static>(door: &Door, rt: &R, waker: &JobWaker<R>) -> Poll<Said> {
+fn visit<R: Runtime>(door: &Door, rt: &R, waker: &JobWaker<R>) -> Poll<Said> {
     let Some(Awaiter::Task(copy)) = waker.clone() else {
         return Poll::Ready(Said::GaveUp);
     };
@@ -49,7 +48,7 @@ fn visit<R: Wait + Copy + Drop + 'static>(door: &Door, rt: &R, waker: &JobWaker<
 }
 
 /// Opens the door, and wakes whoever waits there.
-fn open<R: Wait + Copy + Drop + 'static>(door: &Door, rt: &R, waker: &JobWaker<R>) -> Poll<Said> {
+fn open<R: Runtime>(door: &Door, rt: &R, waker: &JobWaker<R>) -> Poll<Said> {
     door.close(rt);
     if let Awaiter::Lent(own) = waker {
         for stored in door.try_iter(rt) {

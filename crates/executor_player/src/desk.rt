@@ -5,11 +5,10 @@ use crate::outside::ScriptTask;
 use crate::seat::{ScriptRun, ScriptTick, answer_of_run};
 use crate::shelf::Kept;
 use async_executor::{Executor, SpawnError, StaticExecutor};
-use async_task::{Awaiter, Future};
+use async_task::{Awaiter, Future, Runtime};
 use player_parts::{
     Answer, Bell, Desk, Gift, Own, Plan, Refused, SharedShelf, answer_of_tick, future_of,
 };
-use std::sync::Wait;
 
 /// The executor of a script.
 pub type ScriptExecutor<F, R> = Executor<F, Gift, Bell, R>;
@@ -19,31 +18,23 @@ pub type ScriptStatic<F, R> = StaticExecutor<F, Gift, Bell, R>;
 
 /// An executor of a script, and where the wakers of its futures are kept.
 #[derive(Drop)]
-pub struct OnExecutor<'a, F, R>
-where
-    F: Drop,
-    R: Wait + Copy + Drop + 'static,
-{
+pub struct OnExecutor<'a, F: Drop, R: Runtime> {
     pub executor: &'a ScriptExecutor<F, R>,
     pub shelf: &'a SharedShelf<Kept>,
 }
 
 /// The same, of one that is static.
 #[derive(Drop)]
-pub struct OnStatic<'a, F, R>
-where
-    F: Drop,
-    R: Wait + Copy + Drop + 'static,
-{
+pub struct OnStatic<'a, F: Drop, R: Runtime> {
     pub executor: &'a ScriptStatic<F, R>,
     pub shelf: &'a SharedShelf<Kept>,
 }
 
-impl<'a, F, H, R> Desk<H, ScriptTick<'a, F, R>, ScriptRun<'a, F, H, R>> for OnExecutor<'a, F, R>
+impl<'a, F, H, R: Runtime> Desk<H, ScriptTick<'a, F, R>, ScriptRun<'a, F, H, R>>
+    for OnExecutor<'a, F, R>
 where
     F: Planned<H, R>,
     H: HoldIn<R>,
-    R: Wait + Copy + Drop + 'static,
 {
     fn spawn(&self, plan: Plan<H>) -> Result<H, Refused<H>> {
         let mark = plan.mark;
@@ -93,11 +84,11 @@ where
     }
 }
 
-impl<'a, F, H, R> Desk<H, ScriptTick<'a, F, R>, ScriptRun<'a, F, H, R>> for OnStatic<'a, F, R>
+impl<'a, F, H, R: Runtime> Desk<H, ScriptTick<'a, F, R>, ScriptRun<'a, F, H, R>>
+    for OnStatic<'a, F, R>
 where
     F: Planned<H, R>,
     H: HoldIn<R>,
-    R: Wait + Copy + Drop + 'static,
 {
     fn spawn(&self, plan: Plan<H>) -> Result<H, Refused<H>> {
         let mark = plan.mark;
@@ -149,12 +140,9 @@ where
 }
 
 /// What a spawn answers.
-fn answered<F, H, R>(spawned: Result<ScriptTask<R>, SpawnError<F>>) -> Result<H, Refused<H>>
-where
-    F: Planned<H, R>,
-    H: HoldIn<R>,
-    R: Wait + Copy + Drop + 'static,
-{
+fn answered<F: Planned<H, R>, H: HoldIn<R>, R: Runtime>(
+    spawned: Result<ScriptTask<R>, SpawnError<F>>,
+) -> Result<H, Refused<H>> {
     match spawned {
         Ok(task) => Ok(H::of(task)),
         Err(SpawnError::Full(future)) => Err(Refused {

@@ -2,16 +2,11 @@
 use crate::handle::HoldIn;
 use crate::outside::ScriptWaker;
 use crate::shelf::Kept;
-use async_task::{Future, Poll};
+use async_task::{Future, Poll, Runtime};
 use player_parts::{Gift, Held, Scripted};
-use std::sync::Wait;
 
 /// A future of an executor that a script plays on. What spawns them knows no more of them than this.
-pub trait Planned<H, R>: Future<ScriptWaker<R>, Output = Gift> + Drop
-where
-    H: Drop,
-    R: Wait + Copy + Drop + 'static,
-{
+pub trait Planned<H: Drop, R: Runtime>: Future<ScriptWaker<R>, Output = Gift> + Drop {
     fn planned(future: Scripted<H, Kept>) -> Self;
 
     /// The handles that it holds, where it was refused: its drop isn't shown.
@@ -24,11 +19,7 @@ pub struct ScriptFuture<H: Drop> {
     scripted: Scripted<H, Kept>,
 }
 
-impl<H, R> Future<ScriptWaker<R>> for ScriptFuture<H>
-where
-    H: HoldIn<R>,
-    R: Wait + Copy + Drop + 'static,
-{
+impl<H: HoldIn<R>, R: Runtime> Future<ScriptWaker<R>> for ScriptFuture<H> {
     type Output = Gift;
 
     fn poll(&mut self, waker: &ScriptWaker<R>) -> Poll<Gift> {
@@ -36,11 +27,7 @@ where
     }
 }
 
-impl<H, R> Planned<H, R> for ScriptFuture<H>
-where
-    H: HoldIn<R>,
-    R: Wait + Copy + Drop + 'static,
-{
+impl<H: HoldIn<R>, R: Runtime> Planned<H, R> for ScriptFuture<H> {
     fn planned(future: Scripted<H, Kept>) -> Self {
         ScriptFuture { scripted: future }
     }

@@ -8,6 +8,7 @@ use crate::handle::HoldIn;
 use crate::outside::ScriptRealm;
 use crate::shelf::{KeepIn, Kept};
 use async_executor::{Executor, StaticExecutor};
+use async_task::Runtime;
 use player_parts::{
     Answer, Handles, Hold, Keep, PlayError, Player, Shared, SharedShelf, Shelf, Stage, Stop,
     play_closed, read_whole, show_end,
@@ -15,21 +16,14 @@ use player_parts::{
 use script::{Command, Word};
 use std::alloc::Global;
 use std::rc::Rc;
-use std::sync::Wait;
 
 /// Plays a script in a realm, as `Plays` says.
-pub fn play_script<F, H, K, R>(
+pub fn play_script<F: Planned<H, R>, H: HoldIn<R>, K: KeepIn<R>, R: Runtime>(
     rt: R,
     alloc: Global,
     realm: &'static ScriptRealm<R>,
     script: &[u8],
-) -> Result<Vec<u8>, PlayError>
-where
-    F: Planned<H, R>,
-    H: HoldIn<R>,
-    K: KeepIn<R>,
-    R: Wait + Copy + Drop + 'static,
-{
+) -> Result<Vec<u8>, PlayError> {
     let Some(script) = read_whole(alloc, script, false)? else {
         return Ok(Vec::new(alloc));
     };
@@ -50,7 +44,7 @@ where
 }
 
 /// Plays the commands on a new executor of so many places.
-fn play_in<F, H, K, R>(
+fn play_in<F: Planned<H, R>, H: HoldIn<R>, K: KeepIn<R>, R: Runtime>(
     rt: R,
     alloc: Global,
     realm: &'static ScriptRealm<R>,
@@ -59,11 +53,6 @@ fn play_in<F, H, K, R>(
     limit: usize,
     commands: &[Command],
 )
-where
-    F: Planned<H, R>,
-    H: HoldIn<R>,
-    K: KeepIn<R>,
-    R: Wait + Copy + Drop + 'static,
     requires { 0 < limit }
 {
     let Ok(shelf) = Shelf::new(alloc, stage) else {
@@ -87,18 +76,13 @@ where
     }
 }
 
-fn new_player<H, K, R>(
+fn new_player<H: Hold, K: KeepIn<R>, R: Runtime>(
     rt: R,
     alloc: Global,
     realm: &'static ScriptRealm<R>,
     stage: &Shared,
     shelf: &SharedShelf<Kept>,
-) -> Option<Player<H, K>>
-where
-    H: Hold,
-    K: KeepIn<R>,
-    R: Wait + Copy + Drop + 'static,
-{
+) -> Option<Player<H, K>> {
     match (
         Rc::clone(stage),
         Rc::clone(shelf),
@@ -112,36 +96,24 @@ where
 }
 
 /// Plays the commands on a static executor.
-fn play_static<F, H, K, R>(
+fn play_static<F: Planned<H, R>, H: HoldIn<R>, K: Keep, R: Runtime>(
     player: Player<H, K>,
     shelf: &SharedShelf<Kept>,
     executor: ScriptStatic<F, R>,
     commands: &[Command],
-)
-where
-    F: Planned<H, R>,
-    H: HoldIn<R>,
-    K: Keep,
-    R: Wait + Copy + Drop + 'static,
-{
+) {
     let mut player = player;
     play_leaked(&mut player, shelf, &executor, commands, 0);
     drop(executor);
 }
 
 /// Plays the commands on an executor, drops it or leaks it, and plays what follows.
-fn play_owned<F, H, K, R>(
+fn play_owned<F: Planned<H, R>, H: HoldIn<R>, K: Keep, R: Runtime>(
     player: Player<H, K>,
     shelf: &SharedShelf<Kept>,
     executor: ScriptExecutor<F, R>,
     commands: &[Command],
-)
-where
-    F: Planned<H, R>,
-    H: HoldIn<R>,
-    K: Keep,
-    R: Wait + Copy + Drop + 'static,
-{
+) {
     let mut player = player;
     match play_open(&mut player, &*shelf, &executor, commands) {
         Stop::Over => drop(executor),

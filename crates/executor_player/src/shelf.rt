@@ -1,9 +1,8 @@
 //! The wakers of futures that a script keeps.
 use crate::outside::{ScriptRealm, ScriptWaker};
-use async_task::{Awaiter, Returning, StoredWaker, Wake};
+use async_task::{Awaiter, Returning, Runtime, StoredWaker, Wake};
 use player_parts::{Keep, KeptOf, SharedShelf, Shelf};
 use script::Name;
-use std::sync::Wait;
 
 /// A waker of a future, at rest.
 #[derive(Drop)]
@@ -11,7 +10,7 @@ pub struct Kept {
     stored: Returning<StoredWaker>,
 }
 
-impl<R: Wait + Copy + Drop + 'static> KeptOf<ScriptWaker<R>> for Kept {
+impl<R: Runtime> KeptOf<ScriptWaker<R>> for Kept {
     fn kept_of(waker: &ScriptWaker<R>) -> Option<Kept> {
         match waker.clone() {
             Some(Awaiter::Task(copy)) => Some(Kept::of(copy.store())),
@@ -34,25 +33,25 @@ impl Kept {
 }
 
 /// Who keeps the wakers of one realm.
-pub trait KeepIn<R: Wait + Copy + Drop + 'static>: Keep {
+pub trait KeepIn<R: Runtime>: Keep {
     fn of(rt: R, realm: &'static ScriptRealm<R>, shelf: SharedShelf<Kept>) -> Self;
 }
 
 /// Who keeps the wakers of one realm.
 #[derive(Drop)]
-pub struct Keeper<R: Wait + Copy + Drop + 'static> {
+pub struct Keeper<R: Runtime> {
     rt: R,
     realm: &'static ScriptRealm<R>,
     shelf: SharedShelf<Kept>,
 }
 
-impl<R: Wait + Copy + Drop + 'static> KeepIn<R> for Keeper<R> {
+impl<R: Runtime> KeepIn<R> for Keeper<R> {
     fn of(rt: R, realm: &'static ScriptRealm<R>, shelf: SharedShelf<Kept>) -> Self {
         Keeper { rt, realm, shelf }
     }
 }
 
-impl<R: Wait + Copy + Drop + 'static> Keep for Keeper<R> {
+impl<R: Runtime> Keep for Keeper<R> {
     fn wake(&self, name: Name) -> bool {
         match self.shelf.take_kept(name) {
             Some(kept) => self.wake_kept(name, kept),
@@ -77,7 +76,7 @@ impl<R: Wait + Copy + Drop + 'static> Keep for Keeper<R> {
     }
 }
 
-impl<R: Wait + Copy + Drop + 'static> Keeper<R> {
+impl<R: Runtime> Keeper<R> {
     fn wake_kept(&self, name: Name, kept: Kept) -> bool {
         match kept.stored.redeem(self.rt, self.realm) {
             Some(waker) => {

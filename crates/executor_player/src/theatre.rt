@@ -5,10 +5,10 @@ use crate::handle::{Handle, HoldIn};
 use crate::outside::ScriptRealm;
 use crate::playing::play_script;
 use crate::shelf::{KeepIn, Keeper};
+use async_task::Runtime;
 use player_parts::PlayError;
 use std::alloc::Global;
 use std::marker::PhantomData;
-use std::sync::Wait;
 
 /// Where scripts are played, each on an executor of its own.
 pub trait Plays {
@@ -24,7 +24,7 @@ pub trait Plays {
 /// Where the futures of scripts are `F`, their handles `H`, and who keeps their wakers `K`. The tasks of all scripts lie in the
 /// realm. A program writes it as a struct where it has its `rt`: no call that takes the realm beside such types gets a proof.
 #[derive(Drop)]
-pub struct Theatre<F, H, K, R: Wait + Copy + Drop + 'static> {
+pub struct Theatre<F, H, K, R: Runtime> {
     pub rt: R,
     pub alloc: Global,
     pub realm: &'static ScriptRealm<R>,
@@ -34,13 +34,7 @@ pub struct Theatre<F, H, K, R: Wait + Copy + Drop + 'static> {
 /// The one that a program names.
 pub type ExecutorPlayer<R> = Theatre<ScriptFuture<Handle<R>>, Handle<R>, Keeper<R>, R>;
 
-impl<F, H, K, R> Plays for Theatre<F, H, K, R>
-where
-    F: Planned<H, R>,
-    H: HoldIn<R>,
-    K: KeepIn<R>,
-    R: Wait + Copy + Drop + 'static,
-{
+impl<F: Planned<H, R>, H: HoldIn<R>, K: KeepIn<R>, R: Runtime> Plays for Theatre<F, H, K, R> {
     fn play(&self, script: &[u8]) -> Result<Vec<u8>, PlayError> {
         play_script::<F, H, K, R>(self.rt, self.alloc, self.realm, script)
     }

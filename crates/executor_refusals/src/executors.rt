@@ -3,13 +3,12 @@ use async_executor::{
     ExCancel, ExFallible, ExRealm, ExTask, ExWaker, Executor, NoMemory, Run, RunError, SpawnError,
     StaticExecutor, Tick,
 };
-use async_task::{Future, Poll};
+use async_task::{Future, Poll, Runtime};
 use refusal_rows::{
     Bell, Call, Drops, Job, LONG, Many, Place, Polled, ROWS, Report, Row, Runs, Turn, Turns,
     of_fallible, of_task, of_tick, play, shown,
 };
 use std::alloc::Global;
-use std::sync::Wait;
 use std::sync::atomic::Ordering::SeqCst;
 
 /// How many places an executor has.
@@ -29,7 +28,7 @@ type TestRun<'a, R> = Run<'a, Job, u64, Bell, R, Job>;
 
 /// What the program's executors are made with.
 #[derive(Drop)]
-pub struct Ground<'a, R: Wait + Copy + Drop + 'static> {
+pub struct Ground<'a, R: Runtime> {
     pub rt: R,
     pub alloc: Global,
     pub realm: &'static TestRealm<R>,
@@ -39,13 +38,13 @@ pub struct Ground<'a, R: Wait + Copy + Drop + 'static> {
 
 /// A handle.
 #[derive(Drop)]
-enum Handle<R: Wait + Copy + Drop + 'static> {
+enum Handle<R: Runtime> {
     Task(ExTask<u64, Bell, R>),
     Fallible(ExFallible<u64, Bell, R>),
     Cancel(ExCancel<u64, Bell, R>),
 }
 
-impl<R: Wait + Copy + Drop + 'static> Handle<R> {
+impl<R: Runtime> Handle<R> {
     fn poll(&mut self, waker: &TestWaker<R>) -> Polled {
         match self {
             Handle::Task(task) => of_task(task.poll(waker)),
@@ -55,7 +54,7 @@ impl<R: Wait + Copy + Drop + 'static> Handle<R> {
     }
 }
 
-impl<R: Wait + Copy + Drop + 'static> Turns for Handle<R> {
+impl<R: Runtime> Turns for Handle<R> {
     fn turned(self, turn: Turn) -> Option<Self> {
         match (self, turn) {
             (Handle::Task(task), Turn::Fallible) => Some(Handle::Fallible(task.fallible())),
@@ -71,23 +70,21 @@ impl<R: Wait + Copy + Drop + 'static> Turns for Handle<R> {
 
 /// An executor of either kind.
 #[derive(Drop)]
-enum OneOf<'a, R: Wait + Copy + Drop + 'static> {
+enum OneOf<'a, R: Runtime> {
     Owned(&'a TestExecutor<R>),
     Static(&'a TestStatic<R>),
 }
 
 /// An executor, and the waker that its ticks, runs and handles are polled by.
 #[derive(Drop)]
-struct OnExecutor<'a, 'w, R: Wait + Copy + Drop + 'static> {
+struct OnExecutor<'a, 'w, R: Runtime> {
     executor: OneOf<'a, R>,
     waker: &'w TestWaker<R>,
     drops: &'static Drops,
 }
 
-impl<'a, 'w, R> Runs<Handle<R>, TestTick<'a, R>, TestRun<'a, R>> for OnExecutor<'a, 'w, R>
-where
-    R: Wait + Copy + Drop + 'static,
-{
+impl<'a, 'w, R: Runtime> Runs<Handle<R>, TestTick<'a, R>, TestRun<'a, R>>
+    for OnExecutor<'a, 'w, R> {
     fn job(&self, name: u64, wakes: u64) -> Job {
         Job {
             name,
@@ -196,7 +193,7 @@ where
 }
 
 /// Spawns jobs of these names and drops their handles.
-fn many<R: Wait + Copy + Drop + 'static>(
+fn many<R: Runtime>(
     executor: &TestExecutor<R>,
     from: u64,
     end: u64,
@@ -225,10 +222,7 @@ fn many<R: Wait + Copy + Drop + 'static>(
 }
 
 /// An executor to make calls on.
-fn on<'a, 'w, R: Wait + Copy + Drop + 'static>(
-    ground: &Ground<'w, R>,
-    executor: OneOf<'a, R>,
-) -> OnExecutor<'a, 'w, R> {
+fn on<'a, 'w, R: Runtime>(ground: &Ground<'w, R>, executor: OneOf<'a, R>) -> OnExecutor<'a, 'w, R> {
     OnExecutor {
         executor,
         waker: ground.waker,
@@ -237,7 +231,7 @@ fn on<'a, 'w, R: Wait + Copy + Drop + 'static>(
 }
 
 /// The handle of a future that is left in an executor, polled once.
-fn leave<R: Wait + Copy + Drop + 'static>(
+fn leave<R: Runtime>(
     ground: &Ground<'_, R>,
     executor: &TestExecutor<R>,
     report: &mut Report,
@@ -265,10 +259,7 @@ fn leave<R: Wait + Copy + Drop + 'static>(
 }
 
 /// An executor, which is made once more where that is refused.
-pub fn owned<R: Wait + Copy + Drop + 'static>(
-    ground: &Ground<'_, R>,
-    report: &mut Report,
-) -> Option<TestExecutor<R>> {
+pub fn owned<R: Runtime>(ground: &Ground<'_, R>, report: &mut Report) -> Option<TestExecutor<R>> {
     for _ in 0..2 {
         match Executor::new(ground.rt, ground.alloc, ground.realm, LIMIT) {
             Ok(executor) => return Some(executor),
@@ -279,10 +270,7 @@ pub fn owned<R: Wait + Copy + Drop + 'static>(
 }
 
 /// A static one.
-fn lasting<R: Wait + Copy + Drop + 'static>(
-    ground: &Ground<'_, R>,
-    report: &mut Report,
-) -> Option<TestStatic<R>> {
+fn lasting<R: Runtime>(ground: &Ground<'_, R>, report: &mut Report) -> Option<TestStatic<R>> {
     for _ in 0..2 {
         match StaticExecutor::new(ground.rt, ground.alloc, ground.realm, LIMIT) {
             Ok(executor) => return Some(executor),
@@ -294,10 +282,7 @@ fn lasting<R: Wait + Copy + Drop + 'static>(
 
 /// Makes all calls on a static executor, and on one that is not: that is leaked with a future in it, which goes on; another is
 /// dropped with a future in it, whose task is closed.
-pub fn try_executors<R: Wait + Copy + Drop + 'static>(
-    ground: &Ground<'_, R>,
-    report: &mut Report,
-) -> bool {
+pub fn try_executors<R: Runtime>(ground: &Ground<'_, R>, report: &mut Report) -> bool {
     report.come_to(Place::StaticExecutor);
     let Some(executor) = lasting(ground, report) else {
         return false;
@@ -320,7 +305,7 @@ pub fn try_executors<R: Wait + Copy + Drop + 'static>(
 }
 
 /// An executor is dropped with a future in it.
-fn ends<R: Wait + Copy + Drop + 'static>(ground: &Ground<'_, R>, report: &mut Report) -> bool {
+fn ends<R: Runtime>(ground: &Ground<'_, R>, report: &mut Report) -> bool {
     let Some(executor) = owned(ground, report) else {
         return false;
     };
@@ -330,7 +315,7 @@ fn ends<R: Wait + Copy + Drop + 'static>(ground: &Ground<'_, R>, report: &mut Re
 }
 
 /// Whether a poll of the handle that was left ends so.
-fn is_left_with<R: Wait + Copy + Drop + 'static>(
+fn is_left_with<R: Runtime>(
     handle: Option<Handle<R>>,
     waker: &TestWaker<R>,
     wanted: Polled,

@@ -1,8 +1,7 @@
 //! An output that borrows.
 use async_executor::{ExRealm, Executor};
-use async_task::{Awaiter, Future, Nobody, Poll, Wake};
+use async_task::{Awaiter, Future, Nobody, Poll, Runtime, Wake};
 use std::alloc::Global;
-use std::sync::Wait;
 use std::test::Fail;
 
 /// A text that is borrowed.
@@ -22,11 +21,7 @@ impl<K: Wake> Future<K> for Says {
 }
 
 /// Whether the text is there once its executor is gone.
-fn outlives<R: Wait + Copy + Drop + 'static>(
-    rt: R,
-    alloc: Global,
-    realm: &'static ExRealm<Text, Nobody, R>,
-) -> bool {
+fn outlives<R: Runtime>(rt: R, alloc: Global, realm: &'static ExRealm<Text, Nobody, R>) -> bool {
     let Ok(executor) = Executor::new(rt, alloc, realm, 1) else {
         return false;
     };

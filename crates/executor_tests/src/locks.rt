@@ -2,8 +2,8 @@
 //! another thread has taken each lock. A lock that is held lets the wait come to its bound.
 use crate::parts::Work;
 use crate::stage::{End, MOST_TURNS, OWN, Planned, Stage};
+use async_task::Runtime;
 use std::process::Abort;
-use std::sync::Wait;
 use std::sync::atomic::Ordering::SeqCst;
 use std::sync::atomic::{AtomicBool, AtomicU64};
 use std::thread;
@@ -40,7 +40,7 @@ impl Asks {
     }
 }
 
-impl<F: Planned<R>, R: Abort + Wait + Copy + Drop + 'static> Stage<F, R> {
+impl<F: Planned<R>, R: Runtime + Abort> Stage<F, R> {
     /// Takes each lock of the executor when it is asked: the table's, the sleepers', and that of the runs' queues. Says whether it was
     /// told to stop.
     pub fn takes_locks(&self) -> bool {

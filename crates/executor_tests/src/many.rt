@@ -3,16 +3,15 @@ use crate::parts::{Bell, Gift, Job, TestRealm, TestWaker, Work};
 use crate::stage::{End, Planned, Stage};
 use crate::threads::outputs;
 use async_executor::{ExStoredTask, Handles, SpawnError};
-use async_task::{Future, Poll, Returning};
+use async_task::{Future, Poll, Returning, Runtime};
 use std::mem;
 use std::process::Abort;
-use std::sync::Wait;
 use std::sync::atomic::Ordering::SeqCst;
 use std::test::Fail;
 
 /// Awaits handles in order, and gives the number of outputs that came as numbered from 0 on.
 #[derive(Drop)]
-struct InOrder<R: Wait + Copy + Drop + 'static> {
+struct InOrder<R: Runtime> {
     rt: R,
     realm: &'static TestRealm<R>,
     handles: Handles<Gift, Bell, R>,
@@ -21,7 +20,7 @@ struct InOrder<R: Wait + Copy + Drop + 'static> {
     next: u64,
 }
 
-impl<R: Wait + Copy + Drop + 'static> Future<TestWaker<R>> for InOrder<R> {
+impl<R: Runtime> Future<TestWaker<R>> for InOrder<R> {
     type Output = u64;
 
     fn poll(&mut self, waker: &TestWaker<R>) -> Poll<u64> {
@@ -48,7 +47,7 @@ impl<R: Wait + Copy + Drop + 'static> Future<TestWaker<R>> for InOrder<R> {
     }
 }
 
-impl<F: Planned<R>, R: Abort + Wait + Copy + Drop + 'static> Stage<F, R> {
+impl<F: Planned<R>, R: Runtime + Abort> Stage<F, R> {
     /// Spawns so many futures in one call, which are ready or wait for ever: what awaits them in order, and the name of the one
     /// that was refused since the executor is full.
     fn in_order(&self, count: u64, are_ready: bool) -> (InOrder<R>, Option<u64>) {
@@ -146,11 +145,7 @@ impl<F: Planned<R>, R: Abort + Wait + Copy + Drop + 'static> Stage<F, R> {
 }
 
 /// Spawns a future on an executor, and drops both: the text of where the task lay.
-fn place_of_a_short_life<F, R>(stage: Stage<F, R>) -> Option<String>
-where
-    F: Planned<R>,
-    R: Abort + Wait + Copy + Drop + 'static,
-{
+fn place_of_a_short_life<F: Planned<R>, R: Runtime + Abort>(stage: Stage<F, R>) -> Option<String> {
     let stored = stage.spawn(stage.job(0, Work::Pend))?;
     let text = format!(in stage.alloc; "{stored:?}").ok();
     stage.drop_handle(stored);

@@ -1,12 +1,12 @@
 //! What the tests' futures are, and what is noted of them.
 use crate::locks::Asks;
 use async_executor::{ExRealm, ExStoredTask, ExTask, ExWaker, Executor, StaticExecutor};
-use async_task::{Future, Poll, Returning, Wake};
+use async_task::{Future, Poll, Returning, Runtime, Wake};
 use std::alloc::{AllocError, Global};
 use std::mem;
+use std::sync::Arc;
 use std::sync::atomic::AtomicU64;
 use std::sync::atomic::Ordering::SeqCst;
-use std::sync::{Arc, Wait};
 
 /// What has happened to one future, or to several.
 #[derive(Default, Drop)]
@@ -184,7 +184,7 @@ pub struct Meddler {
 }
 
 /// A future of the tests. Its polls and its drop are noted.
-pub struct Job<R: Wait + Copy + Drop + 'static> {
+pub struct Job<R: Runtime> {
     pub rt: R,
     pub realm: &'static TestRealm<R>,
     pub name: u64,
@@ -192,7 +192,7 @@ pub struct Job<R: Wait + Copy + Drop + 'static> {
     pub notes: Arc<Notes, Global>,
 }
 
-impl<R: Wait + Copy + Drop + 'static> Drop for Job<R> {
+impl<R: Runtime> Drop for Job<R> {
     fn drop(self) {
         let Job {
             rt,
@@ -211,7 +211,7 @@ impl<R: Wait + Copy + Drop + 'static> Drop for Job<R> {
     }
 }
 
-impl<R: Wait + Copy + Drop + 'static> Future<TestWaker<R>> for Job<R> {
+impl<R: Runtime> Future<TestWaker<R>> for Job<R> {
     type Output = Gift;
 
     fn poll(&mut self, waker: &TestWaker<R>) -> Poll<Gift> {
@@ -225,7 +225,7 @@ impl<R: Wait + Copy + Drop + 'static> Future<TestWaker<R>> for Job<R> {
     }
 }
 
-impl<R: Wait + Copy + Drop + 'static> Job<R> {
+impl<R: Runtime> Job<R> {
     /// The output, where it is ready.
     fn output(&mut self, waker: &TestWaker<R>) -> Option<u64> {
         match &mut self.work {
@@ -262,7 +262,7 @@ impl<R: Wait + Copy + Drop + 'static> Job<R> {
 
 impl Meddler {
     /// Polls the other's handle, and says whether its task has ended. The handle stays.
-    fn awaits<R: Wait + Copy + Drop + 'static>(
+    fn awaits<R: Runtime>(
         &mut self,
         task: TestTask<R>,
         notes: &Notes,
@@ -283,7 +283,7 @@ impl Meddler {
 }
 
 /// Detaches the task of half of the names, and cancels the others': by a poll, whose output may come, or by the handle's drop.
-fn give_up<R: Wait + Copy + Drop + 'static>(name: u64, task: TestTask<R>, waker: &TestWaker<R>) {
+fn give_up<R: Runtime>(name: u64, task: TestTask<R>, waker: &TestWaker<R>) {
     match name % 8 {
         2 | 6 => drop(task.detach()),
         3 => drop(task.cancel().poll(waker)),
@@ -292,7 +292,7 @@ fn give_up<R: Wait + Copy + Drop + 'static>(name: u64, task: TestTask<R>, waker:
 }
 
 /// Drops a handle that was stored, which cancels its task.
-pub fn drop_stored<R: Wait + Copy + Drop + 'static>(
+pub fn drop_stored<R: Runtime>(
     rt: R,
     realm: &'static TestRealm<R>,
     stored: Returning<ExStoredTask>,

@@ -5,12 +5,12 @@ use crate::parts::{
     Bell, Gift, Job, Notes, TestExecutor, TestRealm, TestStatic, TestWaker, Work, drop_stored,
 };
 use async_executor::{ExStoredTask, Run, RunError, Tick};
-use async_task::{Awaiter, Future, NoMemory, Poll, Returning};
+use async_task::{Awaiter, Future, NoMemory, Poll, Returning, Runtime};
 use std::alloc::Global;
 use std::process::Abort;
+use std::sync::Arc;
 use std::sync::atomic::AtomicU64;
 use std::sync::atomic::Ordering::SeqCst;
-use std::sync::{Arc, Wait};
 
 /// The name of the futures that runs wait for.
 pub const OWN: u64 = u64::MAX;
@@ -19,13 +19,13 @@ pub const OWN: u64 = u64::MAX;
 pub const MOST_TURNS: u64 = 10_000_000;
 
 /// A future that a test spawns.
-pub trait Planned<R: Wait + Copy + Drop + 'static>: Future<TestWaker<R>, Output = Gift> + Drop {
+pub trait Planned<R: Runtime>: Future<TestWaker<R>, Output = Gift> + Drop {
     fn planned(job: Job<R>) -> Self;
 
     fn name(&self) -> u64;
 }
 
-impl<R: Wait + Copy + Drop + 'static> Planned<R> for Job<R> {
+impl<R: Runtime> Planned<R> for Job<R> {
     fn planned(job: Job<R>) -> Self {
         job
     }
@@ -47,25 +47,21 @@ pub enum End {
 
 /// A tick or run.
 #[derive(Drop)]
-pub enum Seat<'a, F, R>
-where
-    F: Drop,
-    R: Wait + Copy + Drop + 'static,
-{
+pub enum Seat<'a, F: Drop, R: Runtime> {
     Tick(Tick<'a, F, Gift, Bell, R>),
     Run(Run<'a, F, Gift, Bell, R, F>),
 }
 
 /// An executor of either kind.
 #[derive(Drop)]
-pub enum TestKind<F: Drop, R: Wait + Copy + Drop + 'static> {
+pub enum TestKind<F: Drop, R: Runtime> {
     Owned(TestExecutor<F, R>),
     Static(TestStatic<F, R>),
 }
 
 /// An executor with its notes.
 #[derive(Drop)]
-pub struct Stage<F: Drop, R: Wait + Copy + Drop + 'static> {
+pub struct Stage<F: Drop, R: Runtime> {
     pub rt: R,
     pub alloc: Global,
     pub realm: &'static TestRealm<R>,
@@ -75,7 +71,7 @@ pub struct Stage<F: Drop, R: Wait + Copy + Drop + 'static> {
     accepted: AtomicU64,
 }
 
-impl<F: Planned<R>, R: Abort + Wait + Copy + Drop + 'static> Stage<F, R> {
+impl<F: Planned<R>, R: Runtime + Abort> Stage<F, R> {
     /// An executor of so many places, one at least, static or not. As many futures are noted one by one, by their names from 0 on.
     pub fn new(
         rt: R,

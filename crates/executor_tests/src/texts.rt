@@ -2,10 +2,10 @@
 use crate::parts::{Job, TestRealm, Work};
 use crate::stage::{MOST_TURNS, Planned, Stage, TestKind};
 use async_executor::{NoMemory, RunError, SpawnError};
+use async_task::Runtime;
 use std::alloc::Global;
 use std::fmt::Debug;
 use std::process::Abort;
-use std::sync::Wait;
 use std::sync::atomic::AtomicBool;
 use std::sync::atomic::Ordering::SeqCst;
 use std::test::Fail;
@@ -51,11 +51,7 @@ fn the_text_of_an_executor(rt: HostRuntime) -> Result<(), Fail> {
 }
 
 /// Uses each lock of the executor again and again until it is told to stop, and says whether it was.
-fn use_locks<F, R>(stage: &Stage<F, R>, is_over: &AtomicBool) -> bool
-where
-    F: Planned<R>,
-    R: Abort + Wait + Copy + Drop + 'static,
-{
+fn use_locks<F: Planned<R>, R: Runtime + Abort>(stage: &Stage<F, R>, is_over: &AtomicBool) -> bool {
     for _ in 0..MOST_TURNS {
         if is_over.load(SeqCst) {
             return true;

@@ -3,9 +3,9 @@
 use crate::parts::{Job, TestRealm};
 use crate::stage::{Planned, Stage};
 use crate::threads::{CHAIN, ROUNDS, outputs};
+use async_task::Runtime;
 use std::alloc::Global;
 use std::process::Abort;
-use std::sync::Wait;
 use std::sync::atomic::AtomicU64;
 use std::sync::atomic::Ordering::SeqCst;
 use std::test::Fail;
@@ -58,14 +58,14 @@ trait Plays {
 
 /// A stage, and what is played there.
 #[derive(Drop)]
-struct Company<F: Drop, R: Wait + Copy + Drop + 'static> {
+struct Company<F: Drop, R: Runtime> {
     stage: Stage<F, R>,
     scene: Scene,
     /// How often a tick fell asleep.
     slumbering: AtomicU64,
 }
 
-impl<F: Planned<R>, R: Abort + Wait + Copy + Drop + 'static> Company<F, R> {
+impl<F: Planned<R>, R: Runtime + Abort> Company<F, R> {
     fn new(rt: R, alloc: Global, realm: &'static TestRealm<R>, scene: Scene) -> Self {
         let (is_static, limit) = scene.house();
         Company {
@@ -76,7 +76,7 @@ impl<F: Planned<R>, R: Abort + Wait + Copy + Drop + 'static> Company<F, R> {
     }
 }
 
-impl<F: Planned<R>, R: Abort + Wait + Copy + Drop + 'static> Plays for Company<F, R> {
+impl<F: Planned<R>, R: Runtime + Abort> Plays for Company<F, R> {
     fn begin(&self) -> bool {
         match self.scene {
             Scene::Ticks(_) => self.stage.spawn_all(1_000),

@@ -1,8 +1,8 @@
 //! What threads do that really overlap. One whose loop passes its bound says so.
 use crate::parts::{Counts, Meddler, Work};
 use crate::stage::{End, MOST_TURNS, Planned, Stage};
+use async_task::Runtime;
 use std::process::Abort;
-use std::sync::Wait;
 use std::sync::atomic::AtomicU64;
 use std::sync::atomic::Ordering::SeqCst;
 use std::thread;
@@ -13,7 +13,7 @@ pub const ROUNDS: u64 = 2_000;
 /// How many futures await, cancel and detach each other.
 pub const CHAIN: u64 = 40_000;
 
-impl<F: Planned<R>, R: Abort + Wait + Copy + Drop + 'static> Stage<F, R> {
+impl<F: Planned<R>, R: Runtime + Abort> Stage<F, R> {
     /// Ticks until the executor is empty, and says whether it came to that.
     pub fn tick_until_empty(&self) -> bool {
         for _ in 0..MOST_TURNS {

@@ -11,7 +11,7 @@ use crate::site::{JobRealm, JobWaker, Site};
 use crate::site_desk::SiteDesk;
 use crate::worker::Worker;
 use crate::{Job, Solved};
-use async_task::NoMemory;
+use async_task::{NoMemory, Runtime};
 use std::alloc::Global;
 use std::sync::Wait;
 use workers::run_until;
@@ -31,10 +31,7 @@ pub trait Labor<R: Wait> {
 }
 
 /// Where jobs are done.
-pub trait JobSite<R>: Labor<R>
-where
-    R: Wait + Copy + Drop + 'static,
-{
+pub trait JobSite<R: Runtime>: Labor<R> {
     /// What stands at the first poll of each job.
     type Gate: Gate;
 
@@ -51,11 +48,7 @@ where
 
 /// A place whose threads run one executor, each until its worker is ready.
 #[derive(Drop)]
-pub struct Workplace<G, R>
-where
-    G: Drop,
-    R: Wait + Copy + Drop + 'static,
-{
+pub struct Workplace<G: Drop, R: Runtime> {
     alloc: Global,
     site: Site<G, R>,
 }
@@ -63,11 +56,7 @@ where
 /// The place that a program names.
 pub type JobPlace<G, R> = Workplace<G, R>;
 
-impl<G, R> JobSite<R> for Workplace<G, R>
-where
-    G: Gate + Copy + Drop,
-    R: Wait + Copy + Drop + 'static,
-{
+impl<G: Gate + Copy + Drop, R: Runtime> JobSite<R> for Workplace<G, R> {
     type Gate = G;
 
     fn new(
@@ -86,11 +75,7 @@ where
     }
 }
 
-impl<G, R> Labor<R> for Workplace<G, R>
-where
-    G: Gate + Copy + Drop,
-    R: Wait + Copy + Drop + 'static,
-{
+impl<G: Gate + Copy + Drop, R: Runtime> Labor<R> for Workplace<G, R> {
     ghost use Rattle.jobs.specs.Bringing.{HaveCome};
 
     ghost brings = { λ place solved. HaveCome solved };
@@ -103,11 +88,7 @@ where
     }
 }
 
-impl<G, R> Workplace<G, R>
-where
-    G: Gate + Copy + Drop,
-    R: Wait + Copy + Drop + 'static,
-{
+impl<G: Gate + Copy + Drop, R: Runtime> Workplace<G, R> {
     /// Runs the executor until this desk's worker is done.
     fn run_desk<D: Awaits<JobWaker<R>> + Drop>(
         &self,

@@ -7,7 +7,7 @@ ghost use Rattle.jobs.specs.Coming.{AllCameBack, AreBrought, CameBackUpTo};
 use crate::place::{JobSite, Labor};
 use crate::site::JobRealm;
 use crate::{Answer, Job, JobsError, Solved, gather};
-use async_task::NoMemory;
+use async_task::{NoMemory, Runtime};
 use std::alloc::Global;
 use std::marker::PhantomData;
 use std::sync::Wait;
@@ -19,7 +19,7 @@ use std::thread::{self, Promise, Threads};
 ///    it on one executor, awaits its handle and pops the next.
 /// 2. Where a thread couldn't be started, those that were are joined, and the answer is `NoThread`; where one met a want of
 ///    memory it is `NoMemory`; where a job didn't come back once it is `Missing` with the least such number.
-pub fn run_jobs<P, R>(
+pub fn run_jobs<P: JobSite<R> + Sync + Drop, R: Runtime + Threads + Sync>(
     rt: R,
     alloc: Global,
     realm: &'static JobRealm<R>,
@@ -27,9 +27,6 @@ pub fn run_jobs<P, R>(
     workers: usize,
     gate: P::Gate,
 ) -> Result<Vec<Answer>, JobsError>
-where
-    P: JobSite<R> + Sync + Drop,
-    R: Threads + Sync + Wait + Copy + Drop + 'static,
     requires ranges { All IsInRange jobs.now }
     requires few { length jobs.now ≤ 100000 }
     requires some { 0 < workers }
@@ -72,15 +69,12 @@ impl<P: Labor<R>, R: Wait> Promise<Result<Vec<Solved>, NoMemory>> for WorkOf<'_,
 }
 
 /// Starts the workers, and joins those that were started. What came back to each.
-fn work_together<P, R>(
+fn work_together<P: Labor<R> + Sync, R: Threads + Sync + Wait>(
     rt: &R,
     alloc: Global,
     place: &P,
     workers: usize,
 ) -> Result<Vec<Vec<Solved>>, Refusal>
-where
-    P: Labor<R> + Sync,
-    R: Threads + Sync + Wait,
     ensures { IfOk result (λ returned. AreBrought (P.brings place.now) workers returned.items) }
 {
     thread::scope(

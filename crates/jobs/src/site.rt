@@ -6,7 +6,7 @@ use crate::gate::Gate;
 use crate::work::Work;
 use crate::{Job, Solved};
 use async_executor::{ExRealm, ExStoredTask, ExWaker, Executor, SpawnError};
-use async_task::{Future, NoMemory, Poll, Returning, TaskError};
+use async_task::{Future, NoMemory, Poll, Returning, Runtime, TaskError};
 use blocking::ThreadWaker;
 use concurrent_queue::ConcurrentQueue;
 use std::alloc::Global;
@@ -28,11 +28,7 @@ struct Numbered {
 
 /// The jobs that are left, and the executor that they are spawned on.
 #[derive(Drop)]
-pub struct Site<G, R>
-where
-    G: Drop,
-    R: Wait + Copy + Drop + 'static,
-{
+pub struct Site<G: Drop, R: Runtime> {
     rt: R,
     realm: &'static JobRealm<R>,
     gate: G,
@@ -57,11 +53,7 @@ pub(crate) enum Next {
     Lost,
 }
 
-impl<G, R> Site<G, R>
-where
-    G: Gate + Copy + Drop,
-    R: Wait + Copy + Drop + 'static,
-{
+impl<G: Gate + Copy + Drop, R: Runtime> Site<G, R> {
     ghost use Rattle.jobs.specs.Bringing.{BeginsNumber, Gives};
 
     /// A site with these jobs, numbered from 0, none of which is begun.
@@ -153,11 +145,7 @@ where
     }
 }
 
-impl<G, R> Site<G, R>
-where
-    G: Drop,
-    R: Wait + Copy + Drop + 'static,
-{
+impl<G: Drop, R: Runtime> Site<G, R> {
     /// Drops the handle of a job that is awaited no more, which cancels it.
     pub(crate) fn give_up(&self, awaited: Option<Awaited>) {
         if let Some(Awaited { handle, number: _ }) = awaited {

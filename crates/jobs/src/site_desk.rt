@@ -6,26 +6,17 @@ use crate::Solved;
 use crate::desk::{Awaits, Desk};
 use crate::gate::Gate;
 use crate::site::{Awaited, JobWaker, Next, Site};
-use async_task::{NoMemory, Poll};
-use std::sync::Wait;
+use async_task::{NoMemory, Poll, Runtime};
 
 /// A worker's desk at a site: it pops a job and spawns it, and awaits that job's handle.
 ///
 /// Its drop drops the handle that it awaits, which cancels that job.
-pub struct SiteDesk<'e, G, R>
-where
-    G: Drop,
-    R: Wait + Copy + Drop + 'static,
-{
+pub struct SiteDesk<'e, G: Drop, R: Runtime> {
     site: &'e Site<G, R>,
     awaited: Option<Awaited>,
 }
 
-impl<'e, G, R> SiteDesk<'e, G, R>
-where
-    G: Drop,
-    R: Wait + Copy + Drop + 'static,
-{
+impl<'e, G: Drop, R: Runtime> SiteDesk<'e, G, R> {
     /// At this site.
     pub fn at(site: &'e Site<G, R>) -> Self {
         SiteDesk {
@@ -35,22 +26,14 @@ where
     }
 }
 
-impl<G, R> Drop for SiteDesk<'_, G, R>
-where
-    G: Drop,
-    R: Wait + Copy + Drop + 'static,
-{
+impl<G: Drop, R: Runtime> Drop for SiteDesk<'_, G, R> {
     fn drop(self) {
         let SiteDesk { site, awaited } = self;
         site.give_up(awaited);
     }
 }
 
-impl<G, R> Desk for SiteDesk<'_, G, R>
-where
-    G: Gate + Copy + Drop,
-    R: Wait + Copy + Drop + 'static,
-{
+impl<G: Gate + Copy + Drop, R: Runtime> Desk for SiteDesk<'_, G, R> {
     ghost has_brought = { λ desk solved. All CameByHandle solved };
 
     ghost nothing = { λ desk. All-nil CameByHandle };
@@ -68,11 +51,7 @@ where
     }
 }
 
-impl<G, R> Awaits<JobWaker<R>> for SiteDesk<'_, G, R>
-where
-    G: Gate + Copy + Drop,
-    R: Wait + Copy + Drop + 'static,
-{
+impl<G: Gate + Copy + Drop, R: Runtime> Awaits<JobWaker<R>> for SiteDesk<'_, G, R> {
     fn bring(&mut self, waker: &JobWaker<R>) -> Poll<Result<Option<Solved>, NoMemory>> {
         self.site.await_job(&mut self.awaited, waker)
     }

@@ -7,13 +7,7 @@ use std::sync::Wait;
 
 /// The way to the lock, and the futures.
 #[derive(Drop)]
-pub struct Body<F, T, W, R>
-where
-    F: Drop,
-    T: Drop,
-    W: Wake + Drop,
-    R: Wait + Copy + Drop,
-{
+pub struct Body<F: Drop, T: Drop, W: Wake + Drop, R: Wait + Copy + Drop> {
     pub link: Link<W, R>,
     pub store: Store<F, T>,
     pub alloc: Global,

@@ -20,14 +20,11 @@ pub enum Copied<W> {
 }
 
 /// A copy of a waker for the executor that this leads to.
-pub fn copy_for<W, R>(
+pub fn copy_for<W: Wake + Drop, R: Wait + Copy + Drop>(
     link: &Link<W, R>,
     waker: &LocalExWaker<W, R>,
     unlocked: &mut Unlocked,
 ) -> Copied<W>
-where
-    W: Wake + Drop,
-    R: Wait + Copy + Drop,
     ensures { IsCopyFor W.is_same link.now.id waker.now result }
 {
     match waker {

@@ -41,17 +41,12 @@ fn counts_in<W>(tasks: &Tasks<W>) -> Counts {
 }
 
 /// Writes what an executor of this name shows.
-pub fn show<W, R, O>(
+pub fn show<W: Wake + Drop, R: Wait + Copy + Drop, O: fmt::Write>(
     link: &Link<W, R>,
     name: &str,
     f: &mut fmt::Formatter<O>,
     unlocked: &mut Unlocked,
-) -> fmt::Result
-where
-    W: Wake + Drop,
-    R: Wait + Copy + Drop,
-    O: fmt::Write,
-{
+) -> fmt::Result {
     let found = match link.try_lock(unlocked) {
         Some(mut locked) => Some(counts_in(locked.get())),
         None => None,

@@ -15,13 +15,11 @@ use std::sync::Wait;
 /// 1. Takes all its futures from its tasks, and drops each, in the order of acceptance.
 /// 2. Wakes each of their tasks, in that order: it is queued, or was before.
 /// 3. Closes the queue, and closes each task in it: who awaits it is called.
-pub fn end<F, T, W, R>(link: Link<W, R>, futures: Futures<F, T>, unlocked: &mut Unlocked)
-where
-    F: Drop,
-    T: Drop,
-    W: Wake + Drop,
-    R: Wait + Copy + Drop,
-{
+pub fn end<F: Drop, T: Drop, W: Wake + Drop, R: Wait + Copy + Drop>(
+    link: Link<W, R>,
+    futures: Futures<F, T>,
+    unlocked: &mut Unlocked,
+) {
     let mut futures = futures;
     sections::close(link.lock(unlocked).get());
     for _ in link.rt().forever() {
@@ -36,11 +34,7 @@ where
 
 /// An executor is leaked: it counts no wakers of its own any more. Each that it counted is called, in the order of acceptance: its
 /// task is queued, or was before. It takes no memory.
-pub fn leak<W, R>(link: &Link<W, R>, unlocked: &mut Unlocked)
-where
-    W: Wake + Drop,
-    R: Wait + Copy + Drop,
-{
+pub fn leak<W: Wake + Drop, R: Wait + Copy + Drop>(link: &Link<W, R>, unlocked: &mut Unlocked) {
     sections::leak(link.lock(unlocked).get());
     for _ in link.rt().forever() {
         let woken = sections::leak_next(link.lock(unlocked).get());
@@ -53,18 +47,12 @@ where
 }
 
 /// Does what one step of the end has handed out.
-fn end_one<F, T, W, R>(
+fn end_one<F: Drop, T: Drop, W: Wake + Drop, R: Wait + Copy + Drop>(
     link: &Link<W, R>,
     futures: &mut Futures<F, T>,
     owed: Owed<EntryPlace, (), Foreign<W>>,
     unlocked: &mut Unlocked,
-)
-where
-    F: Drop,
-    T: Drop,
-    W: Wake + Drop,
-    R: Wait + Copy + Drop,
-{
+) {
     if let Some(place) = owed.future {
         drop_at(futures, place, unlocked);
     }
@@ -75,11 +63,7 @@ where
 }
 
 /// Drops the future at a place.
-fn drop_at<F, T>(futures: &mut Futures<F, T>, place: EntryPlace, unlocked: &Unlocked)
-where
-    F: Drop,
-    T: Drop,
-{
+fn drop_at<F: Drop, T: Drop>(futures: &mut Futures<F, T>, place: EntryPlace, unlocked: &Unlocked) {
     if let Some(Left { future, output }) = futures::leave(futures, place) {
         let_go(future, unlocked);
         let_go(output.take(), unlocked);

@@ -45,22 +45,13 @@ impl Unlocked {
 }
 
 /// An executor of futures `F`, whose outputs are `T`, on one thread. Its wakers may be called from any.
-pub struct LocalExecutor<F, T, W, R>
-where
-    F: Drop,
-    T: Drop,
-    W: Wake + Drop,
-    R: Wait + Copy + Drop,
-{
+pub struct LocalExecutor<F: Drop, T: Drop, W: Wake + Drop, R: Wait + Copy + Drop> {
     pub(crate) body: Body<F, T, W, R>,
 }
 
-impl<F, T, W, R> LocalExecutor<F, T, W, R>
+impl<F, T: Drop, W: Wake + Drop, R: Wait + Copy + Drop> LocalExecutor<F, T, W, R>
 where
     F: Future<LocalExWaker<W, R>, Output = T> + Drop,
-    T: Drop,
-    W: Wake + Drop,
-    R: Wait + Copy + Drop,
 {
     /// An executor with places for so many futures. It keeps the runtime value and the allocator for its calls. All places of its
     /// queue and its futures are taken here. Its number is 64 bits that `rt` draws: two of one program have the same one with a
@@ -176,13 +167,7 @@ where
     }
 }
 
-impl<F, T, W, R> Drop for LocalExecutor<F, T, W, R>
-where
-    F: Drop,
-    T: Drop,
-    W: Wake + Drop,
-    R: Wait + Copy + Drop,
-{
+impl<F: Drop, T: Drop, W: Wake + Drop, R: Wait + Copy + Drop> Drop for LocalExecutor<F, T, W, R> {
     /// Drops each future, in the order of acceptance, and closes each task that isn't over: who awaits it is called. It takes no
     /// memory.
     fn drop(self) {
@@ -198,13 +183,8 @@ where
 
 /// How many futures have a waker in the table, how many tasks stand in the two queues, how many in each run's own, and how many ticks
 /// and runs sleep; `<locked>` for each where the lock isn't free.
-impl<F, T, W, R> fmt::Debug for LocalExecutor<F, T, W, R>
-where
-    F: Drop,
-    T: Drop,
-    W: Wake + Drop,
-    R: Wait + Copy + Drop,
-{
+impl<F: Drop, T: Drop, W: Wake + Drop, R: Wait + Copy + Drop> fmt::Debug
+    for LocalExecutor<F, T, W, R> {
     fn fmt<O: fmt::Write>(&self, f: &mut fmt::Formatter<O>) -> fmt::Result {
         show(
             &self.body.link,

@@ -9,11 +9,7 @@ use std::sync::Wait;
 /// The waker of a task that is polled. It counts as none, since the task is there for as long as the poll goes. So it has no
 /// drop: it is taken apart.
 #[must_use]
-pub struct LentWaker<W, R>
-where
-    W: Wake + Drop,
-    R: Wait + Copy + Drop,
-{
+pub struct LentWaker<W: Wake + Drop, R: Wait + Copy + Drop> {
     waker: LocalExWaker<W, R>,
 }
 

@@ -19,17 +19,12 @@ use std::random::RandomSource;
 use std::sync::{Arc, Wait};
 
 /// What a new executor has.
-pub fn body<F, T, W, R>(
+pub fn body<F: Drop, T: Drop, W: Wake + Drop, R: RandomSource + Wait + Copy + Drop>(
     rt: R,
     alloc: Global,
     limit: usize,
     kind: Kind,
 ) -> Result<Body<F, T, W, R>, LocalError>
-where
-    F: Drop,
-    T: Drop,
-    W: Wake + Drop,
-    R: RandomSource + Wait + Copy + Drop,
     requires { 0 < limit }
     ensures { IfOk result (λ body. body.link.rt ≡ rt) }
 {
@@ -59,12 +54,9 @@ fn drawn_by<R: RandomSource>(rt: &R) -> Option<u64> {
     }
 }
 
-impl<F, T, W, R> Body<F, T, W, R>
+impl<F, T: Drop, W: Wake + Drop, R: Wait + Copy + Drop> Body<F, T, W, R>
 where
     F: Future<LocalExWaker<W, R>, Output = T> + Drop,
-    T: Drop,
-    W: Wake + Drop,
-    R: Wait + Copy + Drop,
 {
     /// Whether each future that was accepted is dropped.
     pub(crate) fn has_none(&self, unlocked: &mut Unlocked) -> bool {

@@ -46,12 +46,9 @@ pub struct Sought {
     has_walked: bool,
 }
 
-impl<F, T, W, R, G> LocalRun<'_, F, T, W, R, G>
+impl<F, T: Drop, W: Wake + Drop, R: Wait + Copy + Drop, G> LocalRun<'_, F, T, W, R, G>
 where
     F: Future<LocalExWaker<W, R>, Output = T> + Drop,
-    T: Drop,
-    W: Wake + Drop,
-    R: Wait + Copy + Drop,
     G: Future<LocalExWaker<W, R>> + Drop,
 {
     /// Polls its future, and then runs tasks.
@@ -95,12 +92,9 @@ where
 /// No copy of a waker could be had.
 pub struct NoCopy;
 
-impl<F, T, W, R> Body<F, T, W, R>
+impl<F, T: Drop, W: Wake + Drop, R: Wait + Copy + Drop> Body<F, T, W, R>
 where
     F: Future<LocalExWaker<W, R>, Output = T> + Drop,
-    T: Drop,
-    W: Wake + Drop,
-    R: Wait + Copy + Drop,
 {
     /// Takes tasks and runs each, one at least where one is found.
     fn take_tasks(
@@ -152,13 +146,7 @@ where
     }
 }
 
-impl<F, T, W, R> Body<F, T, W, R>
-where
-    F: Drop,
-    T: Drop,
-    W: Wake + Drop,
-    R: Wait + Copy + Drop,
-{
+impl<F: Drop, T: Drop, W: Wake + Drop, R: Wait + Copy + Drop> Body<F, T, W, R> {
     /// A run looks for a task, and walks from this starting word on. Where there is none it falls asleep.
     fn seek(
         &self,
@@ -225,11 +213,10 @@ fn step_of(step: Step, gives_way: bool) -> RunStep {
 }
 
 /// Calls a waker that the caller keeps.
-fn call<W, R>(waker: &LocalExWaker<W, R>, unlocked: &mut Unlocked)
-where
-    W: Wake + Drop,
-    R: Wait + Copy + Drop,
-{
+fn call<W: Wake + Drop, R: Wait + Copy + Drop>(
+    waker: &LocalExWaker<W, R>,
+    unlocked: &mut Unlocked,
+) {
     match waker {
         LocalExWaker::Task(waker) => waker.link.wake(waker.task, unlocked),
         LocalExWaker::Outside(waker) => waker.wake_by_ref(),
@@ -241,28 +228,23 @@ where
 /// 1. Drops its future.
 /// 2. Takes its own queue out of the list, and schedules each task that is left in the queue, in order.
 /// 3. Leaves the sleepers, and gives its room there back.
-pub fn end<W, R, G>(
+pub fn end<W: Wake + Drop, R: Wait + Copy + Drop, G: Drop>(
     link: &Link<W, R>,
     future: Option<Foreign<G>>,
     running: Option<Running>,
     unlocked: &mut Unlocked,
-)
-where
-    W: Wake + Drop,
-    R: Wait + Copy + Drop,
-    G: Drop,
-{
+) {
     let_go(future, unlocked);
     if let Some(running) = running {
         leave(link, running, unlocked);
     }
 }
 
-fn leave<W, R>(link: &Link<W, R>, running: Running, unlocked: &mut Unlocked)
-where
-    W: Wake + Drop,
-    R: Wait + Copy + Drop,
-{
+fn leave<W: Wake + Drop, R: Wait + Copy + Drop>(
+    link: &Link<W, R>,
+    running: Running,
+    unlocked: &mut Unlocked,
+) {
     let Running { runner, ticker } = running;
     let mut leaving = sections::run_leave(link.lock(unlocked).get(), runner, ticker);
     for _ in link.rt().forever() {

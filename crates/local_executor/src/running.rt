@@ -12,12 +12,9 @@ use executor_parts::EntryPlace;
 use solo::{Back, Found, Lent, Taken};
 use std::sync::Wait;
 
-impl<F, T, W, R> Body<F, T, W, R>
+impl<F, T: Drop, W: Wake + Drop, R: Wait + Copy + Drop> Body<F, T, W, R>
 where
     F: Future<LocalExWaker<W, R>, Output = T> + Drop,
-    T: Drop,
-    W: Wake + Drop,
-    R: Wait + Copy + Drop,
 {
     /// Runs one task, where one is queued, and says whether it did.
     ///
@@ -89,13 +86,7 @@ where
     }
 }
 
-impl<F, T, W, R> Body<F, T, W, R>
-where
-    F: Drop,
-    T: Drop,
-    W: Wake + Drop,
-    R: Wait + Copy + Drop,
-{
+impl<F: Drop, T: Drop, W: Wake + Drop, R: Wait + Copy + Drop> Body<F, T, W, R> {
     /// The poll of a future has given this output, and it is dropped: the output goes to its place, and is dropped where nobody
     /// is left to take it.
     #[inline(never)]

@@ -22,16 +22,13 @@ use std::sync::Wait;
 /// 1. Tests the limit. Without memory for an entry, or for the place of an output, the future comes back.
 /// 2. Makes the task, and queues it. Refused, the future comes back.
 /// 3. Enters the future.
-fn accept<F, T, W>(
+fn accept<F: Drop, T: Drop, W>(
     futures: &mut Futures<F, T>,
     tasks: &mut Tasks<W>,
     alloc: Global,
     future: F,
     mark: Mark,
 ) -> Result<(Spawned<Foreign<W>>, Output<T>), SpawnError<F>>
-where
-    F: Drop,
-    T: Drop,
     ensures accepted { IfOk result (λ both. Accepts mark future futures.old futures.new both.0 both.1 tasks.old tasks.new) }
     ensures future { IfErr result (λ error. refused error ≡ future) }
     ensures cause { IfErr result (IsRefusedAt futures.old tasks.old) }
@@ -75,12 +72,9 @@ impl<F: Drop, T: Drop, W> Both<'_, F, T, W> {
     }
 }
 
-impl<F, T, W, R> Body<F, T, W, R>
+impl<F, T: Drop, W: Wake + Drop, R: Wait + Copy + Drop> Body<F, T, W, R>
 where
     F: Future<LocalExWaker<W, R>, Output = T> + Drop,
-    T: Drop,
-    W: Wake + Drop,
-    R: Wait + Copy + Drop,
 {
     /// Accepts a future with this mark and queues its task, or refuses it. Then it calls who sleeps and is told.
     pub(crate) fn hand_in(

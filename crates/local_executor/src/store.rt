@@ -59,15 +59,11 @@ impl<F: Drop, T: Drop> Store<F, T> {
     }
 
     /// The same, with the lock taken.
-    pub fn open_with<'a, W, R>(
+    pub fn open_with<'a, W: Drop, R: Wait + Copy + Drop>(
         &'a self,
         link: &'a Link<W, R>,
         unlocked: &'a mut Unlocked,
-    ) -> Both<'a, F, T, W>
-    where
-        W: Drop,
-        R: Wait + Copy + Drop,
-    {
+    ) -> Both<'a, F, T, W> {
         Both {
             futures: self.borrow(&link.rt()),
             locked: link.lock(unlocked),

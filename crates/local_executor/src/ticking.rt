@@ -34,21 +34,18 @@ pub struct Looked {
 }
 
 /// A tick leaves.
-pub fn leave<W, R>(link: &Link<W, R>, ticker: Ticker, unlocked: &mut Unlocked)
-where
-    W: Wake + Drop,
-    R: Wait + Copy + Drop,
-{
+pub fn leave<W: Wake + Drop, R: Wait + Copy + Drop>(
+    link: &Link<W, R>,
+    ticker: Ticker,
+    unlocked: &mut Unlocked,
+) {
     let dropped = sections::tick_leave(link.lock(unlocked).get(), ticker);
     link.pay_dropped(dropped, unlocked);
 }
 
-impl<F, T, W, R> LocalTick<'_, F, T, W, R>
+impl<F, T: Drop, W: Wake + Drop, R: Wait + Copy + Drop> LocalTick<'_, F, T, W, R>
 where
     F: Future<LocalExWaker<W, R>, Output = T> + Drop,
-    T: Drop,
-    W: Wake + Drop,
-    R: Wait + Copy + Drop,
 {
     /// Looks for a task and runs it, or falls asleep.
     pub(crate) fn look(
@@ -88,13 +85,7 @@ where
     }
 }
 
-impl<F, T, W, R> Body<F, T, W, R>
-where
-    F: Drop,
-    T: Drop,
-    W: Wake + Drop,
-    R: Wait + Copy + Drop,
-{
+impl<F: Drop, T: Drop, W: Wake + Drop, R: Wait + Copy + Drop> Body<F, T, W, R> {
     /// A tick looks for a task. Where there is none it falls asleep.
     fn search(
         &self,

@@ -1,5 +1,5 @@
 //! Executors of one thread.
-use async_task::{Future, Poll};
+use async_task::{Future, Poll, Runtime};
 use local_executor::{
     LocalCancel, LocalExWaker, LocalExecutor, LocalFallible, LocalHandle, LocalRun, LocalTick,
     RunError, SpawnError, StaticLocalExecutor,
@@ -10,7 +10,6 @@ use refusal_rows::{
 };
 use std::alloc::Global;
 use std::random::RandomSource;
-use std::sync::Wait;
 use std::sync::atomic::Ordering::SeqCst;
 
 /// How many places an executor has.
@@ -28,7 +27,7 @@ type TestRun<'a, R> = LocalRun<'a, Job, u64, Bell, R, Job>;
 
 /// What the program's executors are made with.
 #[derive(Drop)]
-struct Ground<'a, R: Wait + Copy + Drop + 'static> {
+struct Ground<'a, R: Runtime> {
     rt: R,
     alloc: Global,
     waker: &'a TestWaker<R>,
@@ -37,13 +36,13 @@ struct Ground<'a, R: Wait + Copy + Drop + 'static> {
 
 /// A handle.
 #[derive(Drop)]
-enum Handle<R: Wait + Copy + Drop + 'static> {
+enum Handle<R: Runtime> {
     Task(LocalHandle<u64, Bell, R>),
     Fallible(LocalFallible<u64, Bell, R>),
     Cancel(LocalCancel<u64, Bell, R>),
 }
 
-impl<R: Wait + Copy + Drop + 'static> Handle<R> {
+impl<R: Runtime> Handle<R> {
     fn poll(&mut self, waker: &TestWaker<R>) -> Polled {
         match self {
             Handle::Task(task) => of_task(task.poll(waker)),
@@ -53,7 +52,7 @@ impl<R: Wait + Copy + Drop + 'static> Handle<R> {
     }
 }
 
-impl<R: Wait + Copy + Drop + 'static> Turns for Handle<R> {
+impl<R: Runtime> Turns for Handle<R> {
     fn turned(self, turn: Turn) -> Option<Self> {
         match (self, turn) {
             (Handle::Task(task), Turn::Fallible) => Some(Handle::Fallible(task.fallible())),
@@ -69,24 +68,22 @@ impl<R: Wait + Copy + Drop + 'static> Turns for Handle<R> {
 
 /// An executor of either kind.
 #[derive(Drop)]
-enum OneOf<'a, R: Wait + Copy + Drop + 'static> {
+enum OneOf<'a, R: Runtime> {
     Owned(&'a TestExecutor<R>),
     Static(&'a TestStatic<R>),
 }
 
 /// An executor, and the waker that its ticks, runs and handles are polled by.
 #[derive(Drop)]
-struct OnExecutor<'a, 'w, R: Wait + Copy + Drop + 'static> {
+struct OnExecutor<'a, 'w, R: Runtime> {
     executor: OneOf<'a, R>,
     alloc: Global,
     waker: &'w TestWaker<R>,
     drops: &'static Drops,
 }
 
-impl<'a, 'w, R> Runs<Handle<R>, TestTick<'a, R>, TestRun<'a, R>> for OnExecutor<'a, 'w, R>
-where
-    R: Wait + Copy + Drop + 'static,
-{
+impl<'a, 'w, R: Runtime> Runs<Handle<R>, TestTick<'a, R>, TestRun<'a, R>>
+    for OnExecutor<'a, 'w, R> {
     fn job(&self, name: u64, wakes: u64) -> Job {
         Job {
             name,
@@ -195,7 +192,7 @@ where
 }
 
 /// Spawns jobs of these names and drops their handles.
-fn many<R: Wait + Copy + Drop + 'static>(
+fn many<R: Runtime>(
     executor: &TestExecutor<R>,
     alloc: Global,
     from: u64,
@@ -226,10 +223,7 @@ fn many<R: Wait + Copy + Drop + 'static>(
 }
 
 /// An executor to make calls on.
-fn on<'a, 'w, R: Wait + Copy + Drop + 'static>(
-    ground: &Ground<'w, R>,
-    executor: OneOf<'a, R>,
-) -> OnExecutor<'a, 'w, R> {
+fn on<'a, 'w, R: Runtime>(ground: &Ground<'w, R>, executor: OneOf<'a, R>) -> OnExecutor<'a, 'w, R> {
     OnExecutor {
         executor,
         alloc: ground.alloc,
@@ -239,7 +233,7 @@ fn on<'a, 'w, R: Wait + Copy + Drop + 'static>(
 }
 
 /// The handle of a future that is left in an executor, polled once.
-fn leave<R: Wait + Copy + Drop + 'static>(
+fn leave<R: Runtime>(
     ground: &Ground<'_, R>,
     executor: &TestExecutor<R>,
     report: &mut Report,
@@ -267,7 +261,7 @@ fn leave<R: Wait + Copy + Drop + 'static>(
 }
 
 /// An executor, which is made once more where that is refused.
-fn owned<R: RandomSource + Wait + Copy + Drop + 'static>(
+fn owned<R: Runtime + RandomSource>(
     ground: &Ground<'_, R>,
     report: &mut Report,
 ) -> Option<TestExecutor<R>> {
@@ -281,7 +275,7 @@ fn owned<R: RandomSource + Wait + Copy + Drop + 'static>(
 }
 
 /// A static one.
-fn lasting<R: RandomSource + Wait + Copy + Drop + 'static>(
+fn lasting<R: Runtime + RandomSource>(
     ground: &Ground<'_, R>,
     report: &mut Report,
 ) -> Option<TestStatic<R>> {
@@ -295,7 +289,7 @@ fn lasting<R: RandomSource + Wait + Copy + Drop + 'static>(
 }
 
 /// Makes all calls, by a waker from outside.
-pub fn try_locals<R: RandomSource + Wait + Copy + Drop + 'static>(
+pub fn try_locals<R: Runtime + RandomSource>(
     rt: R,
     alloc: Global,
     drops: &'static Drops,
@@ -316,10 +310,7 @@ pub fn try_locals<R: RandomSource + Wait + Copy + Drop + 'static>(
 
 /// Makes all calls on a static executor, and on one that is not: that is leaked with a future in it, which goes on; another is
 /// dropped with a future in it, whose task is closed.
-fn try_both<R: RandomSource + Wait + Copy + Drop + 'static>(
-    ground: &Ground<'_, R>,
-    report: &mut Report,
-) -> bool {
+fn try_both<R: Runtime + RandomSource>(ground: &Ground<'_, R>, report: &mut Report) -> bool {
     report.come_to(Place::StaticLocalExecutor);
     let Some(executor) = lasting(ground, report) else {
         return false;
@@ -342,10 +333,7 @@ fn try_both<R: RandomSource + Wait + Copy + Drop + 'static>(
 }
 
 /// An executor is dropped with a future in it.
-fn ends<R: RandomSource + Wait + Copy + Drop + 'static>(
-    ground: &Ground<'_, R>,
-    report: &mut Report,
-) -> bool {
+fn ends<R: Runtime + RandomSource>(ground: &Ground<'_, R>, report: &mut Report) -> bool {
     let Some(executor) = owned(ground, report) else {
         return false;
     };
@@ -355,7 +343,7 @@ fn ends<R: RandomSource + Wait + Copy + Drop + 'static>(
 }
 
 /// Whether a poll of the handle that was left ends so.
-fn is_left_with<R: Wait + Copy + Drop + 'static>(
+fn is_left_with<R: Runtime>(
     handle: Option<Handle<R>>,
     waker: &TestWaker<R>,
     wanted: Polled,

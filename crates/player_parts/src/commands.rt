@@ -63,19 +63,12 @@ fn nests(plain: &Plain) -> bool {
 }
 
 /// Plays the commands from this place on, until one drops the executor or leaks it.
-pub fn play_on<D, T, N, H, K>(
+pub fn play_on<D: Desk<H, T, N>, T: Drop, N: Drop, H: Hold, K: Keep>(
     player: &mut Player<H, K>,
     desk: &D,
     commands: &[Command],
     from: usize,
-) -> Stop
-where
-    D: Desk<H, T, N>,
-    T: Drop,
-    N: Drop,
-    H: Hold,
-    K: Keep,
-{
+) -> Stop {
     let mut seats: Seats<T, N> = Seats::new(player.alloc);
     for (place, command) in commands.iter().enumerate().skip(from) {
         if let Some(Request { refusal, plain }) = whole(command) {

@@ -50,12 +50,7 @@ impl<H: Drop, S: Drop> Drop for Scripted<H, S> {
     }
 }
 
-impl<H, S, W> Future<W> for Scripted<H, S>
-where
-    H: Hold + Await<W>,
-    S: KeptOf<W>,
-    W: Wake,
-{
+impl<H: Hold + Await<W>, S: KeptOf<W>, W: Wake> Future<W> for Scripted<H, S> {
     type Output = Gift;
 
     fn poll(&mut self, waker: &W) -> Poll<Gift> {
@@ -110,11 +105,10 @@ impl<H: Drop, S: Drop> Scripted<H, S> {
     }
 
     /// Does its next item, and gives the output where that is ready.
-    fn do_next<W>(&mut self, waker: &W) -> Option<u64>
+    fn do_next<W: Wake>(&mut self, waker: &W) -> Option<u64>
     where
         H: Hold + Await<W>,
         S: KeptOf<W>,
-        W: Wake,
     {
         match self.take_item() {
             Item::Pend => None,

@@ -36,12 +36,12 @@ impl<T: Drop, N: Drop> Seats<T, N> {
 
 impl<H: Hold, K: Keep> Player<H, K> {
     /// Makes the call of a command.
-    pub fn call<D, T, N>(&mut self, desk: &D, seats: &mut Seats<T, N>, plain: &Plain) -> Answer
-    where
-        D: Desk<H, T, N>,
-        T: Drop,
-        N: Drop,
-    {
+    pub fn call<D: Desk<H, T, N>, T: Drop, N: Drop>(
+        &mut self,
+        desk: &D,
+        seats: &mut Seats<T, N>,
+        plain: &Plain,
+    ) -> Answer {
         match plain {
             Plain::Spawn { mark, name, items } => self.spawn::<D, T, N>(
                 desk,
@@ -106,12 +106,12 @@ impl<H: Hold, K: Keep> Player<H, K> {
         }
     }
 
-    fn make_tick<D, T, N>(&mut self, desk: &D, ticks: &mut Named<T>, name: Name) -> Answer
-    where
-        D: Desk<H, T, N>,
-        T: Drop,
-        N: Drop,
-    {
+    fn make_tick<D: Desk<H, T, N>, T: Drop, N: Drop>(
+        &mut self,
+        desk: &D,
+        ticks: &mut Named<T>,
+        name: Name,
+    ) -> Answer {
         if self.knows(name) {
             return Answer::NotPossible;
         }
@@ -131,18 +131,13 @@ impl<H: Hold, K: Keep> Player<H, K> {
     }
 
     /// Makes a run, whose own future holds the handle of this name, if any.
-    fn make_run<D, T, N>(
+    fn make_run<D: Desk<H, T, N>, T: Drop, N: Drop>(
         &mut self,
         desk: &D,
         runs: &mut Named<N>,
         name: Name,
         twice: Option<Name>,
-    ) -> Answer
-    where
-        D: Desk<H, T, N>,
-        T: Drop,
-        N: Drop,
-    {
+    ) -> Answer {
         if self.knows(name) {
             return Answer::NotPossible;
         }
@@ -160,18 +155,13 @@ impl<H: Hold, K: Keep> Player<H, K> {
         }
     }
 
-    fn hand_over<D, T, N>(
+    fn hand_over<D: Desk<H, T, N>, T: Drop, N: Drop>(
         &mut self,
         desk: &D,
         runs: &mut Named<N>,
         name: Name,
         own: Own<H>,
-    ) -> Answer
-    where
-        D: Desk<H, T, N>,
-        T: Drop,
-        N: Drop,
-    {
+    ) -> Answer {
         match desk.run(own) {
             Ok(run) => self.sit(runs, name, run),
             Err(own) => {
@@ -185,11 +175,9 @@ impl<H: Hold, K: Keep> Player<H, K> {
     }
 
     /// Polls a tick by the outside waker of its name.
-    fn poll_tick<D, T, N>(&self, desk: &D, ticks: &mut Named<T>, name: Name) -> Answer
+    fn poll_tick<D, T: Drop, N: Drop>(&self, desk: &D, ticks: &mut Named<T>, name: Name) -> Answer
     where
         D: Desk<H, T, N>,
-        T: Drop,
-        N: Drop,
     {
         match ticks.remove(&name) {
             Some(tick) => {
@@ -203,11 +191,9 @@ impl<H: Hold, K: Keep> Player<H, K> {
     }
 
     /// Polls a run by the outside waker of its name.
-    fn poll_run<D, T, N>(&self, desk: &D, runs: &mut Named<N>, name: Name) -> Answer
+    fn poll_run<D, T: Drop, N: Drop>(&self, desk: &D, runs: &mut Named<N>, name: Name) -> Answer
     where
         D: Desk<H, T, N>,
-        T: Drop,
-        N: Drop,
     {
         match runs.remove(&name) {
             Some(run) => {

@@ -7,22 +7,14 @@ use std::sync::Wait;
 
 /// A future that a queue has accepted. It has room there until it is dropped, so that there is always a place for its task
 /// when that is to be run.
-pub struct Accepted<F, R>
-where
-    F: Drop,
-    R: Wait + Copy + Drop,
-{
+pub struct Accepted<F: Drop, R: Wait + Copy + Drop> {
     future: F,
     room: Room,
     places: &'static Places,
     rt: R,
 }
 
-impl<F, R> Accepted<F, R>
-where
-    F: Drop,
-    R: Wait + Copy + Drop,
-{
+impl<F: Drop, R: Wait + Copy + Drop> Accepted<F, R> {
     pub(crate) fn new(rt: R, places: &'static Places, room: Room, future: F) -> Self
         ensures { result.future ≡ future }
     {
@@ -49,11 +41,7 @@ where
     }
 }
 
-impl<K, F, R> Future<K> for Accepted<F, R>
-where
-    F: Future<K> + Drop,
-    R: Wait + Copy + Drop,
-{
+impl<K, F: Future<K> + Drop, R: Wait + Copy + Drop> Future<K> for Accepted<F, R> {
     type Output = F::Output;
 
     fn poll(&mut self, waker: &K) -> Poll<F::Output> {
@@ -61,11 +49,7 @@ where
     }
 }
 
-impl<F, R> Drop for Accepted<F, R>
-where
-    F: Drop,
-    R: Wait + Copy + Drop,
-{
+impl<F: Drop, R: Wait + Copy + Drop> Drop for Accepted<F, R> {
     /// 1. Drops the future.
     /// 2. Gives its room back, under a lock that is taken after that.
     fn drop(self) {

@@ -7,29 +7,16 @@ use crate::names::{QueueRealm, QueueRunnable, QueueTask, QueueWaker};
 use crate::places::Places;
 use crate::ready::Ready;
 use crate::rooms::NoRoom;
-use async_task::{Future, Parts, Wake, close_returned, spawn};
-use std::sync::Wait;
+use async_task::{Future, Output, OutsideWaker, Parts, Runtime, close_returned, spawn};
 
 /// A queue of tasks that are to be run, and the realm where they lie. Threads that spawn or run share it by reference.
 #[derive(Drop)]
-pub struct ReadyQueue<F, T, W, R>
-where
-    F: Drop + 'static,
-    T: 'static,
-    W: 'static,
-    R: Wait + Copy + Drop + 'static,
-{
+pub struct ReadyQueue<F: Drop + 'static, T: 'static, W: 'static, R: Runtime> {
     realm: &'static QueueRealm<F, T, W, R>,
     ready: Ready<R>,
 }
 
-impl<F, T, W, R> ReadyQueue<F, T, W, R>
-where
-    F: Drop + 'static,
-    T: Drop + 'static,
-    W: Wake + Drop + 'static,
-    R: Wait + Copy + Drop + 'static,
-{
+impl<F: Drop + 'static, T: Output, W: OutsideWaker, R: Runtime> ReadyQueue<F, T, W, R> {
     /// A queue with these places. Realm and places are its own: its tasks lie there, and no others.
     pub fn new(rt: R, realm: &'static QueueRealm<F, T, W, R>, places: &'static Places) -> Self
         ensures realm { result.realm.now.number ≡ realm.now.number }
@@ -113,12 +100,9 @@ where
     }
 }
 
-impl<F, T, W, R> ReadyQueue<F, T, W, R>
+impl<F, T: Output, W: OutsideWaker, R: Runtime> ReadyQueue<F, T, W, R>
 where
     F: Future<QueueWaker<F, T, W, R>, Output = T> + Drop + 'static,
-    T: Drop + 'static,
-    W: Wake + Drop + 'static,
-    R: Wait + Copy + Drop + 'static,
 {
     /// Polls the futures of the tasks that are queued, one after the other, until none is.
     pub fn run(&self) {

@@ -1,7 +1,6 @@
 use crate::names::{QueueDue, QueueScheduled};
 use crate::places::Places;
-use async_task::{Due, Returning, Schedule, ScheduleInfo, Wake};
-use std::sync::Wait;
+use async_task::{Due, Output, OutsideWaker, Returning, Runtime, Schedule, ScheduleInfo};
 
 /// The schedule value of a queue's tasks: a Runnable that it is given goes into the queue, which has a place for it unless it
 /// is closed.
@@ -11,10 +10,10 @@ pub struct Ready<R> {
     pub(crate) rt: R,
 }
 
-impl<R: Wait + Copy + Drop + 'static> Ready<R> {
+impl<R: Runtime> Ready<R> {
     /// Appends the Runnable. Where the queue is full or closed its task is closed, and the answer is the one that awaited it,
     /// where that is a task which has to be queued.
-    fn push<F: Drop + 'static, T: Drop + 'static, W: Wake + Drop + 'static>(
+    fn push<F: Drop + 'static, T: Output, W: OutsideWaker>(
         &self,
         runnable: QueueScheduled<F, T, W, R>,
     ) -> Option<QueueDue<F, T, W, R>> {
@@ -33,13 +32,8 @@ impl<R: Wait + Copy + Drop + 'static> Ready<R> {
     }
 }
 
-impl<F, T, W, R> Schedule<QueueScheduled<F, T, W, R>> for Ready<R>
-where
-    F: Drop + 'static,
-    T: Drop + 'static,
-    W: Wake + Drop + 'static,
-    R: Wait + Copy + Drop + 'static,
-{
+impl<F: Drop + 'static, T: Output, W: OutsideWaker, R: Runtime> Schedule<QueueScheduled<F, T, W, R>>
+    for Ready<R> {
     /// Appends the Runnable to the queue. Where that is full or closed, the task is closed, and who awaited it is woken.
     fn schedule(&self, runnable: QueueScheduled<F, T, W, R>, _info: ScheduleInfo) {
         let mut next = Some(runnable);

@@ -173,13 +173,7 @@ struct Stage<E, H, T, N> {
     next: u64,
 }
 
-impl<E, H, T, N> Stage<E, H, T, N>
-where
-    E: Runs<H, T, N> + Drop,
-    H: Turns,
-    T: Drop,
-    N: Drop,
-{
+impl<E: Runs<H, T, N> + Drop, H: Turns, T: Drop, N: Drop> Stage<E, H, T, N> {
     fn new(executor: E) -> Stage<E, H, T, N> {
         Stage {
             executor,
@@ -283,12 +277,9 @@ where
 }
 
 /// Makes these calls on an executor.
-pub fn play<E, H, T, N>(executor: E, rows: &[Row], report: &mut Report)
+pub fn play<E, H: Turns, T: Drop, N: Drop>(executor: E, rows: &[Row], report: &mut Report)
 where
     E: Runs<H, T, N> + Drop,
-    H: Turns,
-    T: Drop,
-    N: Drop,
 {
     let mut stage: Stage<E, H, T, N> = Stage::new(executor);
     try_each(&mut stage, rows, report);
@@ -305,13 +296,7 @@ fn let_go<T: Drop>(place: &mut Option<T>) -> Ended {
     }
 }
 
-impl<E, H, T, N> Trial for Stage<E, H, T, N>
-where
-    E: Runs<H, T, N> + Drop,
-    H: Turns,
-    T: Drop,
-    N: Drop,
-{
+impl<E: Runs<H, T, N> + Drop, H: Turns, T: Drop, N: Drop> Trial for Stage<E, H, T, N> {
     type Row = Row;
 
     fn name(&self, row: Row) -> Call {

@@ -1,8 +1,7 @@
 //! A join of handles: what a poll of it answers that is refused. It is polled once more then, and goes on with the same.
-use async_task::{Future, Poll, TaskError};
+use async_task::{Future, Poll, Runtime, TaskError};
 use executor_refusals::{Ground, LIMIT, TestExecutor, TestWaker, owned};
 use refusal_rows::{Bell, Call, Job, Place, Report};
-use std::sync::Wait;
 use workers::JoinAll;
 
 /// How many handles are joined: more than a list of outputs has room for at first, and half of what the executor has places for.
@@ -12,7 +11,7 @@ type TestJoin<R> = JoinAll<u64, Bell, R>;
 
 /// Joins handles of an executor of its own, and says whether all was as it has to be. The first poll wants room for an
 /// output and a copy of the waker; then the futures are ready, and the other wants room behind the outputs that came.
-pub fn join<R: Wait + Copy + Drop + 'static>(ground: &Ground<'_, R>, report: &mut Report) -> bool {
+pub fn join<R: Runtime>(ground: &Ground<'_, R>, report: &mut Report) -> bool {
     report.come_to(Place::Executor);
     let Some(executor) = owned(ground, report) else {
         return false;
@@ -36,7 +35,7 @@ pub fn join<R: Wait + Copy + Drop + 'static>(ground: &Ground<'_, R>, report: &mu
 
 /// The join of what was spawned in one call. Where a future is refused, the handles of those before it are dropped, and all are
 /// spawned once more.
-fn spawned<R: Wait + Copy + Drop + 'static>(
+fn spawned<R: Runtime>(
     ground: &Ground<'_, R>,
     executor: &TestExecutor<R>,
     report: &mut Report,
@@ -58,7 +57,7 @@ fn spawned<R: Wait + Copy + Drop + 'static>(
 }
 
 /// What a poll ends with, which is made once more where it is refused.
-fn polled<R: Wait + Copy + Drop + 'static>(
+fn polled<R: Runtime>(
     all: &mut TestJoin<R>,
     waker: &TestWaker<R>,
     call: Call,

@@ -8,7 +8,7 @@
 mod joins;
 mod program_runs;
 
-use async_task::Awaiter;
+use async_task::{Awaiter, Runtime};
 use executor_refusals::{Ground, TestRealm, try_executors};
 use jobs::{JobPlace, JobRealm, JobSite, Open};
 use joins::join;
@@ -20,14 +20,13 @@ use refusal_rows::{Call, Drops, Place, Report, bell, own, spare_requests, spend,
 use std::alloc::{AllocGlobal, Global};
 use std::process::ExitCode;
 use std::random::RandomSource;
-use std::sync::Wait;
 use std::thread::Threads;
 use std::time::Clock;
 use task_refusals::{TaskRealm, try_tasks, try_timers};
 
 /// Where tasks lie.
 #[derive(Drop)]
-struct Realms<R: Wait + Copy + Drop + 'static> {
+struct Realms<R: Runtime> {
     tasks: &'static TaskRealm,
     executors: &'static TestRealm<R>,
     jobs: &'static JobRealm<R>,
@@ -77,7 +76,7 @@ fn main(rt: HostRuntime) -> ExitCode {
 fn try_all<P, R>(rt: R, alloc: Global, realms: &Realms<R>, report: &mut Report) -> bool
 where
     P: JobSite<R, Gate = Open> + Sync + Drop,
-    R: Threads + RandomSource + Clock + Sync + Wait + Copy + Drop + 'static,
+    R: Runtime + Threads + RandomSource + Clock + Sync,
 {
     let Some(drops) = own::<Drops>(alloc, report) else {
         return false;
@@ -96,7 +95,7 @@ where
         & do_case::<P, R>(rt, alloc, realms.jobs, TWO_JOBS, report)
 }
 
-fn try_shared<R: Wait + Copy + Drop + 'static>(
+fn try_shared<R: Runtime>(
     rt: R,
     alloc: Global,
     realm: &'static TestRealm<R>,

@@ -1,10 +1,10 @@
 //! What `taskrun` does with these words on this input: `jobs 2` on two jobs, and `sim` on a short script. One request for memory
 //! may be refused meanwhile: then the fault is want of memory or of threads, its status 3, and nothing was written.
+use async_task::Runtime;
 use commands::program::program;
 use jobs::{JobRealm, JobSite, Open};
 use refusal_rows::{Call, Place, Report};
 use std::alloc::{AllocError, Global};
-use std::sync::Wait;
 use std::thread::Threads;
 
 /// A run of the program.
@@ -50,17 +50,13 @@ enum Ended {
 }
 
 /// Runs the program, and once more where something was refused, which has to be well. Says whether it was.
-pub fn do_case<P, R>(
+pub fn do_case<P: JobSite<R, Gate = Open> + Sync + Drop, R: Runtime + Threads + Sync>(
     rt: R,
     alloc: Global,
     realm: &'static JobRealm<R>,
     case: Case,
     report: &mut Report,
-) -> bool
-where
-    P: JobSite<R, Gate = Open> + Sync + Drop,
-    R: Threads + Sync + Wait + Copy + Drop + 'static,
-{
+) -> bool {
     report.come_to(Place::Taskrun);
     for _ in 0..2 {
         match try_once::<P, R>(rt, alloc, realm, case) {
@@ -75,7 +71,7 @@ where
 fn try_once<P, R>(rt: R, alloc: Global, realm: &'static JobRealm<R>, case: Case) -> Ended
 where
     P: JobSite<R, Gate = Open> + Sync + Drop,
-    R: Threads + Sync + Wait + Copy + Drop + 'static,
+    R: Runtime + Threads + Sync,
 {
     let (Ok(words), Ok(mut written)) = (
         words(alloc, case.words),

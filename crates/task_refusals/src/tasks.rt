@@ -1,7 +1,7 @@
 //! Tasks without an executor.
 use async_task::{
-    Awaiter, Builder, Cancel, FallibleTask, Future, Parts, Realm, Returning, Runnable, Schedule,
-    ScheduleInfo, Scheduled, Task, spawn,
+    Awaiter, Builder, Cancel, FallibleTask, Future, Parts, Realm, Returning, Runnable, Runtime,
+    Schedule, ScheduleInfo, Scheduled, Task, spawn,
 };
 use refusal_rows::{
     Bell, Call, Drops, Ended, Job, Look, Place, Polled, Report, Trial, bell, of_fallible, of_task,
@@ -15,10 +15,7 @@ use std::sync::atomic::Ordering::SeqCst;
 #[derive(Clone, Copy, Drop)]
 pub struct Close;
 
-impl<R> Schedule<Scheduled<Job, u64, Close, (), Bell, R>> for Close
-where
-    R: Wait + Copy + Drop,
-{
+impl<R: Wait + Copy + Drop> Schedule<Scheduled<Job, u64, Close, (), Bell, R>> for Close {
     fn schedule(&self, runnable: Scheduled<Job, u64, Close, (), Bell, R>, _info: ScheduleInfo) {
         drop(Returning::new(runnable.store()));
     }
@@ -74,7 +71,7 @@ const TASK_ROWS: &[TaskRow] = &[
 ];
 
 /// Makes these calls, and says whether there was memory for a waker from outside.
-pub fn try_tasks<R: Wait + Copy + Drop + 'static>(
+pub fn try_tasks<R: Runtime>(
     rt: R,
     alloc: Global,
     realm: &'static TaskRealm,
@@ -91,7 +88,7 @@ pub fn try_tasks<R: Wait + Copy + Drop + 'static>(
 }
 
 #[derive(Drop)]
-enum Kept<R: Wait + Copy + Drop + 'static> {
+enum Kept<R: Runtime> {
     Task(TestTask<R>),
     Fallible(FallibleTask<Job, u64, Close, (), Bell, R>),
     Cancel(Cancel<Job, u64, Close, (), Bell, R>),
@@ -99,7 +96,7 @@ enum Kept<R: Wait + Copy + Drop + 'static> {
 
 /// A task: its Runnable and its handle.
 #[derive(Drop)]
-struct Tasks<'a, R: Wait + Copy + Drop + 'static> {
+struct Tasks<'a, R: Runtime> {
     rt: R,
     realm: &'static TaskRealm,
     waker: &'a TaskAwaiter<R>,
@@ -110,7 +107,7 @@ struct Tasks<'a, R: Wait + Copy + Drop + 'static> {
     back: Option<Job>,
 }
 
-impl<'a, R: Wait + Copy + Drop + 'static> Tasks<'a, R> {
+impl<'a, R: Runtime> Tasks<'a, R> {
     fn new(
         rt: R,
         realm: &'static TaskRealm,
@@ -209,7 +206,7 @@ impl<'a, R: Wait + Copy + Drop + 'static> Tasks<'a, R> {
     }
 }
 
-impl<R: Wait + Copy + Drop + 'static> Trial for Tasks<'_, R> {
+impl<R: Runtime> Trial for Tasks<'_, R> {
     type Row = TaskRow;
 
     fn name(&self, row: TaskRow) -> Call {

@@ -4,12 +4,12 @@ use crate::parts::{
     Bell, Countdown, Counts, Line, Tasks, TestAwaiter, TestCancel, TestRunnable, TestTask,
     TestWaker, next, ran,
 };
-use async_task::{Awaiter, Builder, Future, NoMemory, Poll, RealmError, TaskError};
+use async_task::{Awaiter, Builder, Future, NoMemory, Poll, RealmError, Runtime, TaskError};
 use std::alloc::{AllocGlobal, Global};
 use std::fmt::Debug;
 use std::process::Abort;
+use std::sync::Arc;
 use std::sync::atomic::Ordering::SeqCst;
-use std::sync::{Arc, Wait};
 
 /// The value is the one that is wanted.
 pub fn same<R: Abort, T: PartialEq + Debug + Drop>(rt: &R, value: T, want: T) {
@@ -32,14 +32,14 @@ pub fn holds<R: Abort>(rt: &R, is_so: bool) {
 
 /// Where a test's tasks lie, and what has happened to them. Of a run in which no memory is refused.
 #[derive(Drop)]
-pub struct Stage<R: Wait + Copy + Drop + 'static> {
+pub struct Stage<R: Runtime> {
     pub rt: R,
     pub alloc: Global,
     pub realm: &'static Tasks<R>,
     pub counts: Arc<Counts, Global>,
 }
 
-impl<R: Abort + Wait + Copy + Drop + 'static> Stage<R> {
+impl<R: Runtime + Abort> Stage<R> {
     /// New tasks in this realm.
     pub fn new(rt: R, alloc: Global, realm: Result<&'static Tasks<R>, RealmError>) -> Stage<R> {
         match realm {

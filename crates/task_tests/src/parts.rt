@@ -1,7 +1,7 @@
 //! What the tests' tasks are made of.
 use async_task::{
-    Awaiter, Cancel, Due, Future, Poll, Realm, Returning, Runnable, Schedule, ScheduleInfo,
-    Scheduled, StoredRunnable, StoredWaker, Task, TaskWaker, Wake,
+    Awaiter, Cancel, Due, Future, Poll, Realm, Returning, Runnable, Runtime, Schedule,
+    ScheduleInfo, Scheduled, StoredRunnable, StoredWaker, Task, TaskWaker, Wake,
 };
 use std::alloc::{AllocError, Global};
 use std::sync::atomic::AtomicU64;
@@ -210,7 +210,7 @@ pub type TestWaker<R> = TaskWaker<Countdown, u64, Line<R>, u64, Bell, R>;
 pub type TestAwaiter<R> = Awaiter<Countdown, u64, Line<R>, u64, Bell, R>;
 
 /// The Runnable that was scheduled last.
-pub fn next<R: Wait + Copy + Drop + 'static>(
+pub fn next<R: Runtime>(
     rt: R,
     realm: &'static Tasks<R>,
     counts: &Counts,
@@ -226,16 +226,16 @@ pub fn next<R: Wait + Copy + Drop + 'static>(
 }
 
 /// What a run answers.
-pub fn ran<R: Wait + Copy + Drop + 'static>(runnable: TestRunnable<R>) -> bool {
+pub fn ran<R: Runtime>(runnable: TestRunnable<R>) -> bool {
     runnable.run()
 }
 
 /// The drop of a handle. A call of `drop` states at each place all that a handle's parts drop: this and the next state it
 /// once.
-pub fn drop_task<R: Wait + Copy + Drop + 'static>(_task: TestTask<R>) {}
+pub fn drop_task<R: Runtime>(_task: TestTask<R>) {}
 
 /// The drop of a handle that cancels.
-pub fn drop_cancel<R: Wait + Copy + Drop + 'static>(_cancel: TestCancel<R>) {}
+pub fn drop_cancel<R: Runtime>(_cancel: TestCancel<R>) {}
 
 /// The drop of a task's waker.
-pub fn drop_waker<R: Wait + Copy + Drop + 'static>(_waker: TestWaker<R>) {}
+pub fn drop_waker<R: Runtime>(_waker: TestWaker<R>) {}

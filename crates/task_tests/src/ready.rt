@@ -1,10 +1,9 @@
 //! A queue of tasks that are to be run: what it refuses, what it closes, and that it runs what it accepts beside another thread.
 use crate::calls::{holds, same};
 use crate::parts::Sum;
-use async_task::{Awaiter, Future, Nobody, Poll, Realm, TaskError};
+use async_task::{Awaiter, Future, Nobody, Poll, Realm, Runtime, TaskError};
 use ready_queue::{Places, QueueRunnable, QueueTask, ReadyQueue, SpawnError};
 use std::process::Abort;
-use std::sync::Wait;
 use std::test::Fail;
 use std::thread;
 
@@ -12,11 +11,7 @@ type TestQueue<R> = ReadyQueue<Sum, u64, Nobody, R>;
 
 type TestTask<R> = QueueTask<Sum, u64, Nobody, R>;
 
-fn spawned<R: Abort + Wait + Copy + Drop + 'static>(
-    rt: &R,
-    queue: &TestQueue<R>,
-    left: u64,
-) -> TestTask<R> {
+fn spawned<R: Runtime + Abort>(rt: &R, queue: &TestQueue<R>, left: u64) -> TestTask<R> {
     match queue.spawn(Sum { left, sum: 0 }) {
         Ok(task) => task,
         Err(_) => panic!(rt; "refused"),
@@ -24,12 +19,7 @@ fn spawned<R: Abort + Wait + Copy + Drop + 'static>(
 }
 
 /// How a future that is Pending so often is refused: it comes back.
-fn is_refused<R: Abort + Wait + Copy + Drop + 'static>(
-    rt: &R,
-    queue: &TestQueue<R>,
-    left: u64,
-    is_full: bool,
-) {
+fn is_refused<R: Runtime + Abort>(rt: &R, queue: &TestQueue<R>, left: u64, is_full: bool) {
     match queue.spawn(Sum { left, sum: 0 }) {
         Ok(_) => panic!(rt; "accepted"),
         Err(SpawnError::Full(back)) => same(rt, (is_full, back.left), (true, left)),
@@ -38,15 +28,11 @@ fn is_refused<R: Abort + Wait + Copy + Drop + 'static>(
     }
 }
 
-fn gives<R: Abort + Wait + Copy + Drop + 'static>(
-    rt: &R,
-    task: &mut TestTask<R>,
-    want: Poll<Result<u64, TaskError>>,
-) {
+fn gives<R: Runtime + Abort>(rt: &R, task: &mut TestTask<R>, want: Poll<Result<u64, TaskError>>) {
     same(rt, task.poll(&Awaiter::Outside(Nobody)), want);
 }
 
-fn run<R: Wait + Copy + Drop + 'static>(runnable: QueueRunnable<Sum, u64, Nobody, R>) {
+fn run<R: Runtime>(runnable: QueueRunnable<Sum, u64, Nobody, R>) {
     runnable.run();
 }
 
@@ -97,7 +83,7 @@ const ROUNDS: u64 = 20_000;
 const MOST_TURNS: u64 = 1_000_000;
 
 /// Hands a future that gives way once in, once there is room for it, or says that none came.
-fn handed_in<R: Wait + Copy + Drop + 'static>(queue: &TestQueue<R>) -> Option<TestTask<R>> {
+fn handed_in<R: Runtime>(queue: &TestQueue<R>) -> Option<TestTask<R>> {
     for _ in 0..MOST_TURNS {
         match queue.spawn(Sum { left: 1, sum: 0 }) {
             Ok(task) => return Some(task),
@@ -108,7 +94,7 @@ fn handed_in<R: Wait + Copy + Drop + 'static>(queue: &TestQueue<R>) -> Option<Te
 }
 
 /// Hands a future in, and says whether it was accepted and run to its end.
-fn is_run<R: Wait + Copy + Drop + 'static>(queue: &TestQueue<R>) -> bool {
+fn is_run<R: Runtime>(queue: &TestQueue<R>) -> bool {
     let Some(mut task) = handed_in(queue) else {
         return false;
     };
@@ -123,7 +109,7 @@ fn is_run<R: Wait + Copy + Drop + 'static>(queue: &TestQueue<R>) -> bool {
 }
 
 /// Whether each of so many futures, handed in one after the other, is accepted and run to its end.
-fn are_run<R: Wait + Copy + Drop + 'static>(queue: &TestQueue<R>) -> bool {
+fn are_run<R: Runtime>(queue: &TestQueue<R>) -> bool {
     for _ in 0..ROUNDS {
         if !is_run(queue) {
             return false;

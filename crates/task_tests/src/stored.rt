@@ -1,9 +1,8 @@
 //! What queues and lists keep of a task, what a schedule value does with a task that it is given, and tasks of two realms.
 use crate::calls::{Stage, holds, same};
 use crate::parts::{Bell, Countdown, Line, Tasks, TestRunnable, drop_task};
-use async_task::{Awaiter, Due, Poll, Returning, ScheduleInfo, TaskError, close_returned};
+use async_task::{Awaiter, Due, Poll, Returning, Runtime, ScheduleInfo, TaskError, close_returned};
 use std::process::Abort;
-use std::sync::Wait;
 
 const IDLE: ScheduleInfo = ScheduleInfo {
     woken_while_running: false,
@@ -12,10 +11,7 @@ const IDLE: ScheduleInfo = ScheduleInfo {
 type TestDue<R> = Due<Countdown, u64, Line<R>, u64, Bell, R>;
 
 /// The Runnable that is owed to its schedule value, whose task was woken while nobody polled it.
-fn idle<R: Abort + Wait + Copy + Drop + 'static>(
-    stage: &Stage<R>,
-    due: Option<TestDue<R>>,
-) -> TestRunnable<R> {
+fn idle<R: Runtime + Abort>(stage: &Stage<R>, due: Option<TestDue<R>>) -> TestRunnable<R> {
     match due {
         Some(Due { runnable, info }) => {
             same(&stage.rt, info, IDLE);

@@ -3,12 +3,12 @@ use crate::calls::{Stage, holds, same};
 use crate::parts::{
     Counts, Tasks, TestTask, TestWaker, drop_cancel, drop_task, drop_waker, next, ran,
 };
-use async_task::{Future, Poll, TaskError, Wake};
+use async_task::{Future, Poll, Runtime, TaskError, Wake};
 use std::alloc::Global;
 use std::process::Abort;
+use std::sync::Arc;
 use std::sync::atomic::AtomicU64;
 use std::sync::atomic::Ordering::SeqCst;
-use std::sync::{Arc, Wait};
 use std::thread;
 
 /// How many turns a loop may take.
@@ -35,7 +35,7 @@ fn waits_until<R: Abort>(rt: &R, counter: &AtomicU64, least: u64) {
 }
 
 /// Runs each Runnable that is queued, until none is there and the counter has come so far.
-fn runs_until<R: Abort + Wait + Copy + Drop + 'static>(
+fn runs_until<R: Runtime + Abort>(
     rt: R,
     realm: &'static Tasks<R>,
     counts: &Counts,
@@ -62,11 +62,7 @@ fn runs_until<R: Abort + Wait + Copy + Drop + 'static>(
 
 /// Wakes the task once a round, in one of two ways, beside a copy of the waker, and goes on once a poll has begun after the
 /// wakes of this round.
-fn wakes_each_round<R: Abort + Wait + Copy + Drop + 'static>(
-    rt: R,
-    waker: TestWaker<R>,
-    counts: Arc<Counts, Global>,
-) {
+fn wakes_each_round<R: Runtime + Abort>(rt: R, waker: TestWaker<R>, counts: Arc<Counts, Global>) {
     for round in 0..ROUNDS {
         let Some(copy) = waker.clone() else {
             panic!(rt; "no copy");
@@ -85,7 +81,7 @@ fn wakes_each_round<R: Abort + Wait + Copy + Drop + 'static>(
 
 /// No two polls overlapped, never were there two Runnables, there was a poll for each round and one at most for each wake and
 /// for the beginning, and all is dropped once.
-fn was_polled_for_its_wakes<R: Abort + Wait + Copy + Drop + 'static>(stage: &Stage<R>) {
+fn was_polled_for_its_wakes<R: Runtime + Abort>(stage: &Stage<R>) {
     same(&stage.rt, stage.counts.overlaps.load(SeqCst), 0);
     same(&stage.rt, stage.counts.longest.load(SeqCst), 1);
     let polls = stage.counts.polls.load(SeqCst);
@@ -116,10 +112,7 @@ fn wakes_of_two_threads_meet_a_run(rt: HostRuntime) {
 }
 
 /// Whether a poll by a waker that rings here gives the output.
-fn makes_output<R: Abort + Wait + Copy + Drop + 'static>(
-    bell: &Stage<R>,
-    task: &mut TestTask<R>,
-) -> bool {
+fn makes_output<R: Runtime + Abort>(bell: &Stage<R>, task: &mut TestTask<R>) -> bool {
     match task.poll(&bell.bell(false)) {
         Poll::Ready(output) => {
             same(&bell.rt, output, Ok(3));
@@ -131,7 +124,7 @@ fn makes_output<R: Abort + Wait + Copy + Drop + 'static>(
 
 /// Polls the handle twice while its task may end. Where both are too early the second one's waker is called, and then the
 /// output is there. It comes once.
-fn awaits<R: Abort + Wait + Copy + Drop + 'static>(stage: &Stage<R>, task: &mut TestTask<R>) {
+fn awaits<R: Runtime + Abort>(stage: &Stage<R>, task: &mut TestTask<R>) {
     let (first, last) = (stage.counted_apart(), stage.counted_apart());
     if !makes_output(&first, task) && !makes_output(&last, task) {
         waits_until(&stage.rt, &last.counts.rings, 1);
@@ -162,7 +155,7 @@ fn a_handle_is_awaited_while_its_task_ends(rt: HostRuntime) {
 }
 
 /// A task is queued, and its handle is given up at once, in one of three ways. Where many are queued one is run here.
-fn is_given_up<R: Abort + Wait + Copy + Drop + 'static>(stage: &Stage<R>, number: u64) {
+fn is_given_up<R: Runtime + Abort>(stage: &Stage<R>, number: u64) {
     let (runnable, task) = stage.task(number % 2, true);
     runnable.schedule();
     match number % 3 {

@@ -4,6 +4,7 @@
 
 mod shown;
 
+use async_task::Runtime;
 use commands::Fault;
 use commands::program::program;
 use jobs::{JobPlace, JobRealm, JobSite, Open};
@@ -12,7 +13,6 @@ use std::alloc::Global;
 use std::io::{ErrorKind, IsTerminal};
 use std::process::ExitCode;
 use std::rt::Env;
-use std::sync::Wait;
 use std::thread::Threads;
 use std::{env, io};
 
@@ -43,7 +43,7 @@ fn main(rt: HostRuntime) -> ExitCode {
 fn run<P, R>(rt: R, realm: &'static JobRealm<R>) -> Result<(), Fault>
 where
     P: JobSite<R, Gate = Open> + Sync + Drop,
-    R: AllocGlobal + Env + Input + Print + Threads + Sync + Wait + Copy + Drop + 'static,
+    R: Runtime + AllocGlobal + Env + Input + Print + Threads + Sync,
 {
     let words = arguments(&rt)?;
     program::<P, R, _, _>(

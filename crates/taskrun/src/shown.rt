@@ -2,7 +2,7 @@
 ghost use Rattle.std.specs.Prelude.{All};
 ghost use Rattle.jobs.specs.Answers.{IsInRange};
 
-use async_task::NoMemory;
+use async_task::{NoMemory, Runtime};
 use jobs::{Gate, Job, JobRealm, JobSite, Labor, Open, Solved};
 use std::alloc::Global;
 use std::marker::PhantomData;
@@ -34,11 +34,7 @@ pub struct Shown<P, R> {
     rt: PhantomData<R>,
 }
 
-impl<P, R> JobSite<R> for Shown<P, R>
-where
-    P: JobSite<R, Gate = Teller<R>>,
-    R: Eprint + Wait + Copy + Drop + 'static,
-{
+impl<P: JobSite<R, Gate = Teller<R>>, R: Runtime + Eprint> JobSite<R> for Shown<P, R> {
     type Gate = Open;
 
     fn new(
@@ -64,11 +60,7 @@ where
     }
 }
 
-impl<P, R> Labor<R> for Shown<P, R>
-where
-    P: Labor<R>,
-    R: Wait,
-{
+impl<P: Labor<R>, R: Wait> Labor<R> for Shown<P, R> {
     ghost brings = { λ shown solved. P.brings shown.place solved };
 
     fn work(&self, rt: &R, seed: u64) -> Result<Vec<Solved>, NoMemory> {

@@ -1,5 +1,6 @@
 //! The program over readers and writers. What scripts show are scripts of `cases`, whose text `sim` is proved to write.
 use Fault::{BadLine, ReadFailed, Usage, WriteFailed};
+use async_task::Runtime;
 use commands::Fault;
 use commands::program::program;
 use commands::sim::sim;
@@ -9,7 +10,6 @@ use std::error::Error;
 use std::fmt::{Debug, Display};
 use std::io::{self, ErrorKind, Read, Write};
 use std::process::Abort;
-use std::sync::Wait;
 use std::test::Fail;
 use std::thread::Threads;
 
@@ -175,18 +175,14 @@ fn texts(alloc: Global, words: &[&str]) -> Result<Vec<String>, AllocError> {
 }
 
 /// How the program ends on these words and this input, where a read or a write fails, and what it has written.
-fn end<P, R>(
+fn end<P: JobSite<R, Gate = Open> + Sync + Drop, R: Runtime + Threads + AllocGlobal + Sync>(
     rt: R,
     realm: &'static JobRealm<R>,
     words: &[&str],
     input: &[u8],
     read: Option<usize>,
     write: Option<usize>,
-) -> (Result<(), Fault>, Vec<u8>)
-where
-    P: JobSite<R, Gate = Open> + Sync + Drop,
-    R: Threads + AllocGlobal + Sync + Wait + Copy + Drop + 'static,
-{
+) -> (Result<(), Fault>, Vec<u8>) {
     let alloc = rt.alloc();
     let mut reader = Source {
         text: input,
@@ -220,7 +216,7 @@ fn is_end(ended: (Result<(), Fault>, Vec<u8>), want: Result<&[u8], Fault>) -> bo
 fn show_rows<P, R>(rt: R, realm: &'static JobRealm<R>)
 where
     P: JobSite<R, Gate = Open> + Sync + Drop,
-    R: Threads + AllocGlobal + Abort + Sync + Wait + Copy + Drop + 'static,
+    R: Runtime + Threads + AllocGlobal + Abort + Sync,
 {
     for (number, Row(words, input, want)) in ROWS.iter().enumerate() {
         let ended = end::<P, R>(rt, realm, *words, *input, None, None);
@@ -232,7 +228,7 @@ where
 fn fail_each_step<P, R>(rt: R, realm: &'static JobRealm<R>, row: &Row)
 where
     P: JobSite<R, Gate = Open> + Sync + Drop,
-    R: Threads + AllocGlobal + Abort + Sync + Wait + Copy + Drop + 'static,
+    R: Runtime + Threads + AllocGlobal + Abort + Sync,
 {
     let Row(words, input, want) = row;
     for read in 0..=input.len() {
@@ -257,10 +253,9 @@ where
 }
 
 /// A hundred thousand jobs are done, each of which comes to 1, and a line more is bad.
-fn do_most<P, R>(rt: R, realm: &'static JobRealm<R>)
+fn do_most<P, R: Runtime + Threads + AllocGlobal + Abort + Sync>(rt: R, realm: &'static JobRealm<R>)
 where
     P: JobSite<R, Gate = Open> + Sync + Drop,
-    R: Threads + AllocGlobal + Abort + Sync + Wait + Copy + Drop + 'static,
 {
     let job = "mul 1 1\n";
     let most = job.repeat(rt.alloc(), 100_000).expect(&rt, "memory");
@@ -279,10 +274,9 @@ where
 }
 
 /// All of the above: a call where the type of the runtime value is named costs far more to prove than one over any such type.
-fn play<P, R>(rt: R, realm: &'static JobRealm<R>)
+fn play<P, R: Runtime + Threads + AllocGlobal + Abort + Sync>(rt: R, realm: &'static JobRealm<R>)
 where
     P: JobSite<R, Gate = Open> + Sync + Drop,
-    R: Threads + AllocGlobal + Abort + Sync + Wait + Copy + Drop + 'static,
 {
     show_rows::<P, R>(rt, realm);
     fail_each_step::<P, R>(rt, realm, &TWO_JOBS);

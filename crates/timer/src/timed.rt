@@ -11,21 +11,12 @@ use std::sync::Wait;
 /// A future that is given so much time: its output, or that the time is up. Where both are so it answers the output. Dropped, it
 /// drops both.
 #[derive(Drop)]
-pub struct Timeout<F, K, R>
-where
-    K: Wake + Drop,
-    R: Wait + Copy + Drop,
-{
+pub struct Timeout<F, K: Wake + Drop, R: Wait + Copy + Drop> {
     pub(crate) future: F,
     pub(crate) sleep: Sleep<K, R>,
 }
 
-impl<F, K, R> Future<K> for Timeout<F, K, R>
-where
-    F: Future<K>,
-    K: Wake + Drop,
-    R: Wait + Copy + Drop,
-{
+impl<F: Future<K>, K: Wake + Drop, R: Wait + Copy + Drop> Future<K> for Timeout<F, K, R> {
     type Output = Result<F::Output, Elapsed>;
 
     fn poll(&mut self, waker: &K) -> Poll<Result<F::Output, Elapsed>>

@@ -16,20 +16,12 @@ use std::time::{Clock, Duration, Instant};
 ///
 /// Wakers are called and dropped with no lock held.
 #[derive(Drop)]
-pub struct Timer<K, R>
-where
-    K: Wake + Drop,
-    R: Wait + Copy + Drop,
-{
+pub struct Timer<K: Wake + Drop, R: Wait + Copy + Drop> {
     shared: Arc<Shared<K>>,
     rt: R,
 }
 
-impl<K, R> Timer<K, R>
-where
-    K: Wake + Drop,
-    R: Wait + Clock + Copy + Drop,
-{
+impl<K: Wake + Drop, R: Wait + Clock + Copy + Drop> Timer<K, R> {
     /// A timer for so many who sleep at a time, for whom it takes all memory now.
     pub fn new(rt: R, alloc: Global, sleepers: usize) -> Result<Self, TimerError> {
         let Ok(start) = Instant::now(&rt) else {

@@ -55,12 +55,10 @@ impl<F: Drop, T: Drop> Awaited<F, T> {
     }
 }
 
-impl<K, A, X, B, Y> Future<K> for Join<A, X, B, Y>
+impl<K, A, X: Drop, B, Y: Drop> Future<K> for Join<A, X, B, Y>
 where
     A: Future<K, Output = X> + Drop,
     B: Future<K, Output = Y> + Drop,
-    X: Drop,
-    Y: Drop,
 {
     type Output = (X, Y);
 

@@ -31,15 +31,11 @@ use std::sync::{Arc, Wait};
 /// assert!(rt; matches!(receiver.poll_recv(&Nobody), Poll::Ready(Ok(3))));
 /// assert!(rt; matches!(receiver.try_recv(), Err(TryRecvError::Closed)));
 /// ```
-pub fn bounded<T, K, R>(
+pub fn bounded<T: Drop, K: Wake + Drop, R: Wait + Copy + Drop>(
     rt: R,
     alloc: Global,
     places: usize,
 ) -> Result<(Sender<T, K, R>, Receiver<T, K, R>), NoMemory>
-where
-    T: Drop,
-    K: Wake + Drop,
-    R: Wait + Copy + Drop,
     requires { 0 < places }
     ensures same { IfOk result (λ ends. arc_value ends.0.shared ≡ arc_value ends.1.shared) }
     ensures places { IfOk result (λ ends. (arc_value ends.0.shared).line.queue.capacity ≡ Some places) }

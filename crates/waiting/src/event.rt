@@ -23,20 +23,12 @@ use std::sync::{Arc, Wait};
 /// assert!(rt; matches!(second.poll(&Nobody), Poll::Ready(())));
 /// ```
 #[derive(Drop)]
-pub struct Event<K, R>
-where
-    K: Wake + Drop,
-    R: Wait + Copy + Drop,
-{
+pub struct Event<K: Wake + Drop, R: Wait + Copy + Drop> {
     waiters: Arc<Guarded<Waiters<K>>>,
     rt: R,
 }
 
-impl<K, R> Event<K, R>
-where
-    K: Wake + Drop,
-    R: Wait + Copy + Drop,
-{
+impl<K: Wake + Drop, R: Wait + Copy + Drop> Event<K, R> {
     /// An event for which nobody waits.
     pub fn new(rt: R, alloc: Global) -> Result<Self, NoMemory>
         ensures { IfOk result (λ event. event.rt ≡ rt) }

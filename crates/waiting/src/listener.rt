@@ -11,11 +11,7 @@ use std::sync::Wait;
 /// place of the one before. Where no copy of the waker can be had it calls the waker, so that it is polled again.
 ///
 /// Dropped before it was told, it leaves. Dropped when it was told and no poll has answered so, it tells the next.
-pub struct Listener<K, R>
-where
-    K: Wake + Drop,
-    R: Wait + Copy + Drop,
-{
+pub struct Listener<K: Wake + Drop, R: Wait + Copy + Drop> {
     event: Event<K, R>,
     rt: R,
     listening: Option<Listening>,
@@ -23,11 +19,7 @@ where
     told: Option<WasTold>,
 }
 
-impl<K, R> Listener<K, R>
-where
-    K: Wake + Drop,
-    R: Wait + Copy + Drop,
-{
+impl<K: Wake + Drop, R: Wait + Copy + Drop> Listener<K, R> {
     pub(crate) fn new(rt: R, event: Event<K, R>, listening: Listening) -> Self
         ensures event { result.event ≡ event }
         ensures listens { result.listening ≡ Some listening }
@@ -42,11 +34,7 @@ where
 }
 
 /// Leaves, and tells the next where it was told.
-fn leave<K, R>(rt: &R, event: &Event<K, R>, listening: Listening)
-where
-    K: Wake + Drop,
-    R: Wait + Copy + Drop,
-{
+fn leave<K: Wake + Drop, R: Wait + Copy + Drop>(rt: &R, event: &Event<K, R>, listening: Listening) {
     let left = event.waiters().lock(rt).leave(listening);
     match left {
         Left::Told(call) => event.pass_on(call),
@@ -54,11 +42,7 @@ where
     }
 }
 
-impl<K, R> Future<K> for Listener<K, R>
-where
-    K: Wake + Drop,
-    R: Wait + Copy + Drop,
-{
+impl<K: Wake + Drop, R: Wait + Copy + Drop> Future<K> for Listener<K, R> {
     type Output = ();
 
     /// 1. Takes a copy of the waker.
@@ -95,11 +79,7 @@ where
     }
 }
 
-impl<K, R> Drop for Listener<K, R>
-where
-    K: Wake + Drop,
-    R: Wait + Copy + Drop,
-{
+impl<K: Wake + Drop, R: Wait + Copy + Drop> Drop for Listener<K, R> {
     fn drop(self) {
         let Listener {
             event,

@@ -14,12 +14,7 @@ use std::sync::{Arc, Wait};
 pub struct Canceled;
 
 /// Sends one value. Its drop, where it sent none, tells the receiver that none comes.
-pub struct Sender<T, K, R>
-where
-    T: Drop,
-    K: Wake + Drop,
-    R: Wait + Copy + Drop,
-{
+pub struct Sender<T: Drop, K: Wake + Drop, R: Wait + Copy + Drop> {
     slot: Arc<Guarded<Slot<T, K>>>,
     rt: R,
 }
@@ -27,12 +22,7 @@ where
 /// Receives one value: a future that is ready once it was sent, or once the sender went. Each poll leaves its waker in the place of
 /// the one before. Where no copy of the waker can be had it calls the waker, so that it is polled again. Its drop drops a value
 /// that was sent and not taken; from then on a value is refused.
-pub struct Receiver<T, K, R>
-where
-    T: Drop,
-    K: Wake + Drop,
-    R: Wait + Copy + Drop,
-{
+pub struct Receiver<T: Drop, K: Wake + Drop, R: Wait + Copy + Drop> {
     slot: Arc<Guarded<Slot<T, K>>>,
     rt: R,
     // Once it has answered that no value comes.
@@ -47,14 +37,10 @@ where
 /// assert!(rt; sender.send(1).is_ok());
 /// assert!(rt; matches!(receiver.poll(&Nobody), Poll::Ready(Ok(1))));
 /// ```
-pub fn channel<T, K, R>(
+pub fn channel<T: Drop, K: Wake + Drop, R: Wait + Copy + Drop>(
     rt: R,
     alloc: Global,
 ) -> Result<(Sender<T, K, R>, Receiver<T, K, R>), NoMemory>
-where
-    T: Drop,
-    K: Wake + Drop,
-    R: Wait + Copy + Drop,
     ensures { IfOk result (λ ends. arc_value ends.0.slot ≡ arc_value ends.1.slot) }
 {
     let Ok(slot) = Arc::new(alloc, Guarded::new(Slot::Empty)) else {
@@ -66,12 +52,7 @@ where
     }
 }
 
-impl<T, K, R> Sender<T, K, R>
-where
-    T: Drop,
-    K: Wake + Drop,
-    R: Wait + Copy + Drop,
-{
+impl<T: Drop, K: Wake + Drop, R: Wait + Copy + Drop> Sender<T, K, R> {
     /// Sends the value, and calls the receiver. Where that is gone the value comes back. It takes no memory.
     pub fn send(self, value: T) -> Result<(), T>
         ensures { IfErr result (λ back. back ≡ value) }
@@ -89,12 +70,7 @@ where
     }
 }
 
-impl<T, K, R> Drop for Sender<T, K, R>
-where
-    T: Drop,
-    K: Wake + Drop,
-    R: Wait + Copy + Drop,
-{
+impl<T: Drop, K: Wake + Drop, R: Wait + Copy + Drop> Drop for Sender<T, K, R> {
     fn drop(self) {
         let Sender { slot, rt } = self;
         let waker = slot.lock(&rt).end();
@@ -104,12 +80,7 @@ where
     }
 }
 
-impl<T, K, R> Receiver<T, K, R>
-where
-    T: Drop,
-    K: Wake + Drop,
-    R: Wait + Copy + Drop,
-{
+impl<T: Drop, K: Wake + Drop, R: Wait + Copy + Drop> Receiver<T, K, R> {
     fn of(slot: Arc<Guarded<Slot<T, K>>>, rt: R) -> Self
         ensures slot { result.slot ≡ slot }
         ensures over { result.over ≡ None }
@@ -122,12 +93,7 @@ where
     }
 }
 
-impl<T, K, R> Future<K> for Receiver<T, K, R>
-where
-    T: Drop,
-    K: Wake + Drop,
-    R: Wait + Copy + Drop,
-{
+impl<T: Drop, K: Wake + Drop, R: Wait + Copy + Drop> Future<K> for Receiver<T, K, R> {
     type Output = Result<T, Canceled>;
 
     fn poll(&mut self, waker: &K) -> Poll<Result<T, Canceled>>
@@ -153,12 +119,7 @@ where
     }
 }
 
-impl<T, K, R> Drop for Receiver<T, K, R>
-where
-    T: Drop,
-    K: Wake + Drop,
-    R: Wait + Copy + Drop,
-{
+impl<T: Drop, K: Wake + Drop, R: Wait + Copy + Drop> Drop for Receiver<T, K, R> {
     fn drop(self) {
         let Receiver {
             slot,

@@ -6,14 +6,13 @@ ghost use Rattle.workers.specs.declared.fault.Fault.TheVariants as fault;
 use crate::fault::Fault;
 use crate::until::Until;
 use async_executor::{ExWaker, Executor, RunError};
-use async_task::{Future, NoMemory, TaskError};
+use async_task::{Future, NoMemory, Output, Runtime, TaskError};
 use blocking::{ThreadWaker, block_on};
 use std::alloc::Global;
-use std::sync::Wait;
 
 /// Runs the executor on this thread until the future is ready, and answers its output. The seed says at which other runs it
 /// begins to look for work; each thread takes another. The one fault is want of memory.
-pub fn run_until<F, T, R, G>(
+pub fn run_until<F, T: Output, R: Runtime, G>(
     rt: &R,
     alloc: Global,
     executor: &Executor<F, T, ThreadWaker, R>,
@@ -22,8 +21,6 @@ pub fn run_until<F, T, R, G>(
 ) -> Result<G::Output, Fault>
 where
     F: Future<ExWaker<T, ThreadWaker, R>, Output = T> + Drop,
-    T: Drop + 'static,
-    R: Wait + Copy + Drop + 'static,
     G: Future<ExWaker<T, ThreadWaker, R>> + Drop,
     G::Output: Drop,
     ensures { IfErr result (λ why. why ≡ fault.NoMemory) }
@@ -40,7 +37,7 @@ where
 
 /// Runs the executor on this thread until the task is over, and answers the output of its future: `block_on` of a run of a handle,
 /// with one answer. The faults are `NoMemory`, and `TaskClosed` where the task has no output to give.
-pub fn complete<F, T, R, G, U>(
+pub fn complete<F, T: Output, R: Runtime, G, U: Drop>(
     rt: &R,
     alloc: Global,
     executor: &Executor<F, T, ThreadWaker, R>,
@@ -48,10 +45,7 @@ pub fn complete<F, T, R, G, U>(
 ) -> Result<U, Fault>
 where
     F: Future<ExWaker<T, ThreadWaker, R>, Output = T> + Drop,
-    T: Drop + 'static,
-    R: Wait + Copy + Drop + 'static,
     G: Future<ExWaker<T, ThreadWaker, R>, Output = Result<U, TaskError>> + Drop,
-    U: Drop,
     ensures { IfErr result (λ why. (why ≡ fault.NoMemory) ⊎ (why ≡ fault.TaskClosed)) }
 {
     match run_until(rt, alloc, executor, 0, task) {

@@ -1,39 +1,24 @@
 //! A run that has one error.
 use async_executor::{ExWaker, Run, RunError};
-use async_task::{Future, NoMemory, Poll};
+use async_task::{Future, NoMemory, Output, Poll, Runtime};
 use blocking::ThreadWaker;
-use std::sync::Wait;
 
 /// A run that is polled until it is ready. Polled once more it is pending, as it has no future any more: so the one error that
 /// it can have is want of memory.
 #[derive(Drop)]
-pub(crate) struct Until<'a, F, T, R, G>
-where
-    F: Drop,
-    T: Drop + 'static,
-    R: Wait + Copy + Drop + 'static,
-    G: Drop,
-{
+pub(crate) struct Until<'a, F: Drop, T: Output, R: Runtime, G: Drop> {
     run: Run<'a, F, T, ThreadWaker, R, G>,
 }
 
-impl<'a, F, T, R, G> Until<'a, F, T, R, G>
-where
-    F: Drop,
-    T: Drop + 'static,
-    R: Wait + Copy + Drop + 'static,
-    G: Drop,
-{
+impl<'a, F: Drop, T: Output, R: Runtime, G: Drop> Until<'a, F, T, R, G> {
     pub(crate) fn of(run: Run<'a, F, T, ThreadWaker, R, G>) -> Self {
         Until { run }
     }
 }
 
-impl<F, T, R, G> Future<ExWaker<T, ThreadWaker, R>> for Until<'_, F, T, R, G>
+impl<F, T: Output, R: Runtime, G> Future<ExWaker<T, ThreadWaker, R>> for Until<'_, F, T, R, G>
 where
     F: Future<ExWaker<T, ThreadWaker, R>, Output = T> + Drop,
-    T: Drop + 'static,
-    R: Wait + Copy + Drop + 'static,
     G: Future<ExWaker<T, ThreadWaker, R>> + Drop,
 {
     type Output = Result<G::Output, NoMemory>;

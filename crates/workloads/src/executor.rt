@@ -14,21 +14,20 @@ use crate::executor::threads::{run, storm};
 use crate::executor::ticks::{ping, ping_marked, spawn_tick};
 use crate::work::ExecutorWork;
 use crate::{Fault, Timing};
-use async_task::Future;
+use async_task::{Future, Runtime};
 pub use awaited::Awaited;
 pub use chain::{Chain, Link};
 pub use futures::Yields;
 pub use names::{Futures, Handle, Timed, Waker};
 use std::alloc::AllocGlobal;
 use std::rt::Clock;
-use std::sync::Wait;
 use std::thread::Threads;
 use workplace::Marks;
 pub use workplace::{Crew, Worker, Workplace};
 
 /// Does so many operations on an executor whose tasks lie in this realm. `L` is a future that awaits another, and `P` an
 /// executor that threads run.
-pub fn time<L, P, R>(
+pub fn time<L, P, R: Runtime + AllocGlobal + Clock + Threads + Sync>(
     work: ExecutorWork,
     rt: &R,
     realm: &'static Futures<R>,
@@ -37,7 +36,6 @@ pub fn time<L, P, R>(
 where
     L: Chain<R> + Future<Waker<R>, Output = u64> + Drop,
     P: Worker<R> + Sync + Drop,
-    R: AllocGlobal + Clock + Wait + Threads + Sync + Copy + Drop + 'static,
 {
     match work {
         ExecutorWork::SpawnTick => spawn_tick(*rt, rt.alloc(), realm, ops),

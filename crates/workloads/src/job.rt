@@ -5,14 +5,14 @@ mod running;
 
 use crate::work::JobWork;
 use crate::{Fault, Timing};
+use async_task::Runtime;
 pub use jobs::{JobPlace, JobRealm, JobSite, Open};
 use std::alloc::AllocGlobal;
 use std::rt::Clock;
-use std::sync::Wait;
 use std::thread::Threads;
 
 /// Does so many operations on lists of jobs, whose tasks lie in this realm. `P` is where jobs are done.
-pub fn time<P, R>(
+pub fn time<P, R: Runtime + AllocGlobal + Clock + Threads + Sync>(
     work: JobWork,
     rt: &R,
     realm: &'static JobRealm<R>,
@@ -20,7 +20,6 @@ pub fn time<P, R>(
 ) -> Result<Timing, Fault>
 where
     P: JobSite<R, Gate = Open> + Sync + Drop,
-    R: AllocGlobal + Clock + Wait + Threads + Sync + Copy + Drop + 'static,
 {
     match work {
         JobWork::Parse => parsing::parse(rt, ops),

@@ -9,16 +9,16 @@ use crate::work::TaskWork;
 use crate::{Fault, Timing};
 use async_task::local_task::{Settled, Start};
 use async_task::{
-    Awaiter, Back, Future, LocalTask, Nobody, Poll, Returning, StoredRunnable, TaskError, Wake,
+    Awaiter, Back, Future, LocalTask, Nobody, Poll, Returning, Runtime, StoredRunnable, TaskError,
+    Wake,
 };
 use concurrent_queue::ConcurrentQueue;
 use std::alloc::Global;
 use std::rt::Clock;
-use std::sync::Wait;
 use std::time::Instant;
 
 /// Does so many operations on tasks that lie in this realm.
-pub fn time<R: Clock + Wait + Copy + Drop + 'static>(
+pub fn time<R: Runtime + Clock>(
     work: TaskWork,
     rt: R,
     alloc: Global,
@@ -38,7 +38,7 @@ pub fn time<R: Clock + Wait + Copy + Drop + 'static>(
 }
 
 /// Spawns, queues, runs and polls futures that give the numbers below `ops`.
-fn spawn_run<R: Clock + Wait + Copy + Drop + 'static>(
+fn spawn_run<R: Runtime + Clock>(
     rt: R,
     alloc: Global,
     realm: &'static Tasks<R>,
@@ -47,7 +47,7 @@ fn spawn_run<R: Clock + Wait + Copy + Drop + 'static>(
     time_spawn_run(rt, realm, &empty_queue(alloc)?, ops)
 }
 
-fn time_spawn_run<R: Clock + Wait + Copy + Drop + 'static>(
+fn time_spawn_run<R: Runtime + Clock>(
     rt: R,
     realm: &'static Tasks<R>,
     queue: &Queue,
@@ -62,7 +62,7 @@ fn time_spawn_run<R: Clock + Wait + Copy + Drop + 'static>(
 }
 
 /// Spawns, queues, runs and polls a future that gives this number, and answers what the poll gave.
-fn output_of<R: Wait + Copy + Drop + 'static>(
+fn output_of<R: Runtime>(
     rt: R,
     realm: &'static Tasks<R>,
     queue: &Queue,
@@ -89,7 +89,7 @@ fn output(polled: Poll<Result<u64, TaskError>>) -> Result<u64, Fault> {
 }
 
 /// Spawns futures, drops their handles and runs them, so that they are dropped unpolled.
-fn drop_handle<R: Clock + Wait + Copy + Drop + 'static>(
+fn drop_handle<R: Runtime + Clock>(
     rt: R,
     alloc: Global,
     realm: &'static Tasks<R>,
@@ -98,7 +98,7 @@ fn drop_handle<R: Clock + Wait + Copy + Drop + 'static>(
     time_drop_handle(rt, realm, &empty_queue(alloc)?, ops)
 }
 
-fn time_drop_handle<R: Clock + Wait + Copy + Drop + 'static>(
+fn time_drop_handle<R: Runtime + Clock>(
     rt: R,
     realm: &'static Tasks<R>,
     queue: &Queue,
@@ -113,7 +113,7 @@ fn time_drop_handle<R: Clock + Wait + Copy + Drop + 'static>(
 }
 
 /// Spawns a future, drops its handle and runs it. Answers 1, where the run was told of no wake.
-fn dropped_unpolled<R: Wait + Copy + Drop + 'static>(
+fn dropped_unpolled<R: Runtime>(
     rt: R,
     realm: &'static Tasks<R>,
     queue: &Queue,
@@ -128,7 +128,7 @@ fn dropped_unpolled<R: Wait + Copy + Drop + 'static>(
 }
 
 /// Wakes an idle future by a waker that is kept, and runs it.
-fn wake_run<R: Clock + Wait + Copy + Drop + 'static>(
+fn wake_run<R: Runtime + Clock>(
     rt: R,
     alloc: Global,
     realm: &'static Tasks<R>,
@@ -143,7 +143,7 @@ fn wake_run<R: Clock + Wait + Copy + Drop + 'static>(
     }
 }
 
-fn time_wake_run<R: Clock + Wait + Copy + Drop + 'static>(
+fn time_wake_run<R: Runtime + Clock>(
     rt: R,
     realm: &'static Tasks<R>,
     queue: &ConcurrentQueue<Returning<StoredRunnable>>,
@@ -162,7 +162,7 @@ fn time_wake_run<R: Clock + Wait + Copy + Drop + 'static>(
 }
 
 /// Runs a future that wakes itself in each poll.
-fn self_wake<R: Clock + Wait + Copy + Drop + 'static>(
+fn self_wake<R: Runtime + Clock>(
     rt: R,
     alloc: Global,
     realm: &'static Tasks<R>,
@@ -177,7 +177,7 @@ fn self_wake<R: Clock + Wait + Copy + Drop + 'static>(
     }
 }
 
-fn time_self_wake<R: Clock + Wait + Copy + Drop + 'static>(
+fn time_self_wake<R: Runtime + Clock>(
     rt: R,
     realm: &'static Tasks<R>,
     queue: &ConcurrentQueue<Returning<StoredRunnable>>,
@@ -194,7 +194,7 @@ fn time_self_wake<R: Clock + Wait + Copy + Drop + 'static>(
 }
 
 /// Wakes a task that is to be run already.
-fn wake_twice<R: Clock + Wait + Copy + Drop + 'static>(
+fn wake_twice<R: Runtime + Clock>(
     rt: R,
     alloc: Global,
     realm: &'static Tasks<R>,
@@ -206,7 +206,7 @@ fn wake_twice<R: Clock + Wait + Copy + Drop + 'static>(
     }
 }
 
-fn time_wake_twice<R: Clock + Wait + Copy + Drop + 'static>(
+fn time_wake_twice<R: Runtime + Clock>(
     rt: R,
     queue: &ConcurrentQueue<Returning<StoredRunnable>>,
     waker: &WorkWaker<R>,
@@ -228,7 +228,7 @@ fn time_wake_twice<R: Clock + Wait + Copy + Drop + 'static>(
 }
 
 /// Copies a waker, and drops the copy.
-fn waker_clone<R: Clock + Wait + Copy + Drop + 'static>(
+fn waker_clone<R: Runtime + Clock>(
     rt: R,
     alloc: Global,
     realm: &'static Tasks<R>,
@@ -240,7 +240,7 @@ fn waker_clone<R: Clock + Wait + Copy + Drop + 'static>(
     }
 }
 
-fn time_waker_clone<R: Clock + Wait + Copy + Drop + 'static>(
+fn time_waker_clone<R: Runtime + Clock>(
     rt: R,
     waker: &WorkWaker<R>,
     ops: u64,
@@ -257,7 +257,7 @@ fn time_waker_clone<R: Clock + Wait + Copy + Drop + 'static>(
 }
 
 /// Polls the handle of a task that isn't finished.
-fn poll_pending<R: Clock + Wait + Copy + Drop + 'static>(
+fn poll_pending<R: Runtime + Clock>(
     rt: R,
     alloc: Global,
     realm: &'static Tasks<R>,
@@ -269,7 +269,7 @@ fn poll_pending<R: Clock + Wait + Copy + Drop + 'static>(
     }
 }
 
-fn time_poll_pending<R: Clock + Wait + Copy + Drop + 'static>(
+fn time_poll_pending<R: Runtime + Clock>(
     rt: R,
     task: &mut WorkTask<R>,
     ops: u64,

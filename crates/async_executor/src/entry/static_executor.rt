@@ -11,31 +11,21 @@ use super::{Run, Tick, Unlocked, begun};
 use crate::body::Body;
 use crate::errors::SpawnError;
 use crate::names::{ExRealm, ExTask, ExWaker};
-use async_task::{Future, NoMemory, Wake};
+use async_task::{Future, NoMemory, Output, OutsideWaker, Runtime};
 use call_steps::Asked;
 use executor_parts::Mark;
 use std::alloc::Global;
 use std::fmt;
-use std::sync::Wait;
 
 /// An executor of futures `F`, whose outputs are `T`, which never ends: what it still holds when it goes is leaked. Its table
 /// keeps no wakers: a detached future that nobody can wake any more is dropped by the executor.
-pub struct StaticExecutor<F, T, W, R>
-where
-    F: Drop,
-    T: Drop + 'static,
-    W: Wake + Drop + 'static,
-    R: Wait + Copy + Drop + 'static,
-{
+pub struct StaticExecutor<F: Drop, T: Output, W: OutsideWaker, R: Runtime> {
     pub(crate) body: Body<F, T, W, R>,
 }
 
-impl<F, T, W, R> StaticExecutor<F, T, W, R>
+impl<F, T: Output, W: OutsideWaker, R: Runtime> StaticExecutor<F, T, W, R>
 where
     F: Future<ExWaker<T, W, R>, Output = T> + Drop,
-    T: Drop + 'static,
-    W: Wake + Drop + 'static,
-    R: Wait + Copy + Drop + 'static,
 {
     /// An executor with places for so many futures, whose tasks lie in this realm. It keeps the runtime value, the
     /// allocator and the realm for its calls. All places of its queues and its table are taken here.
@@ -132,13 +122,7 @@ where
     }
 }
 
-impl<F, T, W, R> Drop for StaticExecutor<F, T, W, R>
-where
-    F: Drop,
-    T: Drop + 'static,
-    W: Wake + Drop + 'static,
-    R: Wait + Copy + Drop + 'static,
-{
+impl<F: Drop, T: Output, W: OutsideWaker, R: Runtime> Drop for StaticExecutor<F, T, W, R> {
     /// What it still holds is leaked.
     fn drop(self) {
         let StaticExecutor { body } = self;
@@ -147,13 +131,7 @@ where
 }
 
 /// As that of an `Executor`. No future has a waker in its table.
-impl<F, T, W, R> fmt::Debug for StaticExecutor<F, T, W, R>
-where
-    F: Drop,
-    T: Drop + 'static,
-    W: Wake + Drop + 'static,
-    R: Wait + Copy + Drop + 'static,
-{
+impl<F: Drop, T: Output, W: OutsideWaker, R: Runtime> fmt::Debug for StaticExecutor<F, T, W, R> {
     fn fmt<O: fmt::Write>(&self, f: &mut fmt::Formatter<O>) -> fmt::Result {
         self.body
             .show("StaticExecutor", f, &mut Unlocked::at_entry())

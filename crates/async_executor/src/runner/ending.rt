@@ -2,22 +2,21 @@
 ghost use Rattle.std.specs.Prelude.{◌≡◌, ◌∷◌, [], true, false, None, IsTrue};
 ghost use Rattle.call_steps.specs.Begins.{drop_run};
 ghost use Rattle.call_steps.specs.Todo.{following};
-ghost use Rattle.call_steps.specs.declared.names.Section.TheVariants as section;
 ghost use Rattle.call_steps.specs.declared.reply.Reply.TheVariants as reply;
 ghost use Rattle.call_steps.specs.declared.step.CallStep.TheVariants as step;
-ghost use Rattle.call_steps.specs.declared.step.run.ListStep.TheVariants as list_step;
 ghost use Rattle.call_steps.specs.declared.step.run.RunStep.TheVariants as run_step;
 ghost use Rattle.async_executor.specs.Runs.{has_ended, leaves_with, stage_by};
 ghost use Rattle.async_executor.specs.Steps.{of_stored, took};
 
 use super::Runner;
+use crate::deeds::Steps;
+use crate::deeds::queues::At;
 use crate::entry::Unlocked;
-use crate::looking::take_next;
+use crate::foreign::Foreign;
 use crate::names::{ExRealm, ExStoredRunnable};
 use crate::state::State;
-use crate::steps::Steps;
-use async_task::Wake;
-use call_steps::{Reply, Saw, Stage};
+use async_task::{Output, OutsideWaker, Runtime};
+use call_steps::{Reply, Stage};
 use std::mem;
 use std::sync::Wait;
 
@@ -54,59 +53,44 @@ impl Runner {
         }
     }
 
-    /// The run is dropped, and its own future went before. Its own queue goes from the executor's list, where it is there, its
+    /// The run is dropped, with its own future, where that is there. Its own queue goes from the executor's list, where it is there, its
     /// room there is given back, and what is left in the queue is scheduled, in order.
-    pub fn end<T, W, R>(
+    pub fn end<G: Drop, T: Output, W: OutsideWaker, R: Runtime>(
         &mut self,
+        future: Option<Foreign<G>>,
         rt: R,
         state: &State<W>,
         realm: &'static ExRealm<T, W, R>,
         steps: &mut Steps,
         unlocked: &mut Unlocked,
     )
-    where
-        T: Drop + 'static,
-        W: Wake + Drop + 'static,
-        R: Wait + Copy + Drop + 'static,
         requires { steps.old ≡ drop_run (stage_by (has_ended self.old.room self.old.is_drained) self.old.is_listed) tt }
         ensures steps { steps.new ≡ leaves_with reply.Done }
         ensures drained { self.new.is_drained ≡ true }
         ensures left { self.new.room ≡ None }
     {
         if self.has_ended() {
+            if let Some(future) = future {
+                future.let_go(unlocked);
+            }
             return;
         }
-        steps.follow(Saw::Nothing);
+        steps.drop_own(future, unlocked);
         if self.is_listed {
-            self.unregister(&rt, state, Reply::Done, steps, unlocked);
+            steps.unregister(self, state, Reply::Done, &rt, unlocked);
         } else {
             self.leave_list(&rt, state, unlocked);
         }
         self.reschedule(rt, state, realm, Reply::Done, steps, unlocked);
     }
 
-    /// Takes its own queue out of the executor's list, in a call that is answered so.
-    pub fn unregister<W: Drop, R: Wait>(
+    /// Leaves the executor's list: its room there is given back, and its own queue goes from there, where it is there.
+    pub fn leave_list<W: Drop, R: Wait>(
         &mut self,
         rt: &R,
         state: &State<W>,
-        reply: Reply,
-        steps: &mut Steps,
         unlocked: &mut Unlocked,
     )
-        requires { steps.old ≡ step.List (list_step.LockWrite (section.Unregister tt reply)) ∷ [] }
-        ensures steps { steps.new ≡ step.Run (run_step.Reschedule tt reply) ∷ [] }
-        ensures left { self.new.room ≡ None }
-    {
-        let _ = reply;
-        steps.follow(Saw::Nothing);
-        steps.follow(Saw::Nothing);
-        self.leave_list(rt, state, unlocked);
-        steps.follow(Saw::Nothing);
-    }
-
-    /// Leaves the executor's list: its room there is given back, and its own queue goes from there, where it is there.
-    fn leave_list<W: Drop, R: Wait>(&mut self, rt: &R, state: &State<W>, unlocked: &mut Unlocked)
         ensures { self.new.room ≡ None }
     {
         if let Some(room) = mem::replace(&mut self.room, None) {
@@ -116,7 +100,7 @@ impl Runner {
     }
 
     /// Schedules what is left in the own queue, in order, in a call that is answered so.
-    pub fn reschedule<T, W, R>(
+    pub fn reschedule<T: Output, W: OutsideWaker, R: Runtime>(
         &mut self,
         rt: R,
         state: &State<W>,
@@ -125,10 +109,6 @@ impl Runner {
         steps: &mut Steps,
         unlocked: &mut Unlocked,
     )
-    where
-        T: Drop + 'static,
-        W: Wake + Drop + 'static,
-        R: Wait + Copy + Drop + 'static,
         requires { steps.old ≡ step.Run (run_step.Reschedule tt reply) ∷ [] }
         ensures steps { steps.new ≡ leaves_with reply }
         ensures drained { self.new.is_drained ≡ true }
@@ -156,7 +136,7 @@ impl Runner {
         ensures room { self.new.room ≡ self.old.room }
     {
         let _ = reply;
-        let Some(runnable) = take_next(&self.own, rt, steps) else {
+        let Some(runnable) = steps.take(At::Own(&self.own), None, rt) else {
             self.is_drained = true;
             return None;
         };

@@ -1,25 +1,21 @@
 //! How a run walks round the queues of the others, as its call has to do next.
 ghost use Rattle.std.specs.Prelude.{◌≡◌, None, Some, length};
-ghost use Rattle.call_steps.specs.declared.names.Source.TheVariants as source;
 ghost use Rattle.call_steps.specs.declared.names.Then.TheVariants as then;
-ghost use Rattle.async_executor.specs.Runs.{looked_walking, reads_length, robbed, walks};
+ghost use Rattle.async_executor.specs.Runs.{looked_walking, robbed, walks};
 ghost use Rattle.async_executor.specs.Searched.{searched, walked};
 ghost use Rattle.async_executor.specs.Seeds.{words_after};
 ghost use Rattle.async_executor.specs.Steps.{of_stored};
-ghost use Rattle.async_executor.specs.declared.runner.Searched.TheVariants as outcome;
 
 use super::{Runner, Search, Searched};
+use crate::deeds::Steps;
+use crate::deeds::queues::{At, Queue};
 use crate::entry::Unlocked;
-use crate::looking::pop;
 use crate::names::ExStoredRunnable;
 use crate::own_queues::Numbered;
-use crate::queues::Queue;
 use crate::state::State;
 use crate::steal::{Theft, steal};
-use crate::steps::Steps;
-use crate::task_name::TaskName;
 use crate::walks::Walk;
-use call_steps::{Saw, Source, Then};
+use call_steps::Then;
 use std::alloc::Global;
 use std::sync::{Arc, Wait};
 
@@ -36,11 +32,9 @@ impl Runner {
         requires { steps.old ≡ walks search.now.name.now None }
         ensures { steps.new ≡ searched search.now.at search.now.name.now result }
     {
-        let walked = {
-            let reading = state.own_queues.read(rt, unlocked);
-            self.walk_round(rt, reading.get().all(), search, steps)
-        };
-        unlock_read(&walked, search, steps);
+        let reading = state.own_queues.read(rt, unlocked);
+        let walked = self.walk_round(rt, reading.get().all(), search, steps);
+        steps.unlock_read(reading, &walked, search);
         walked
     }
 
@@ -97,11 +91,11 @@ impl Runner {
         search.go_to(left, behind, steps);
         let theft = Theft {
             name: search.name,
-            from: &Source::Own(()),
+            from: At::Own(queue),
             then: &Then::Walk(left),
             at: search.at,
         };
-        steal(rt, queue, &self.own, &theft, steps)
+        steal(rt, &self.own, &theft, steps)
     }
 
     /// In a walk, looks into the own queue, with so many still to go to.
@@ -117,50 +111,6 @@ impl Runner {
         ensures { steps.new ≡ looked_walking search.now.at search.now.name.now left (of_stored result) }
     {
         let _ = left;
-        match pop(&self.own, rt) {
-            Some(runnable) => {
-                steps.follow(Saw::FoundBy(TaskName::of_runnable(&runnable), search.at));
-                Some(runnable)
-            }
-            None => None,
-        }
+        steps.take_in_walk(&self.own, search.at, rt)
     }
-}
-
-impl Search<'_> {
-    /// A walk goes to the next queue, with so many behind it.
-    #[inline(always)]
-    fn go_to(&self, left: u64, behind: &Option<u64>, steps: &mut Steps)
-        requires { steps.old ≡ walks self.now.name.now behind.now }
-        ensures { steps.new ≡ reads_length self.now.name.now (source.Own tt) (then.Walk left) }
-    {
-        // The same is seen either way: contracts go by the case.
-        match behind {
-            None => steps.follow(Saw::Queue((), left)),
-            Some(_) => steps.follow(Saw::Queue((), left)),
-        }
-    }
-
-    /// A walk has no queue to go to any more.
-    #[inline(always)]
-    fn end_walk(&self, behind: &Option<u64>, steps: &mut Steps)
-        requires { steps.old ≡ walks self.now.name.now behind.now }
-        ensures { steps.new ≡ walked self.now.at self.now.name.now outcome.Nothing }
-    {
-        // The same is seen either way: contracts go by the case.
-        match behind {
-            None => steps.follow(Saw::Nothing),
-            Some(_) => steps.follow(Saw::Nothing),
-        }
-    }
-}
-
-/// The list's lock was given back, once a walk was over.
-#[inline(always)]
-fn unlock_read(came_to: &Searched, search: &Search<'_>, steps: &mut Steps)
-    requires { steps.old ≡ walked search.now.at search.now.name.now came_to.now }
-    ensures { steps.new ≡ searched search.now.at search.now.name.now came_to.now }
-{
-    let (_, _) = (came_to, search);
-    steps.follow(Saw::Nothing);
 }

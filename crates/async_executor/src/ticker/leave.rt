@@ -8,20 +8,18 @@ ghost use Rattle.executor_parts.specs.Sleepers.{flag_of};
 ghost use Rattle.async_executor.specs.Sleeping.{Leaves};
 
 use super::{Ticker, WokenUp, woken_up_with};
+use crate::deeds::Steps;
 use crate::entry::Unlocked;
 use crate::names::ExRealm;
-use crate::sections::give_back;
 use crate::sleeping::SleeperWaker;
 use crate::state::State;
-use crate::steps::Steps;
-use async_task::Wake;
-use call_steps::{Saw, TickOrRun};
+use async_task::{Output, OutsideWaker, Runtime};
+use call_steps::TickOrRun;
 use executor_parts::{Room, Sleeper, Sleepers, WokenUp as Stood};
-use std::sync::Wait;
 
 impl Ticker {
     /// Leaves the sleepers, where it sleeps there, and then gives its room back, in a section of its own.
-    pub fn leave<T, W, R>(
+    pub fn leave<T: Output, W: OutsideWaker, R: Runtime>(
         self,
         rt: R,
         state: &State<W>,
@@ -30,35 +28,22 @@ impl Ticker {
         steps: &mut Steps,
         unlocked: &mut Unlocked,
     )
-    where
-        T: Drop + 'static,
-        W: Wake + Drop + 'static,
-        R: Wait + Copy + Drop + 'static,
         requires { top steps.old ≡ Some (step.Tick (tick_step.Leave who.now)) }
         ensures { steps.new ≡ below steps.old }
     {
         match self {
             Ticker::Asleep(sleeper, _) => {
                 let room = leave_sleepers(rt, state, realm, sleeper, who, steps, unlocked);
-                return_room(&rt, state, room, unlocked);
-                steps.follow(Saw::Nothing);
+                steps.return_room(room, state, &rt, unlocked);
             }
-            Ticker::Awake(room) => {
-                return_room(&rt, state, room, unlocked);
-                steps.follow(Saw::Nothing);
-            }
-            Ticker::Left => steps.follow(Saw::Nothing),
+            Ticker::Awake(room) => steps.leave_awake(room, who, state, &rt, unlocked),
+            Ticker::Left => steps.leave_again(who),
         }
     }
 }
 
-/// The room of one that left the sleepers, or never slept, goes back.
-fn return_room<W, R: Wait>(rt: &R, state: &State<W>, room: Room, unlocked: &mut Unlocked) {
-    give_back(state.sleepers.lock(rt, unlocked).get(), room);
-}
-
 /// One that sleeps leaves the sleepers. If it had been told, it tells another in its place. Its room is the answer.
-fn leave_sleepers<T, W, R>(
+fn leave_sleepers<T: Output, W: OutsideWaker, R: Runtime>(
     rt: R,
     state: &State<W>,
     realm: &'static ExRealm<T, W, R>,
@@ -67,32 +52,20 @@ fn leave_sleepers<T, W, R>(
     steps: &mut Steps,
     unlocked: &mut Unlocked,
 ) -> Room
-where
-    T: Drop + 'static,
-    W: Wake + Drop + 'static,
-    R: Wait + Copy + Drop + 'static,
     requires { top steps.old ≡ Some (step.Tick (tick_step.Leave who.now)) }
     ensures { steps.new ≡ step.Run run_step.ReturnRoom ∷ below steps.old }
 {
-    let (room, waker) = {
-        let mut locked = state.sleepers.lock(&rt, unlocked);
-        let sleepers = locked.get();
-        let (room, woken_up) = leave_in(sleepers, sleeper);
-        (room, state.store_woken_up(sleepers, woken_up))
-    };
-    match waker {
-        Some(waker) => waker.leave_with(rt, realm, who, steps, unlocked),
-        None => {
-            steps.follow(Saw::Left(None));
-            state.notify_and_pay(rt, realm, steps, unlocked);
-        }
+    let (room, old) = steps.leave(sleeper, who, state, &rt, unlocked);
+    match old {
+        Some(old) => old.let_go_and_pay(rt, realm, steps, unlocked),
+        None => state.notify_and_pay(rt, realm, steps, unlocked),
     }
     room
 }
 
 /// The section of the sleepers' lock in which one leaves. Its room is the first answer. It has no waker there where it had been
 /// told.
-fn leave_in<W>(sleepers: &mut Sleepers<SleeperWaker<W>>, sleeper: Sleeper) -> (Room, WokenUp<W>)
+pub fn leave_in<W>(sleepers: &mut Sleepers<SleeperWaker<W>>, sleeper: Sleeper) -> (Room, WokenUp<W>)
     ensures left { Leaves sleeper.number sleepers.old sleepers.new result.1 }
     ensures said { result.1.notified ≡ flag_of sleepers.new }
 {

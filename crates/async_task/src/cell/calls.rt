@@ -3,21 +3,19 @@ ghost use Rattle.std.specs.Prelude.{◌≡◌};
 ghost use Rattle.async_task.specs.Polls.{IsTold};
 ghost use Rattle.task_word.specs.Handles.{IsHandleOf};
 
+use crate::bounds::{Output, OutsideWaker};
 use crate::cell::resting::{CancelStep, Detached, Duty};
 use crate::cell::turns::told;
 use crate::cell::{Held, Kept, Scheduled, TaskToken, pay_due};
 use crate::schedule::Schedule;
-use crate::wake::Wake;
 use std::sync::Wait;
 use task_word::tokens::{Found, OwingTask};
 
-impl<F, T, S, M, W, R> Held<F, T, S, M, W, R>
+impl<F, T: Output, S, M, W: OutsideWaker, R> Held<F, T, S, M, W, R>
 where
     F: Drop + 'static,
-    T: Drop + 'static,
     S: Schedule<Scheduled<F, T, S, M, W, R>> + Drop + 'static,
     M: Copy + Drop + 'static,
-    W: Wake + Drop + 'static,
     R: Wait + Copy + Drop,
 {
     /// The task is cancelled, which spends the handle's duty.

@@ -4,6 +4,7 @@ ghost use Rattle.std.specs.Prelude.{◌≡◌, IfSome};
 ghost use Rattle.async_task.specs.Due.{IsDueBy, WasIdle};
 ghost use Rattle.async_task.specs.Rests.{info_of};
 
+use crate::bounds::{Output, OutsideWaker};
 use crate::cell::fixed::{claim_present, read};
 use crate::cell::resting::KeptWaker;
 use crate::cell::returning::GoesBack;
@@ -16,13 +17,11 @@ use crate::waker::TaskWaker;
 use std::sync::Wait;
 use task_word::tokens::{OwingRun, PastRun};
 
-impl<F, T, S, M, W, R> Site<F, T, S, M, W, R>
+impl<F, T: Output, S, M, W: OutsideWaker, R> Site<F, T, S, M, W, R>
 where
     F: Drop + 'static,
-    T: Drop + 'static,
     S: Drop + 'static,
     M: Copy + Drop + 'static,
-    W: Wake + Drop + 'static,
     R: Wait + Copy + Drop,
 {
     /// A waker goes.
@@ -148,13 +147,11 @@ where
     }
 }
 
-impl<F, T, S, M, W, R> Held<F, T, S, M, W, R>
+impl<F, T: Output, S, M, W: OutsideWaker, R> Held<F, T, S, M, W, R>
 where
     F: Drop + 'static,
-    T: Drop + 'static,
     S: Drop + 'static,
     M: Copy + Drop + 'static,
-    W: Wake + Drop + 'static,
     R: Wait + Copy + Drop,
 {
     /// Calls a waker that a cell kept, where one was there.
@@ -188,13 +185,11 @@ where
     }
 }
 
-impl<F, T, S, M, W, R> Held<F, T, S, M, W, R>
+impl<F, T: Output, S, M, W: OutsideWaker, R> Held<F, T, S, M, W, R>
 where
     F: Drop + 'static,
-    T: Drop + 'static,
     S: Schedule<Scheduled<F, T, S, M, W, R>> + Drop + 'static,
     M: Copy + Drop + 'static,
-    W: Wake + Drop + 'static,
     R: Wait + Copy + Drop,
 {
     /// Does what is left to be done.
@@ -261,13 +256,11 @@ where
 
 /// Hands a task to its schedule value.
 #[inline(always)]
-pub fn pay_due<F, T, S, M, W, R>(due: Option<Due<F, T, S, M, W, R>>)
+pub fn pay_due<F, T: Output, S, M, W: OutsideWaker, R>(due: Option<Due<F, T, S, M, W, R>>)
 where
     F: Drop + 'static,
-    T: Drop + 'static,
     S: Schedule<Scheduled<F, T, S, M, W, R>> + Drop + 'static,
     M: Copy + Drop + 'static,
-    W: Wake + Drop + 'static,
     R: Wait + Copy + Drop,
 {
     if let Some(Due { runnable, info }) = due {

@@ -6,6 +6,7 @@ ghost use Rattle.task_word.specs.Handles.{IsHandleOf};
 
 mod lost;
 
+use crate::bounds::Output;
 pub use crate::cell::resting::lost::{Lost, Lot, Thing};
 use crate::cell::turns::owed_runnable;
 use crate::cell::{Held, Kept, RunnableToken, Site, TaskToken, WakerToken, Woken, Word};
@@ -112,16 +113,11 @@ pub(crate) fn park<F: 'static, T: 'static, W: 'static>(
 
 /// A new task, with its Runnable, its handle, and the handle's duty. The future comes back where the cell isn't empty.
 #[inline(always)]
-pub(crate) fn begin<F, T, W, R>(
+pub(crate) fn begin<F: 'static, T: 'static, W: 'static, R: Wait>(
     word: &'static Word<F, T, W>,
     rt: &R,
     future: F,
 ) -> Result<(RunnableToken<F, T, W>, TaskToken<F, T, W>, Duty), F>
-where
-    F: 'static,
-    T: 'static,
-    W: 'static,
-    R: Wait,
     ensures { IfErr result (λ back. back ≡ future) }
 {
     match word.make(rt, future) {
@@ -130,10 +126,9 @@ where
     }
 }
 
-impl<F, T, S, M, W, R> Site<F, T, S, M, W, R>
+impl<F, T: Output, S, M, W, R> Site<F, T, S, M, W, R>
 where
     F: Drop + 'static,
-    T: Drop + 'static,
     S: Drop + 'static,
     M: Copy + Drop + 'static,
     W: Drop + 'static,
@@ -176,10 +171,9 @@ where
     }
 }
 
-impl<F, T, S, M, W, R> Held<F, T, S, M, W, R>
+impl<F, T: Output, S, M, W, R> Held<F, T, S, M, W, R>
 where
     F: Drop + 'static,
-    T: Drop + 'static,
     S: Drop + 'static,
     M: Copy + Drop + 'static,
     W: Drop + 'static,

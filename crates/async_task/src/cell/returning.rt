@@ -3,13 +3,13 @@ ghost use Rattle.std.specs.Prelude.{◌≡◌, IfSome};
 ghost use Rattle.async_task.specs.Due.{WasIdle};
 ghost use Rattle.async_task.specs.Handles.{task_of};
 
+use crate::bounds::{Output, OutsideWaker};
 use crate::cell::resting::{Lot, Thing};
 use crate::cell::scheduled::{Due, Scheduled, StoredRunnable, StoredWaker};
 use crate::cell::{Realm, Site, pay_due};
 use crate::schedule::Schedule;
 use crate::stored_task::StoredTask;
 use crate::task::Task;
-use crate::wake::Wake;
 use crate::waker::TaskWaker;
 use std::marker::Model;
 use std::sync::Wait;
@@ -59,17 +59,15 @@ impl<X: GoesBack> Returning<X> {
 
 impl<M: Drop> Returning<StoredRunnable<M>> {
     /// The Runnable that was stored. One of another realm goes back there.
-    pub fn redeem<F, T, S, W, R>(
+    pub fn redeem<F, T: Output, S, W: OutsideWaker, R>(
         self,
         rt: R,
         realm: &'static Realm<F, T, S, M, W>,
     ) -> Option<Scheduled<F, T, S, M, W, R>>
     where
         F: Drop + 'static,
-        T: Drop + 'static,
         S: Drop + 'static,
         M: Copy + 'static,
-        W: Wake + Drop + 'static,
         R: Wait + Copy + Drop,
         ensures found { IfSome result (λ found. found ≡ self) }
         ensures here { IfSome result (λ found. found.identity.realm ≡ realm.now.number) }
@@ -86,17 +84,15 @@ impl<M: Drop> Returning<StoredRunnable<M>> {
 
 impl Returning<StoredWaker> {
     /// The waker that was stored. One of another realm goes back there.
-    pub fn redeem<F, T, S, M, W, R>(
+    pub fn redeem<F, T: Output, S, M, W: OutsideWaker, R>(
         self,
         rt: R,
         realm: &'static Realm<F, T, S, M, W>,
     ) -> Option<TaskWaker<F, T, S, M, W, R>>
     where
         F: Drop + 'static,
-        T: Drop + 'static,
         S: Schedule<Scheduled<F, T, S, M, W, R>> + Drop + 'static,
         M: Copy + Drop + 'static,
-        W: Wake + Drop + 'static,
         R: Wait + Copy + Drop,
         ensures found { IfSome result (λ found. found.identity ≡ self.identity) }
         ensures here { IfSome result (λ found. found.identity.realm ≡ realm.now.number) }
@@ -111,17 +107,15 @@ impl Returning<StoredWaker> {
     }
 
     /// Wakes the task, and is gone, with the answer of `StoredWaker::wake`. One of another realm goes back there.
-    pub fn wake<F, T, S, M, W, R>(
+    pub fn wake<F, T: Output, S, M, W: OutsideWaker, R>(
         self,
         rt: R,
         realm: &'static Realm<F, T, S, M, W>,
     ) -> Option<Due<F, T, S, M, W, R>>
     where
         F: Drop + 'static,
-        T: Drop + 'static,
         S: Drop + 'static,
         M: Copy + Drop + 'static,
-        W: Wake + Drop + 'static,
         R: Wait + Copy + Drop,
         ensures task { IfSome result (λ due. due.runnable.identity ≡ self.identity) }
         ensures idle { IfSome result (λ due. WasIdle due.info) }
@@ -137,17 +131,15 @@ impl Returning<StoredWaker> {
 
     /// Drops the waker, with the answer of `StoredWaker::release`. One of another realm goes back there.
     #[inline(always)]
-    pub fn release<F, T, S, M, W, R>(
+    pub fn release<F, T: Output, S, M, W: OutsideWaker, R>(
         self,
         rt: R,
         realm: &'static Realm<F, T, S, M, W>,
     ) -> Option<Due<F, T, S, M, W, R>>
     where
         F: Drop + 'static,
-        T: Drop + 'static,
         S: Drop + 'static,
         M: Copy + Drop + 'static,
-        W: Wake + Drop + 'static,
         R: Wait + Copy + Drop,
         ensures task { IfSome result (λ due. due.runnable.identity ≡ self.identity) }
         ensures idle { IfSome result (λ due. WasIdle due.info) }
@@ -164,18 +156,14 @@ impl Returning<StoredWaker> {
 
 impl<M: Drop> Returning<StoredTask<M>> {
     /// The handle that was stored. One of another realm goes back there.
-    pub fn redeem<F, T, S, W, R>(
+    pub fn redeem<F: Drop + 'static, T: Output, S, W: OutsideWaker, R: Wait + Copy + Drop>(
         self,
         rt: R,
         realm: &'static Realm<F, T, S, M, W>,
     ) -> Option<Task<F, T, S, M, W, R>>
     where
-        F: Drop + 'static,
-        T: Drop + 'static,
         S: Schedule<Scheduled<F, T, S, M, W, R>> + Drop + 'static,
         M: Copy + 'static,
-        W: Wake + Drop + 'static,
-        R: Wait + Copy + Drop,
         ensures found { IfSome result (λ found. task_of found ≡ self) }
         ensures here { IfSome result (λ found. found.identity.realm ≡ realm.now.number) }
     {
@@ -201,10 +189,10 @@ impl<X: GoesBack> Drop for Returning<X> {
 pub fn close_returned<F, T, S, M, W, R>(rt: R, realm: &'static Realm<F, T, S, M, W>)
 where
     F: Drop + 'static,
-    T: Drop + 'static,
+    T: Output,
     S: Schedule<Scheduled<F, T, S, M, W, R>> + Drop + 'static,
     M: Copy + Drop + 'static,
-    W: Wake + Drop + 'static,
+    W: OutsideWaker,
     R: Wait + Copy + Drop,
 {
     for _ in rt.forever() {
@@ -220,10 +208,10 @@ where
 fn end_all<F, T, S, M, W, R>(rt: R, realm: &'static Realm<F, T, S, M, W>, place: usize, lot: Lot)
 where
     F: Drop + 'static,
-    T: Drop + 'static,
+    T: Output,
     S: Schedule<Scheduled<F, T, S, M, W, R>> + Drop + 'static,
     M: Copy + Drop + 'static,
-    W: Wake + Drop + 'static,
+    W: OutsideWaker,
     R: Wait + Copy + Drop,
 {
     let mut lot = lot;
@@ -244,10 +232,10 @@ where
 fn end<F, T, S, M, W, R>(rt: R, realm: &'static Realm<F, T, S, M, W>, place: usize, thing: Thing)
 where
     F: Drop + 'static,
-    T: Drop + 'static,
+    T: Output,
     S: Schedule<Scheduled<F, T, S, M, W, R>> + Drop + 'static,
     M: Copy + Drop + 'static,
-    W: Wake + Drop + 'static,
+    W: OutsideWaker,
     R: Wait + Copy + Drop,
 {
     let returns = &realm.returns;

@@ -1,6 +1,7 @@
 ghost use Rattle.std.specs.Prelude.{◌≡◌, ◌↔◌, IfErr, IfOk, IfSome, IsTrue};
 ghost use Rattle.async_task.specs.Due.{WasIdle};
 
+use crate::bounds::{Output, OutsideWaker};
 use crate::cell::fixed::{claim_present, read};
 use crate::cell::resting::{Rested, Stored, Thing, rest, store};
 use crate::cell::returning::GoesBack;
@@ -8,7 +9,6 @@ use crate::cell::{Held, Identity, Realm, RunnableToken, Site, WakerToken};
 use crate::realm::Returns;
 use crate::runnable::Runnable;
 use crate::schedule::{Schedule, ScheduleInfo, Shared};
-use crate::wake::Wake;
 use crate::waker::TaskWaker;
 use std::marker::Model;
 use std::sync::Wait;
@@ -73,13 +73,11 @@ pub struct Due<F: 'static, T: 'static, S: 'static, M: 'static, W: 'static, R> {
     pub info: ScheduleInfo,
 }
 
-impl<F, T, S, M, W, R> Scheduled<F, T, S, M, W, R>
+impl<F, T: Output, S, M, W: OutsideWaker, R> Scheduled<F, T, S, M, W, R>
 where
     F: Drop + 'static,
-    T: Drop + 'static,
     S: Drop + 'static,
     M: Copy + Drop + 'static,
-    W: Wake + Drop + 'static,
     R: Wait + Copy + Drop,
 {
     /// The Runnable for a queue.
@@ -130,13 +128,11 @@ where
     }
 }
 
-impl<F, T, S, M, W, R> Scheduled<F, T, S, M, W, R>
+impl<F, T: Output, S, M, W: OutsideWaker, R> Scheduled<F, T, S, M, W, R>
 where
     F: Drop + 'static,
-    T: Drop + 'static,
     S: Schedule<Scheduled<F, T, S, M, W, R>> + Drop + 'static,
     M: Copy + Drop + 'static,
-    W: Wake + Drop + 'static,
     R: Wait + Copy + Drop,
 {
     /// The Runnable, to be run.
@@ -173,17 +169,15 @@ impl<M> StoredRunnable<M> {
 
     /// The Runnable that was stored. Where it is of another realm it comes back.
     #[inline(always)]
-    pub fn redeem<F, T, S, W, R>(
+    pub fn redeem<F, T: Output, S, W: OutsideWaker, R>(
         self,
         rt: R,
         realm: &'static Realm<F, T, S, M, W>,
     ) -> Result<Scheduled<F, T, S, M, W, R>, Self>
     where
         F: Drop + 'static,
-        T: Drop + 'static,
         S: Drop + 'static,
         M: Copy + Drop + 'static,
-        W: Wake + Drop + 'static,
         R: Wait + Copy + Drop,
         ensures found { IfOk result (λ found. found ≡ self) }
         ensures here { IfOk result (λ found. found.identity.realm ≡ realm.now.number) }
@@ -211,17 +205,15 @@ impl<M> StoredRunnable<M> {
     }
 
     /// Closes the task, as `Scheduled::close` does, with the same answer. Where it is of another realm it comes back.
-    pub fn close<F, T, S, W, R>(
+    pub fn close<F, T: Output, S, W: OutsideWaker, R>(
         self,
         rt: R,
         realm: &'static Realm<F, T, S, M, W>,
     ) -> Result<Option<Due<F, T, S, M, W, R>>, Self>
     where
         F: Drop + 'static,
-        T: Drop + 'static,
         S: Drop + 'static,
         M: Copy + Drop + 'static,
-        W: Wake + Drop + 'static,
         R: Wait + Copy + Drop,
         ensures idle { IfOk result (λ due. IfSome due (λ due. WasIdle due.info)) }
         ensures back { IfErr result (λ back. back ≡ self) }
@@ -276,17 +268,15 @@ impl StoredWaker {
     }
 
     /// The waker that was stored. Where it is of another realm it comes back.
-    pub fn redeem<F, T, S, M, W, R>(
+    pub fn redeem<F, T: Output, S, M, W: OutsideWaker, R>(
         self,
         rt: R,
         realm: &'static Realm<F, T, S, M, W>,
     ) -> Result<TaskWaker<F, T, S, M, W, R>, Self>
     where
         F: Drop + 'static,
-        T: Drop + 'static,
         S: Schedule<Scheduled<F, T, S, M, W, R>> + Drop + 'static,
         M: Copy + Drop + 'static,
-        W: Wake + Drop + 'static,
         R: Wait + Copy + Drop,
         ensures found { IfOk result (λ found. found.identity ≡ self.identity) }
         ensures here { IfOk result (λ found. found.identity.realm ≡ realm.now.number) }
@@ -301,17 +291,15 @@ impl StoredWaker {
     /// Wakes the task, and is gone. Where the task has to be queued, it is the answer. A schedule
     /// value that wakes tasks calls this, and goes on with the answer in a loop, since its own
     /// `schedule` can't be called from within. A waker of another realm comes back.
-    pub fn wake<F, T, S, M, W, R>(
+    pub fn wake<F, T: Output, S, M, W: OutsideWaker, R>(
         self,
         rt: R,
         realm: &'static Realm<F, T, S, M, W>,
     ) -> Result<Option<Due<F, T, S, M, W, R>>, Self>
     where
         F: Drop + 'static,
-        T: Drop + 'static,
         S: Drop + 'static,
         M: Copy + Drop + 'static,
-        W: Wake + Drop + 'static,
         R: Wait + Copy + Drop,
         ensures task { IfOk result (λ due. IfSome due (λ due. due.runnable.identity ≡ self.identity)) }
         ensures idle { IfOk result (λ due. IfSome due (λ due. WasIdle due.info)) }
@@ -325,17 +313,15 @@ impl StoredWaker {
 
     /// Drops the waker. Where the task has to be queued then, it is the answer. A waker of another realm comes back.
     #[inline(always)]
-    pub fn release<F, T, S, M, W, R>(
+    pub fn release<F, T: Output, S, M, W: OutsideWaker, R>(
         self,
         rt: R,
         realm: &'static Realm<F, T, S, M, W>,
     ) -> Result<Option<Due<F, T, S, M, W, R>>, Self>
     where
         F: Drop + 'static,
-        T: Drop + 'static,
         S: Drop + 'static,
         M: Copy + Drop + 'static,
-        W: Wake + Drop + 'static,
         R: Wait + Copy + Drop,
         ensures task { IfOk result (λ due. IfSome due (λ due. due.runnable.identity ≡ self.identity)) }
         ensures idle { IfOk result (λ due. IfSome due (λ due. WasIdle due.info)) }
@@ -349,17 +335,15 @@ impl StoredWaker {
 
     /// Where the task lies, and the reference.
     #[inline(always)]
-    pub(crate) fn find<F, T, S, M, W, R>(
+    pub(crate) fn find<F, T: Output, S, M, W: OutsideWaker, R>(
         self,
         rt: R,
         realm: &'static Realm<F, T, S, M, W>,
     ) -> Result<(Site<F, T, S, M, W, R>, WakerToken<F, T, W>), Self>
     where
         F: Drop + 'static,
-        T: Drop + 'static,
         S: Drop + 'static,
         M: Copy + Drop + 'static,
-        W: Wake + Drop + 'static,
         R: Wait + Copy + Drop,
         ensures found { IfOk result (λ found. found.0.identity ≡ self.identity) }
         ensures here { IfOk result (λ found. found.0.identity.realm ≡ realm.now.number) }
@@ -396,10 +380,9 @@ impl GoesBack for StoredWaker {
     }
 }
 
-impl<F, T, S, M, W, R> Held<F, T, S, M, W, R>
+impl<F, T: Output, S, M, W, R> Held<F, T, S, M, W, R>
 where
     F: Drop + 'static,
-    T: Drop + 'static,
     S: Drop + 'static,
     M: Copy + Drop + 'static,
     W: Drop + 'static,
@@ -416,13 +399,10 @@ where
 
 /// Whether what rests is of this realm.
 #[inline(always)]
-fn is_of<F, T, S, M, W>(returns: &Returns, realm: &Realm<F, T, S, M, W>) -> bool
-where
-    F: Drop,
-    T: Drop,
-    S: Drop,
-    M: Drop,
-    W: Drop,
+fn is_of<F: Drop, T: Drop, S: Drop, M: Drop, W: Drop>(
+    returns: &Returns,
+    realm: &Realm<F, T, S, M, W>,
+) -> bool
     ensures { IsTrue result ↔ returns.now.number ≡ realm.now.number }
 {
     returns.number() == realm.number()
@@ -430,7 +410,7 @@ where
 
 /// Where the task of what rests at this place lies, where that is of this realm.
 #[inline(always)]
-pub(crate) fn find<F, T, S, M, W, R>(
+pub(crate) fn find<F, T: Output, S, M, W, R>(
     rt: R,
     realm: &'static Realm<F, T, S, M, W>,
     returns: &'static Returns,
@@ -438,7 +418,6 @@ pub(crate) fn find<F, T, S, M, W, R>(
 ) -> Option<Site<F, T, S, M, W, R>>
 where
     F: Drop + 'static,
-    T: Drop + 'static,
     S: Drop + 'static,
     M: Copy + Drop + 'static,
     W: Drop + 'static,
@@ -455,7 +434,7 @@ where
 
 /// The way to that task, where its metadata are at hand.
 #[inline(always)]
-pub(crate) fn find_with<F, T, S, M, W, R>(
+pub(crate) fn find_with<F, T: Output, S, M, W, R>(
     rt: R,
     realm: &'static Realm<F, T, S, M, W>,
     returns: &'static Returns,
@@ -464,7 +443,6 @@ pub(crate) fn find_with<F, T, S, M, W, R>(
 ) -> Option<Held<F, T, S, M, W, R>>
 where
     F: Drop + 'static,
-    T: Drop + 'static,
     S: Drop + 'static,
     M: Copy + Drop + 'static,
     W: Drop + 'static,

@@ -4,6 +4,7 @@ ghost use Rattle.std.specs.Prelude.{◌≡◌, IfSome};
 ghost use Rattle.async_task.specs.Due.{IsDueBy, WasIdle};
 ghost use Rattle.async_task.specs.Slots.{CanRead};
 
+use crate::bounds::Output;
 use crate::cell::fixed::{Claimed, claim_present, end, leave, read};
 use crate::cell::resting::{Thing, rest};
 use crate::cell::{Cell, Due, Held, Realm, Scheduled, Woken};
@@ -28,10 +29,9 @@ impl<F: 'static, T: 'static, S: 'static, M: 'static, W: 'static, R> Model
     ghost view = { λ s. record { identity = record { realm = s.realm.now.number; place = s.place } } };
 }
 
-impl<F, T, S, M, W, R> Site<F, T, S, M, W, R>
+impl<F, T: Output, S, M, W, R> Site<F, T, S, M, W, R>
 where
     F: Drop + 'static,
-    T: Drop + 'static,
     S: Drop + 'static,
     M: Copy + Drop + 'static,
     W: Drop + 'static,

@@ -6,6 +6,7 @@ ghost use Rattle.async_task.specs.Polls.{IsTold};
 ghost use Rattle.async_task.specs.Rests.{info_of, was_woken_by};
 ghost use Rattle.task_word.specs.Handles.{IsHandleOf};
 
+use crate::bounds::Output;
 use crate::cell::{Held, Kept, RunnableToken, Site, TaskToken, WakerToken};
 use crate::look::{Look, StaysAwake, TooManyReferences};
 use crate::schedule::ScheduleInfo;
@@ -58,10 +59,9 @@ where
     }
 }
 
-impl<F, T, S, M, W, R> Held<F, T, S, M, W, R>
+impl<F, T: Output, S, M, W, R> Held<F, T, S, M, W, R>
 where
     F: Drop + 'static,
-    T: Drop + 'static,
     S: Drop + 'static,
     M: Copy + Drop + 'static,
     W: Drop + 'static,
@@ -83,10 +83,9 @@ where
     }
 }
 
-impl<F, T, S, M, W, R> Site<F, T, S, M, W, R>
+impl<F, T: Output, S, M, W, R> Site<F, T, S, M, W, R>
 where
     F: Drop + 'static,
-    T: Drop + 'static,
     S: Drop + 'static,
     M: Copy + Drop + 'static,
     W: Drop + 'static,
@@ -163,16 +162,10 @@ pub(crate) fn paid<X>(debt: Option<Debt<X>>) -> Option<X>
 
 /// The awaiter comes out, to be called, where that is owed.
 #[inline(always)]
-pub(crate) fn notified<F, T, W, R>(
+pub(crate) fn notified<F: Drop + 'static, T: Output, W: Drop + 'static, R: Wait>(
     rt: &R,
     run: Result<PastRun<F, T, Kept<W>>, OwingRun<F, T, Kept<W>>>,
-) -> (PastRun<F, T, Kept<W>>, Option<Kept<W>>)
-where
-    F: Drop + 'static,
-    T: Drop + 'static,
-    W: Drop + 'static,
-    R: Wait,
-{
+) -> (PastRun<F, T, Kept<W>>, Option<Kept<W>>) {
     match run {
         Ok(past) => (past, None),
         Err(owing) => {
@@ -184,15 +177,10 @@ where
 
 /// The same of a handle.
 #[inline(always)]
-pub(crate) fn told<F, T, W, R>(
+pub(crate) fn told<F: Drop + 'static, T: Output, W: Drop + 'static, R: Wait>(
     rt: &R,
     task: Result<TaskToken<F, T, W>, OwingTask<F, T, Kept<W>>>,
 ) -> (TaskToken<F, T, W>, Option<Kept<W>>)
-where
-    F: Drop + 'static,
-    T: Drop + 'static,
-    W: Drop + 'static,
-    R: Wait,
     ensures same { IsHandleOf result.0.cell.now task.entry }
     ensures told { IsTold task.entry result.0.claim }
 {

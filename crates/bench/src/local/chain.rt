@@ -59,15 +59,12 @@ where
     }
 }
 
-fn time_await_chain<R>(
+fn time_await_chain<R: Clock + Wait + Copy + Drop>(
     rt: R,
     alloc: Global,
     executor: &Timed<Link<R>, R>,
     ops: u64,
-) -> Result<Timing, Fault>
-where
-    R: Clock + Wait + Copy + Drop,
-{
+) -> Result<Timing, Fault> {
     let mut moved = 0u64;
     let start = Instant::now(&rt)?;
     for number in 0..ops.div_ceil(LINKS) {
@@ -95,10 +92,10 @@ where
 }
 
 /// Spawns one chain, and answers the handle of its last future.
-fn spawn_links<R>(executor: &Timed<Link<R>, R>, count: u64) -> Option<Handle<R>>
-where
-    R: Wait + Copy + Drop,
-{
+fn spawn_links<R: Wait + Copy + Drop>(
+    executor: &Timed<Link<R>, R>,
+    count: u64,
+) -> Option<Handle<R>> {
     let first = Yields {
         times: TIMES,
         number: 1,

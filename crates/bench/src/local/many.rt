@@ -25,15 +25,12 @@ where
     }
 }
 
-fn time_spawn_many<R>(
+fn time_spawn_many<R: Clock + Wait + Copy + Drop>(
     rt: R,
     alloc: Global,
     executor: &Timed<Yields, R>,
     ops: u64,
-) -> Result<Timing, Fault>
-where
-    R: Clock + Wait + Copy + Drop,
-{
+) -> Result<Timing, Fault> {
     let mut moved = 0u64;
     let start = Instant::now(&rt)?;
     for number in 0..ops.div_ceil(FUTURES) {
@@ -44,15 +41,12 @@ where
 }
 
 /// One round, in which each future gives 1: the sum of the outputs.
-fn outputs_of<R>(
+fn outputs_of<R: Wait + Copy + Drop>(
     rt: R,
     alloc: Global,
     executor: &Timed<Yields, R>,
     count: u64,
-) -> Result<u64, Fault>
-where
-    R: Wait + Copy + Drop,
-{
+) -> Result<u64, Fault> {
     let mut awaited = Awaited::new(rt, alloc);
     spawn_share(executor, 0, count, &mut awaited);
     tick_all(&rt, executor);

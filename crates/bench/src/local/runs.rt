@@ -55,15 +55,12 @@ where
     }
 }
 
-fn time_storm<R>(
+fn time_storm<R: Clock + Wait + Copy + Drop>(
     rt: R,
     alloc: Global,
     executor: &Timed<Yields, R>,
     ops: u64,
-) -> Result<Timing, Fault>
-where
-    R: Clock + Wait + Copy + Drop,
-{
+) -> Result<Timing, Fault> {
     let times = (ops / FUTURES).max(1);
     let start = Instant::now(&rt)?;
     let moved = work(rt, alloc, executor, times, FUTURES)?;
@@ -74,16 +71,13 @@ where
 }
 
 /// Spawns so many futures that give way so often, and runs the executor until they have ended. Answers the sum of the outputs.
-fn work<R>(
+fn work<R: Wait + Copy + Drop>(
     rt: R,
     alloc: Global,
     executor: &Timed<Yields, R>,
     times: u64,
     count: u64,
-) -> Result<u64, Fault>
-where
-    R: Wait + Copy + Drop,
-{
+) -> Result<u64, Fault> {
     let mut awaited = Awaited::new(rt, alloc);
     spawn_share(executor, times, count, &mut awaited);
     match executor.run(awaited) {
@@ -93,12 +87,10 @@ where
 }
 
 /// Polls a run until it is ready. Where it is pending it has called its waker.
-fn poll_to_end<G, O, R>(rt: R, run: G) -> Result<u64, Fault>
-where
-    G: Future<Key<R>, Output = Result<u64, O>> + Drop,
-    O: Drop,
-    R: Wait + Copy + Drop,
-{
+fn poll_to_end<G: Future<Key<R>, Output = Result<u64, O>> + Drop, O: Drop, R: Wait + Copy + Drop>(
+    rt: R,
+    run: G,
+) -> Result<u64, Fault> {
     let mut run = run;
     for _ in rt.forever() {
         match run.poll(&LocalExWaker::Outside(Nobody)) {

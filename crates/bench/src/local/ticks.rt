@@ -64,10 +64,10 @@ where
 }
 
 /// Spawns a future that nobody awaits.
-pub fn spawn_detached<R>(executor: &Timed<Yields, R>, future: Yields) -> Result<(), Fault>
-where
-    R: Wait + Copy + Drop,
-{
+pub fn spawn_detached<R: Wait + Copy + Drop>(
+    executor: &Timed<Yields, R>,
+    future: Yields,
+) -> Result<(), Fault> {
     match executor.spawn(future) {
         Ok(task) => {
             task.detach();
@@ -78,11 +78,10 @@ where
 }
 
 /// Ticks until nothing is to be done.
-pub fn tick_all<F, R>(rt: &R, executor: &Timed<F, R>)
-where
-    F: Future<Key<R>, Output = u64> + Drop,
-    R: Wait + Copy + Drop,
-{
+pub fn tick_all<F: Future<Key<R>, Output = u64> + Drop, R: Wait + Copy + Drop>(
+    rt: &R,
+    executor: &Timed<F, R>,
+) {
     for _ in rt.forever() {
         if !executor.try_tick() {
             return;

@@ -1,9 +1,8 @@
 //! The handle of a task, of whichever type.
 use crate::tasks::answer::Answer;
 use crate::tasks::stage::{Actor, Bell, Line, Output, ScriptAwaiter};
-use async_task::{Cancel, FallibleTask, Future, NoMemory, Poll, Task, TaskError};
+use async_task::{Cancel, FallibleTask, Future, NoMemory, Poll, Runtime, Task, TaskError};
 use std::alloc::{AllocError, Global};
-use std::sync::Wait;
 
 pub type ScriptTask<R> = Task<Actor<R>, Output<R>, Line<R>, u64, Bell<R>, R>;
 
@@ -13,13 +12,13 @@ pub type ScriptCancel<R> = Cancel<Actor<R>, Output<R>, Line<R>, u64, Bell<R>, R>
 
 /// The handle of a task.
 #[derive(Drop)]
-pub enum Handle<R: Wait + Copy + Drop + 'static> {
+pub enum Handle<R: Runtime> {
     Task(ScriptTask<R>),
     Fallible(ScriptFallible<R>),
     Cancel(ScriptCancel<R>),
 }
 
-impl<R: Wait + Copy + Drop + 'static> Handle<R> {
+impl<R: Runtime> Handle<R> {
     /// A poll by this waker, and the handle behind it. A Cancel that is over is dropped.
     pub fn poll(self, waker: &ScriptAwaiter<R>) -> (Option<Handle<R>>, Result<Answer, AllocError>) {
         match self {
@@ -124,9 +123,7 @@ pub fn marks_of(text: &str) -> &str {
 }
 
 /// What a poll of a Task answers.
-fn of_task<R: Wait + Copy + Drop + 'static>(
-    poll: Poll<Result<Output<R>, TaskError>>,
-) -> Result<Answer, AllocError> {
+fn of_task<R: Runtime>(poll: Poll<Result<Output<R>, TaskError>>) -> Result<Answer, AllocError> {
     match poll {
         Poll::Pending => Ok(Answer::Pending),
         Poll::Ready(Ok(output)) => Ok(Answer::Ready(output.read())),
@@ -136,7 +133,7 @@ fn of_task<R: Wait + Copy + Drop + 'static>(
 }
 
 /// What a poll of a handle answers that has None where the task is closed.
-fn of_option<R: Wait + Copy + Drop + 'static>(
+fn of_option<R: Runtime>(
     poll: Poll<Result<Option<Output<R>>, NoMemory>>,
 ) -> Result<Answer, AllocError> {
     match poll {

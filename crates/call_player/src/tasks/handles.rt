@@ -6,11 +6,10 @@ use crate::tasks::kept::Keeps;
 use crate::tasks::player::Player;
 use crate::tasks::runs::OpenRun;
 use crate::tasks::stage::{Bell, ScriptAwaiter};
-use async_task::Awaiter;
+use async_task::{Awaiter, Runtime};
 use std::alloc::AllocError;
-use std::sync::Wait;
 
-impl<R: Wait + Copy + Drop + 'static> Player<R> {
+impl<R: Runtime> Player<R> {
     /// A call of two names.
     pub fn pair_call<K>(
         &self,

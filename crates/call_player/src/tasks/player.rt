@@ -6,20 +6,19 @@ use crate::tasks::kept::Keeps;
 use crate::tasks::runs::OpenRun;
 use crate::tasks::scene::{SharedScene, copied};
 use crate::tasks::stage::{Actor, Line, Tasks};
-use async_task::{Builder, Returning};
+use async_task::{Builder, Returning, Runtime};
 use std::alloc::{AllocError, Global};
-use std::sync::Wait;
 
 /// The tasks of a script. Their handles are kept by who calls.
 #[derive(Drop)]
-pub struct Player<R: Wait + Copy + Drop + 'static> {
+pub struct Player<R: Runtime> {
     pub rt: R,
     pub alloc: Global,
     pub realm: &'static Tasks<R>,
     pub scene: SharedScene,
 }
 
-impl<R: Wait + Copy + Drop + 'static> Player<R> {
+impl<R: Runtime> Player<R> {
     /// A way to the scene.
     pub fn scene(&self) -> SharedScene {
         copied(&self.rt, &self.scene)

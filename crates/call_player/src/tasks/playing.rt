@@ -7,8 +7,8 @@ use crate::tasks::player::Player;
 use crate::tasks::runs::OpenRun;
 use crate::tasks::scene::{Scene, copied};
 use crate::tasks::stage::Tasks;
+use async_task::Runtime;
 use std::alloc::Global;
-use std::sync::Wait;
 
 /// Plays scripts of calls on tasks.
 pub trait PlaysTasks {
@@ -20,18 +20,14 @@ pub trait PlaysTasks {
 /// Plays scripts on tasks that lie in a realm, and keeps their handles in `kept`. A program writes it as a struct where it has its
 /// `rt`: no call that takes both `'static` realm and `kept` gets a proof.
 #[derive(Drop)]
-pub struct TaskPlayer<R: Wait + Copy + Drop + 'static, K> {
+pub struct TaskPlayer<R: Runtime, K> {
     pub rt: R,
     pub alloc: Global,
     pub realm: &'static Tasks<R>,
     pub kept: K,
 }
 
-impl<R, K> PlaysTasks for TaskPlayer<R, K>
-where
-    R: Wait + Copy + Drop + 'static,
-    K: Keeps<Handle<R>, OpenRun<R>>,
-{
+impl<R: Runtime, K: Keeps<Handle<R>, OpenRun<R>>> PlaysTasks for TaskPlayer<R, K> {
     fn play(&mut self, script: &[u8]) -> Result<Vec<u8>, PlayError> {
         let Script { names, commands } = parse(self.alloc, script)?;
         let scene = Scene::new(self.alloc, names)?;

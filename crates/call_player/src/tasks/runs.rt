@@ -8,14 +8,14 @@ use crate::tasks::scene::Entry;
 use crate::tasks::stage::{
     Actor, Bell, Line, Output, ScriptRunnable, ScriptRunning, ScriptScheduled,
 };
-use async_task::{Back, Future, Poll, Returning, RunEnd, Schedule, Started, StoredRunnable, Wake};
+use async_task::{
+    Back, Future, Poll, Returning, RunEnd, Runtime, Schedule, Started, StoredRunnable, Wake,
+};
 use std::alloc::AllocError;
-use std::sync::Wait;
 
 /// A run that was left open before its future is polled. Its drop ends it without a poll.
-pub struct OpenRun<R>
+pub struct OpenRun<R: Runtime>
 where
-    R: Wait + Copy + Drop + 'static,
     Actor<R>: Drop,
     Output<R>: Drop,
     Line<R>: Schedule<ScriptScheduled<R>> + Drop,
@@ -25,7 +25,7 @@ where
     running: ScriptRunning<R>,
 }
 
-impl<R: Wait + Copy + Drop + 'static> OpenRun<R> {
+impl<R: Runtime> OpenRun<R> {
     /// Polls the future, and ends the run. The answer is whether the task was woken meanwhile.
     fn settle(self) -> bool {
         let Self { future, running } = self;
@@ -40,7 +40,7 @@ impl<R: Wait + Copy + Drop + 'static> OpenRun<R> {
     }
 }
 
-impl<R: Wait + Copy + Drop + 'static> Drop for OpenRun<R> {
+impl<R: Runtime> Drop for OpenRun<R> {
     fn drop(self) {
         let Self { future, running } = self;
         ended(running.settle(Back::Pending(future)));
@@ -48,11 +48,10 @@ impl<R: Wait + Copy + Drop + 'static> Drop for OpenRun<R> {
 }
 
 /// Begins a run, which stays open, or closes the task.
-fn start<R, K>(runnable: ScriptRunnable<R>, kept: &mut K) -> Result<Answer, AllocError>
-where
-    R: Wait + Copy + Drop + 'static,
-    K: Keeps<Handle<R>, OpenRun<R>>,
-{
+fn start<R: Runtime, K: Keeps<Handle<R>, OpenRun<R>>>(
+    runnable: ScriptRunnable<R>,
+    kept: &mut K,
+) -> Result<Answer, AllocError> {
     match runnable.start() {
         Started::Poll(future, running) => {
             kept.open(OpenRun { future, running })?;
@@ -69,7 +68,7 @@ where
 type ScriptRunEnd<R> = RunEnd<Actor<R>, Output<R>, Line<R>, u64, Bell<R>, R>;
 
 /// Ends a run.
-fn ended<R: Wait + Copy + Drop + 'static>(end: ScriptRunEnd<R>) -> bool {
+fn ended<R: Runtime>(end: ScriptRunEnd<R>) -> bool {
     match end {
         RunEnd::Over => false,
         RunEnd::Pause(pause) => pause.finish(),
@@ -81,7 +80,7 @@ fn ended<R: Wait + Copy + Drop + 'static>(end: ScriptRunEnd<R>) -> bool {
     }
 }
 
-impl<R: Wait + Copy + Drop + 'static> Player<R> {
+impl<R: Runtime> Player<R> {
     /// A call on the list or on the innermost open run.
     pub fn list_call<K>(&self, call: ListCall, kept: &mut K) -> Result<Answer, AllocError>
     where

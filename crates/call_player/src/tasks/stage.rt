@@ -3,13 +3,13 @@ use crate::tasks::command::{Act, Item, Name};
 use crate::tasks::counts::Happening;
 use crate::tasks::scene::{SharedScene, copied};
 use async_task::{
-    Awaiter, Future, Poll, Realm, Returning, Runnable, Running, Schedule, ScheduleInfo, Scheduled,
-    TaskWaker, Wake,
+    Awaiter, Future, Poll, Realm, Returning, Runnable, Running, Runtime, Schedule, ScheduleInfo,
+    Scheduled, TaskWaker, Wake,
 };
-use std::sync::{Arc, Wait};
+use std::sync::Arc;
 
 /// A future that does what its items say.
-pub struct Actor<R: Wait + Copy + Drop + 'static> {
+pub struct Actor<R: Runtime> {
     pub scene: SharedScene,
     pub rt: R,
     pub name: Name,
@@ -19,7 +19,7 @@ pub struct Actor<R: Wait + Copy + Drop + 'static> {
 }
 
 /// What a future gives. Its drop shows that nobody read it.
-pub struct Output<R: Wait + Copy + Drop + 'static> {
+pub struct Output<R: Runtime> {
     pub scene: SharedScene,
     pub rt: R,
     pub name: Name,
@@ -27,7 +27,7 @@ pub struct Output<R: Wait + Copy + Drop + 'static> {
 }
 
 /// The schedule value, which puts a Runnable at the end of the list.
-pub struct Line<R: Wait + Copy + Drop + 'static> {
+pub struct Line<R: Runtime> {
     pub scene: SharedScene,
     pub rt: R,
     pub name: Name,
@@ -35,7 +35,7 @@ pub struct Line<R: Wait + Copy + Drop + 'static> {
 
 /// A waker from outside.
 #[derive(Drop)]
-pub struct Bell<R: Wait + Copy + Drop + 'static> {
+pub struct Bell<R: Runtime> {
     pub scene: SharedScene,
     pub rt: R,
     pub name: Name,
@@ -54,9 +54,9 @@ pub type ScriptWaker<R> = TaskWaker<Actor<R>, Output<R>, Line<R>, u64, Bell<R>, 
 pub type ScriptAwaiter<R> = Awaiter<Actor<R>, Output<R>, Line<R>, u64, Bell<R>, R>;
 
 /// The drop of a waker.
-fn drop_waker<R: Wait + Copy + Drop + 'static>(_waker: Option<ScriptWaker<R>>) {}
+fn drop_waker<R: Runtime>(_waker: Option<ScriptWaker<R>>) {}
 
-impl<R: Wait + Copy + Drop + 'static> Future<ScriptAwaiter<R>> for Actor<R> {
+impl<R: Runtime> Future<ScriptAwaiter<R>> for Actor<R> {
     type Output = Output<R>;
 
     fn poll(&mut self, waker: &ScriptAwaiter<R>) -> Poll<Output<R>> {
@@ -85,7 +85,7 @@ impl<R: Wait + Copy + Drop + 'static> Future<ScriptAwaiter<R>> for Actor<R> {
     }
 }
 
-impl<R: Wait + Copy + Drop + 'static> Actor<R> {
+impl<R: Runtime> Actor<R> {
     /// Does what the item of this poll says.
     fn act(&self, waker: &ScriptAwaiter<R>) -> Option<u64> {
         let item = self.items.get(self.next)?;
@@ -111,7 +111,7 @@ impl<R: Wait + Copy + Drop + 'static> Actor<R> {
     }
 }
 
-impl<R: Wait + Copy + Drop + 'static> Drop for Actor<R> {
+impl<R: Runtime> Drop for Actor<R> {
     fn drop(self) {
         let Self {
             scene,
@@ -125,7 +125,7 @@ impl<R: Wait + Copy + Drop + 'static> Drop for Actor<R> {
     }
 }
 
-impl<R: Wait + Copy + Drop + 'static> Output<R> {
+impl<R: Runtime> Output<R> {
     /// The value, which is read.
     pub fn read(self) -> u64 {
         let Self {
@@ -138,7 +138,7 @@ impl<R: Wait + Copy + Drop + 'static> Output<R> {
     }
 }
 
-impl<R: Wait + Copy + Drop + 'static> Drop for Output<R> {
+impl<R: Runtime> Drop for Output<R> {
     fn drop(self) {
         let Self {
             scene,
@@ -151,7 +151,7 @@ impl<R: Wait + Copy + Drop + 'static> Drop for Output<R> {
     }
 }
 
-impl<R: Wait + Copy + Drop + 'static> Schedule<ScriptScheduled<R>> for Line<R> {
+impl<R: Runtime> Schedule<ScriptScheduled<R>> for Line<R> {
     fn schedule(&self, runnable: ScriptScheduled<R>, info: ScheduleInfo) {
         self.scene.count(&self.rt, self.name, Happening::Schedule);
         let told = if info.woken_while_running {
@@ -165,14 +165,14 @@ impl<R: Wait + Copy + Drop + 'static> Schedule<ScriptScheduled<R>> for Line<R> {
     }
 }
 
-impl<R: Wait + Copy + Drop + 'static> Drop for Line<R> {
+impl<R: Runtime> Drop for Line<R> {
     fn drop(self) {
         let Self { scene, rt, name } = self;
         scene.count(&rt, name, Happening::ScheduleDrop);
     }
 }
 
-impl<R: Wait + Copy + Drop + 'static> Wake for Bell<R> {
+impl<R: Runtime> Wake for Bell<R> {
     ghost is_same = { λ a b. Unit {0} };
 
     fn wake(self) {

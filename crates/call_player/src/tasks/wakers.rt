@@ -7,11 +7,10 @@ use crate::tasks::player::Player;
 use crate::tasks::runs::OpenRun;
 use crate::tasks::scene::Entry;
 use crate::tasks::stage::{ScriptAwaiter, ScriptWaker};
-use async_task::{Awaiter, Returning, Wake};
+use async_task::{Awaiter, Returning, Runtime, Wake};
 use std::alloc::AllocError;
-use std::sync::Wait;
 
-impl<R: Wait + Copy + Drop + 'static> Player<R> {
+impl<R: Runtime> Player<R> {
     /// A call on the kept wakers of this task.
     pub fn waker_call(&self, call: WakerCall, name: Name) -> Answer {
         if let WakerCall::Waker = call {

@@ -114,12 +114,12 @@ impl Lists {
         ended
     }
 
-    fn judged<E, T, R>(self, rt: R, players: &mut Players<E, T>, road: Road) -> Result<Alike, Fault>
-    where
-        E: Plays,
-        T: PlaysTasks,
-        R: AllocGlobal + RandomSource + Wait + Copy + Drop,
-    {
+    fn judged<E: Plays, T: PlaysTasks, R: AllocGlobal + RandomSource + Wait + Copy + Drop>(
+        self,
+        rt: R,
+        players: &mut Players<E, T>,
+        road: Road,
+    ) -> Result<Alike, Fault> {
         let mut alike = Alike {
             agreed: 0,
             all: 0,

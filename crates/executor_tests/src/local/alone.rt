@@ -75,11 +75,9 @@ type Plain<R> = LocalExecutor<Ready, u64, Nobody, R>;
 type Fixed<R> = StaticLocalExecutor<Ready, u64, Nobody, R>;
 
 /// Whether the poll of a run is pending.
-fn waits<F, R>(run: &mut LocalRun<'_, F, u64, Nobody, R, Never>) -> bool
-where
-    F: Future<LocalExWaker<Nobody, R>, Output = u64> + Drop,
-    R: Wait + Copy + Drop,
-{
+fn waits<F: Future<LocalExWaker<Nobody, R>, Output = u64> + Drop, R: Wait + Copy + Drop>(
+    run: &mut LocalRun<'_, F, u64, Nobody, R, Never>,
+) -> bool {
     run.poll(&LocalExWaker::Outside(Nobody)) == Poll::Pending
 }
 

@@ -1,6 +1,6 @@
 //! Wakers of an executor of one thread are called on other threads.
 use crate::local::door::{House, Visitor, new_door};
-use async_task::{Future, Nobody, Poll, Wake};
+use async_task::{Future, Nobody, Poll, Runtime, Wake};
 use local_executor::{LocalExWaker, TaskError};
 use std::alloc::Global;
 use std::process::Abort;
@@ -23,10 +23,10 @@ fn ticks_until<R: Wait + Copy + Drop>(executor: &House<R>, is_over: &AtomicBool)
 }
 
 /// Whether an executor polls its future again where another thread calls the waker 10,000 times meanwhile.
-fn ticks_while_it_is_called<R>(rt: R, alloc: Global) -> bool
-where
-    R: Abort + RandomSource + Threads + Wait + Send + Sync + Copy + Drop + 'static,
-{
+fn ticks_while_it_is_called<R: Runtime + Abort + RandomSource + Threads + Send + Sync>(
+    rt: R,
+    alloc: Global,
+) -> bool {
     let executor = House::new(rt, alloc, 1).expect(&rt, "an executor");
     let (door, other) = new_door::<R>(&rt, alloc);
     let Ok(handle) = executor.spawn(Visitor(other)) else {
@@ -58,10 +58,10 @@ fn a_waker_is_called_10_000_times_while_its_executor_ticks(rt: HostRuntime) {
 }
 
 /// Whether a waker that outlives its executor elsewhere lets go what it holds.
-fn outlives_its_executor<R>(rt: R, alloc: Global) -> bool
-where
-    R: Abort + RandomSource + Threads + Wait + Send + Sync + Copy + Drop + 'static,
-{
+fn outlives_its_executor<R: Runtime + Abort + RandomSource + Threads + Send + Sync>(
+    rt: R,
+    alloc: Global,
+) -> bool {
     let executor = House::new(rt, alloc, 1).expect(&rt, "an executor");
     let (door, other) = new_door::<R>(&rt, alloc);
     let Ok(mut handle) = executor.spawn(Visitor(other)) else {

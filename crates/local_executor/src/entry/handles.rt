@@ -9,35 +9,20 @@ use std::sync::Wait;
 
 /// The handle of a task. It is polled for the output. Its drop cancels the task.
 #[must_use]
-pub struct LocalHandle<T, W, R>
-where
-    T: Drop,
-    W: Wake + Drop,
-    R: Wait + Copy + Drop,
-{
+pub struct LocalHandle<T: Drop, W: Wake + Drop, R: Wait + Copy + Drop> {
     held: Held<T, W, R>,
 }
 
 /// The handle of a task whose closing is no error. Its drop cancels the task.
 #[must_use]
-pub struct LocalFallible<T, W, R>
-where
-    T: Drop,
-    W: Wake + Drop,
-    R: Wait + Copy + Drop,
-{
+pub struct LocalFallible<T: Drop, W: Wake + Drop, R: Wait + Copy + Drop> {
     held: Held<T, W, R>,
 }
 
 /// The end of a task that its handle closes. The first poll cancels it. It is ready once the future is dropped, with the output
 /// where that was there before. Its drop cancels the task too.
 #[must_use]
-pub struct LocalCancel<T, W, R>
-where
-    T: Drop,
-    W: Wake + Drop,
-    R: Wait + Copy + Drop,
-{
+pub struct LocalCancel<T: Drop, W: Wake + Drop, R: Wait + Copy + Drop> {
     held: Held<T, W, R>,
     /// Whether a poll has cancelled it.
     is_cancelled: bool,
@@ -107,12 +92,8 @@ impl<T: Drop, W: Wake + Drop, R: Wait + Copy + Drop> LocalFallible<T, W, R> {
     }
 }
 
-impl<T, W, R> Future<LocalExWaker<W, R>> for LocalHandle<T, W, R>
-where
-    T: Drop,
-    W: Wake + Drop,
-    R: Wait + Copy + Drop,
-{
+impl<T: Drop, W: Wake + Drop, R: Wait + Copy + Drop> Future<LocalExWaker<W, R>>
+    for LocalHandle<T, W, R> {
     type Output = Result<T, TaskError>;
 
     fn poll(&mut self, waker: &LocalExWaker<W, R>) -> Poll<Result<T, TaskError>>
@@ -127,12 +108,8 @@ where
     }
 }
 
-impl<T, W, R> Future<LocalExWaker<W, R>> for LocalFallible<T, W, R>
-where
-    T: Drop,
-    W: Wake + Drop,
-    R: Wait + Copy + Drop,
-{
+impl<T: Drop, W: Wake + Drop, R: Wait + Copy + Drop> Future<LocalExWaker<W, R>>
+    for LocalFallible<T, W, R> {
     type Output = Result<Option<T>, NoMemory>;
 
     fn poll(&mut self, waker: &LocalExWaker<W, R>) -> Poll<Result<Option<T>, NoMemory>>
@@ -142,12 +119,8 @@ where
     }
 }
 
-impl<T, W, R> Future<LocalExWaker<W, R>> for LocalCancel<T, W, R>
-where
-    T: Drop,
-    W: Wake + Drop,
-    R: Wait + Copy + Drop,
-{
+impl<T: Drop, W: Wake + Drop, R: Wait + Copy + Drop> Future<LocalExWaker<W, R>>
+    for LocalCancel<T, W, R> {
     type Output = Result<Option<T>, NoMemory>;
 
     /// Refused too, it has cancelled.
@@ -174,36 +147,21 @@ fn found<T>(found: Found<T>) -> Poll<Result<Option<T>, NoMemory>> {
     }
 }
 
-impl<T, W, R> Drop for LocalHandle<T, W, R>
-where
-    T: Drop,
-    W: Wake + Drop,
-    R: Wait + Copy + Drop,
-{
+impl<T: Drop, W: Wake + Drop, R: Wait + Copy + Drop> Drop for LocalHandle<T, W, R> {
     fn drop(self) {
         let LocalHandle { held } = self;
         held.cancel_and_leave(&mut Unlocked::at_entry());
     }
 }
 
-impl<T, W, R> Drop for LocalFallible<T, W, R>
-where
-    T: Drop,
-    W: Wake + Drop,
-    R: Wait + Copy + Drop,
-{
+impl<T: Drop, W: Wake + Drop, R: Wait + Copy + Drop> Drop for LocalFallible<T, W, R> {
     fn drop(self) {
         let LocalFallible { held } = self;
         held.cancel_and_leave(&mut Unlocked::at_entry());
     }
 }
 
-impl<T, W, R> Drop for LocalCancel<T, W, R>
-where
-    T: Drop,
-    W: Wake + Drop,
-    R: Wait + Copy + Drop,
-{
+impl<T: Drop, W: Wake + Drop, R: Wait + Copy + Drop> Drop for LocalCancel<T, W, R> {
     fn drop(self) {
         let LocalCancel { held, is_cancelled } = self;
         if is_cancelled {

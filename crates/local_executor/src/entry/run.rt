@@ -15,14 +15,7 @@ use std::sync::Wait;
 ///
 /// It is made by `LocalExecutor::run` or `StaticLocalExecutor::run`.
 #[must_use]
-pub struct LocalRun<'a, F, T, W, R, G>
-where
-    F: Drop,
-    T: Drop,
-    W: Wake + Drop,
-    R: Wait + Copy + Drop,
-    G: Drop,
-{
+pub struct LocalRun<'a, F: Drop, T: Drop, W: Wake + Drop, R: Wait + Copy + Drop, G: Drop> {
     pub(crate) executor: &'a Body<F, T, W, R>,
     /// The future that it runs for, until that is ready.
     pub(crate) future: Option<Foreign<G>>,
@@ -31,12 +24,10 @@ where
     pub(crate) starts: Starts,
 }
 
-impl<F, T, W, R, G> Future<LocalExWaker<W, R>> for LocalRun<'_, F, T, W, R, G>
+impl<F, T: Drop, W: Wake + Drop, R: Wait + Copy + Drop, G> Future<LocalExWaker<W, R>>
+    for LocalRun<'_, F, T, W, R, G>
 where
     F: Future<LocalExWaker<W, R>, Output = T> + Drop,
-    T: Drop,
-    W: Wake + Drop,
-    R: Wait + Copy + Drop,
     G: Future<LocalExWaker<W, R>> + Drop,
 {
     type Output = Result<G::Output, RunError>;
@@ -50,14 +41,8 @@ where
     }
 }
 
-impl<F, T, W, R, G> Drop for LocalRun<'_, F, T, W, R, G>
-where
-    F: Drop,
-    T: Drop,
-    W: Wake + Drop,
-    R: Wait + Copy + Drop,
-    G: Drop,
-{
+impl<F: Drop, T: Drop, W: Wake + Drop, R: Wait + Copy + Drop, G: Drop> Drop
+    for LocalRun<'_, F, T, W, R, G> {
     /// Drops its future, schedules what is left in its own queue, and leaves the sleepers. A run that was never polled only
     /// drops its future and gives its room back.
     fn drop(self) {

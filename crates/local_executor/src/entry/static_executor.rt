@@ -18,22 +18,13 @@ use std::{fmt, mem};
 
 /// An executor of futures `F`, whose outputs are `T`, on one thread, which never ends: what it still holds when it goes is leaked.
 /// It counts no wakers of its own: a detached future that nobody can wake any more is dropped by the executor.
-pub struct StaticLocalExecutor<F, T, W, R>
-where
-    F: Drop,
-    T: Drop,
-    W: Wake + Drop,
-    R: Wait + Copy + Drop,
-{
+pub struct StaticLocalExecutor<F: Drop, T: Drop, W: Wake + Drop, R: Wait + Copy + Drop> {
     pub(crate) body: Body<F, T, W, R>,
 }
 
-impl<F, T, W, R> StaticLocalExecutor<F, T, W, R>
+impl<F, T: Drop, W: Wake + Drop, R: Wait + Copy + Drop> StaticLocalExecutor<F, T, W, R>
 where
     F: Future<LocalExWaker<W, R>, Output = T> + Drop,
-    T: Drop,
-    W: Wake + Drop,
-    R: Wait + Copy + Drop,
 {
     /// An executor with places for so many futures, as `LocalExecutor::new` makes one.
     pub fn new(rt: R, alloc: Global, limit: usize) -> Result<Self, LocalError>
@@ -106,13 +97,8 @@ where
     }
 }
 
-impl<F, T, W, R> Drop for StaticLocalExecutor<F, T, W, R>
-where
-    F: Drop,
-    T: Drop,
-    W: Wake + Drop,
-    R: Wait + Copy + Drop,
-{
+impl<F: Drop, T: Drop, W: Wake + Drop, R: Wait + Copy + Drop> Drop
+    for StaticLocalExecutor<F, T, W, R> {
     /// What it still holds is leaked.
     fn drop(self) {
         let StaticLocalExecutor { body } = self;
@@ -121,13 +107,8 @@ where
 }
 
 /// As that of a `LocalExecutor`.
-impl<F, T, W, R> fmt::Debug for StaticLocalExecutor<F, T, W, R>
-where
-    F: Drop,
-    T: Drop,
-    W: Wake + Drop,
-    R: Wait + Copy + Drop,
-{
+impl<F: Drop, T: Drop, W: Wake + Drop, R: Wait + Copy + Drop> fmt::Debug
+    for StaticLocalExecutor<F, T, W, R> {
     fn fmt<O: fmt::Write>(&self, f: &mut fmt::Formatter<O>) -> fmt::Result {
         show(
             &self.body.link,

@@ -13,24 +13,16 @@ use std::sync::Wait;
 ///
 /// It is made by `LocalExecutor::tick` or `StaticLocalExecutor::tick`.
 #[must_use]
-pub struct LocalTick<'a, F, T, W, R>
-where
-    F: Drop,
-    T: Drop,
-    W: Wake + Drop,
-    R: Wait + Copy + Drop,
-{
+pub struct LocalTick<'a, F: Drop, T: Drop, W: Wake + Drop, R: Wait + Copy + Drop> {
     pub(crate) executor: &'a Body<F, T, W, R>,
     /// It is out only while the tick is polled.
     pub(crate) ticker: Option<Ticker>,
 }
 
-impl<F, T, W, R> Future<LocalExWaker<W, R>> for LocalTick<'_, F, T, W, R>
+impl<F, T: Drop, W: Wake + Drop, R: Wait + Copy + Drop> Future<LocalExWaker<W, R>>
+    for LocalTick<'_, F, T, W, R>
 where
     F: Future<LocalExWaker<W, R>, Output = T> + Drop,
-    T: Drop,
-    W: Wake + Drop,
-    R: Wait + Copy + Drop,
 {
     type Output = Result<(), NoMemory>;
 
@@ -42,13 +34,7 @@ where
     }
 }
 
-impl<F, T, W, R> Drop for LocalTick<'_, F, T, W, R>
-where
-    F: Drop,
-    T: Drop,
-    W: Wake + Drop,
-    R: Wait + Copy + Drop,
-{
+impl<F: Drop, T: Drop, W: Wake + Drop, R: Wait + Copy + Drop> Drop for LocalTick<'_, F, T, W, R> {
     /// Leaves the sleepers, and gives its room there back.
     fn drop(self) {
         let LocalTick { executor, ticker } = self;

@@ -6,22 +6,14 @@ use solo::Task;
 use std::sync::Wait;
 
 /// A waker of a task.
-pub struct LocalWaker<W, R>
-where
-    W: Wake + Drop,
-    R: Wait + Copy + Drop,
-{
+pub struct LocalWaker<W: Wake + Drop, R: Wait + Copy + Drop> {
     pub(crate) link: Link<W, R>,
     pub(crate) task: Task,
 }
 
 /// What futures are polled with, and handles and ticks too.
 #[derive(Drop)]
-pub enum LocalExWaker<W, R>
-where
-    W: Wake + Drop,
-    R: Wait + Copy + Drop,
-{
+pub enum LocalExWaker<W: Wake + Drop, R: Wait + Copy + Drop> {
     /// Of a task.
     Task(LocalWaker<W, R>),
     /// From outside.

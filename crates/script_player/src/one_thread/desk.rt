@@ -39,10 +39,8 @@ pub enum OneOf<'a, R: Wait + Copy + Drop> {
     Static(&'a ScriptStatic<R>),
 }
 
-impl<'a, R> Desk<Handle<R>, ScriptTick<'a, R>, ScriptRun<'a, R>> for OnLocal<'a, R>
-where
-    R: Wait + Copy + Drop,
-{
+impl<'a, R: Wait + Copy + Drop> Desk<Handle<R>, ScriptTick<'a, R>, ScriptRun<'a, R>>
+    for OnLocal<'a, R> {
     fn spawn(&self, plan: Plan<Handle<R>>) -> Result<Handle<R>, Refused<Handle<R>>> {
         let mark = plan.mark;
         let future = future_of(self.shelf, plan)?;

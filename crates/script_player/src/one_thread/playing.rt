@@ -47,7 +47,7 @@ where
 }
 
 /// Plays the commands on a new executor of so many places.
-fn play_in<R>(
+fn play_in<R: RandomSource + Wait + Copy + Drop>(
     rt: R,
     alloc: Global,
     stage: &Shared,
@@ -55,8 +55,6 @@ fn play_in<R>(
     limit: usize,
     commands: &[Command],
 )
-where
-    R: RandomSource + Wait + Copy + Drop,
     requires { 0 < limit }
 {
     let Ok(shelf) = Shelf::new(alloc, stage) else {
@@ -80,14 +78,11 @@ where
     }
 }
 
-fn new_player<R>(
+fn new_player<R: Wait + Copy + Drop>(
     alloc: Global,
     stage: &Shared,
     shelf: &SharedShelf<Kept<R>>,
-) -> Option<LocalPlayer<R>>
-where
-    R: Wait + Copy + Drop,
-{
+) -> Option<LocalPlayer<R>> {
     match (
         Rc::clone(stage),
         Rc::clone(shelf),
@@ -101,30 +96,24 @@ where
 }
 
 /// Plays the commands on a static executor.
-fn play_static<R>(
+fn play_static<R: Wait + Copy + Drop>(
     player: LocalPlayer<R>,
     shelf: &SharedShelf<Kept<R>>,
     executor: ScriptStatic<R>,
     commands: &[Command],
-)
-where
-    R: Wait + Copy + Drop,
-{
+) {
     let mut player = player;
     play_leaked(&mut player, shelf, &executor, commands, 0);
     drop(executor);
 }
 
 /// Plays the commands on an executor, drops it or leaks it, and plays what follows.
-fn play_owned<R>(
+fn play_owned<R: Wait + Copy + Drop>(
     player: LocalPlayer<R>,
     shelf: &SharedShelf<Kept<R>>,
     executor: ScriptExecutor<R>,
     commands: &[Command],
-)
-where
-    R: Wait + Copy + Drop,
-{
+) {
     let mut player = player;
     match play_open(&mut player, shelf, &executor, commands) {
         Stop::Over => drop(executor),
@@ -148,15 +137,12 @@ where
 }
 
 /// Plays the commands until one drops the executor or leaks it.
-fn play_open<'a, R>(
+fn play_open<'a, R: Wait + Copy + Drop>(
     player: &mut LocalPlayer<R>,
     shelf: &'a SharedShelf<Kept<R>>,
     executor: &'a ScriptExecutor<R>,
     commands: &[Command],
-) -> Stop
-where
-    R: Wait + Copy + Drop,
-{
+) -> Stop {
     let executor = OneOf::Owned(executor);
     let desk = OnLocal { executor, shelf };
     play_on::<OnLocal<'a, R>, ScriptTick<'a, R>, ScriptRun<'a, R>, Handle<R>, Keeper<R>>(
@@ -165,16 +151,13 @@ where
 }
 
 /// Plays the commands from this place on on a static executor, which none of them drops or leaks.
-fn play_leaked<'a, R>(
+fn play_leaked<'a, R: Wait + Copy + Drop>(
     player: &mut LocalPlayer<R>,
     shelf: &'a SharedShelf<Kept<R>>,
     executor: &'a ScriptStatic<R>,
     commands: &[Command],
     from: usize,
-)
-where
-    R: Wait + Copy + Drop,
-{
+) {
     let executor = OneOf::Static(executor);
     let desk = OnLocal { executor, shelf };
     play_on::<OnLocal<'a, R>, ScriptTick<'a, R>, ScriptRun<'a, R>, Handle<R>, Keeper<R>>(

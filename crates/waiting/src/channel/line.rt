@@ -104,11 +104,7 @@ impl<T: Drop> Line<T> {
 
 impl Came {
     /// Tells one who waits for a message.
-    pub fn tell<K, R>(self, messages: &Event<K, R>) -> Sent
-    where
-        K: Wake + Drop,
-        R: Wait + Copy + Drop,
-    {
+    pub fn tell<K: Wake + Drop, R: Wait + Copy + Drop>(self, messages: &Event<K, R>) -> Sent {
         let Came { own } = self;
         messages.notify();
         Sent { own }
@@ -117,11 +113,7 @@ impl Came {
 
 impl Freed {
     /// Tells one who waits for a place.
-    pub fn tell<K, R>(self, places: &Event<K, R>)
-    where
-        K: Wake + Drop,
-        R: Wait + Copy + Drop,
-    {
+    pub fn tell<K: Wake + Drop, R: Wait + Copy + Drop>(self, places: &Event<K, R>) {
         let Freed { own: () } = self;
         places.notify();
     }

@@ -12,12 +12,7 @@ use std::sync::atomic::Ordering::SeqCst;
 use std::sync::{Arc, Wait};
 
 /// Receives messages, each of which one receiver gets, the oldest first. The drop of the last receiver closes the channel.
-pub struct Receiver<T, K, R>
-where
-    T: Drop,
-    K: Wake + Drop,
-    R: Wait + Copy + Drop,
-{
+pub struct Receiver<T: Drop, K: Wake + Drop, R: Wait + Copy + Drop> {
     shared: Arc<Shared<T, K, R>>,
     waiting: Option<Listener<K, R>>,
     // Once it has answered that nothing comes any more.
@@ -26,21 +21,11 @@ where
 
 /// Receives a message: a future that is ready once one came, or the channel is closed and empty. Dropped before, it takes none.
 #[derive(Drop)]
-pub struct Recv<'a, T, K, R>
-where
-    T: Drop,
-    K: Wake + Drop,
-    R: Wait + Copy + Drop,
-{
+pub struct Recv<'a, T: Drop, K: Wake + Drop, R: Wait + Copy + Drop> {
     receiver: &'a mut Receiver<T, K, R>,
 }
 
-impl<T, K, R> Receiver<T, K, R>
-where
-    T: Drop,
-    K: Wake + Drop,
-    R: Wait + Copy + Drop,
-{
+impl<T: Drop, K: Wake + Drop, R: Wait + Copy + Drop> Receiver<T, K, R> {
     pub(crate) fn new(shared: Arc<Shared<T, K, R>>) -> Self
         ensures shared { result.shared ≡ shared }
         ensures waits_not { result.waiting ≡ None }
@@ -122,12 +107,7 @@ where
     }
 }
 
-impl<T, K, R> Drop for Receiver<T, K, R>
-where
-    T: Drop,
-    K: Wake + Drop,
-    R: Wait + Copy + Drop,
-{
+impl<T: Drop, K: Wake + Drop, R: Wait + Copy + Drop> Drop for Receiver<T, K, R> {
     /// Leaves those who wait, and closes the channel where it is the last receiver.
     fn drop(self) {
         let Receiver {
@@ -142,12 +122,7 @@ where
     }
 }
 
-impl<'a, T, K, R> Future<K> for Recv<'a, T, K, R>
-where
-    T: Drop,
-    K: Wake + Drop,
-    R: Wait + Copy + Drop,
-{
+impl<'a, T: Drop, K: Wake + Drop, R: Wait + Copy + Drop> Future<K> for Recv<'a, T, K, R> {
     type Output = Result<T, RecvError>;
 
     fn poll(&mut self, waker: &K) -> Poll<Result<T, RecvError>>

@@ -12,12 +12,7 @@ use std::sync::atomic::Ordering::SeqCst;
 use std::sync::{Arc, Wait};
 
 /// Sends messages. The drop of the last sender closes the channel: what was sent can still be received.
-pub struct Sender<T, K, R>
-where
-    T: Drop,
-    K: Wake + Drop,
-    R: Wait + Copy + Drop,
-{
+pub struct Sender<T: Drop, K: Wake + Drop, R: Wait + Copy + Drop> {
     shared: Arc<Shared<T, K, R>>,
     waiting: Option<Listener<K, R>>,
 }
@@ -25,12 +20,7 @@ where
 /// Sends a message: a future that is ready once it was sent, or the channel is closed. Dropped before that, it drops the message,
 /// which wasn't sent.
 #[derive(Drop)]
-pub struct Send<'a, T, K, R>
-where
-    T: Drop,
-    K: Wake + Drop,
-    R: Wait + Copy + Drop,
-{
+pub struct Send<'a, T: Drop, K: Wake + Drop, R: Wait + Copy + Drop> {
     sender: &'a mut Sender<T, K, R>,
     message: Option<T>,
     // Once it was sent.
@@ -47,12 +37,7 @@ pub(crate) enum Tried<T> {
     Again(T),
 }
 
-impl<T, K, R> Sender<T, K, R>
-where
-    T: Drop,
-    K: Wake + Drop,
-    R: Wait + Copy + Drop,
-{
+impl<T: Drop, K: Wake + Drop, R: Wait + Copy + Drop> Sender<T, K, R> {
     pub(crate) fn new(shared: Arc<Shared<T, K, R>>) -> Self
         ensures shared { result.shared ≡ shared }
         ensures waits_not { result.waiting ≡ None }
@@ -171,12 +156,7 @@ where
     }
 }
 
-impl<T, K, R> Drop for Sender<T, K, R>
-where
-    T: Drop,
-    K: Wake + Drop,
-    R: Wait + Copy + Drop,
-{
+impl<T: Drop, K: Wake + Drop, R: Wait + Copy + Drop> Drop for Sender<T, K, R> {
     /// Leaves those who wait, and closes the channel where it is the last sender.
     fn drop(self) {
         let Sender { shared, waiting } = self;
@@ -187,12 +167,7 @@ where
     }
 }
 
-impl<'a, T, K, R> Future<K> for Send<'a, T, K, R>
-where
-    T: Drop,
-    K: Wake + Drop,
-    R: Wait + Copy + Drop,
-{
+impl<'a, T: Drop, K: Wake + Drop, R: Wait + Copy + Drop> Future<K> for Send<'a, T, K, R> {
     type Output = Result<(), SendError<T>>;
 
     fn poll(&mut self, waker: &K) -> Poll<Result<(), SendError<T>>>

@@ -13,12 +13,7 @@ use std::sync::atomic::AtomicU64;
 
 /// What the senders and receivers of a channel share.
 #[derive(Drop)]
-pub struct Shared<T, K, R>
-where
-    T: Drop,
-    K: Wake + Drop,
-    R: Wait + Copy + Drop,
-{
+pub struct Shared<T: Drop, K: Wake + Drop, R: Wait + Copy + Drop> {
     rt: R,
     line: Line<T>,
     /// Told for each place that comes free.
@@ -31,12 +26,7 @@ where
     pub receivers: AtomicU64,
 }
 
-impl<T, K, R> Shared<T, K, R>
-where
-    T: Drop,
-    K: Wake + Drop,
-    R: Wait + Copy + Drop,
-{
+impl<T: Drop, K: Wake + Drop, R: Wait + Copy + Drop> Shared<T, K, R> {
     pub fn new(rt: R, alloc: Global, places: usize) -> Result<Self, NoMemory>
         requires { 0 < places }
         ensures { IfOk result (λ shared. shared.line.queue.capacity ≡ Some places) }
@@ -120,14 +110,11 @@ pub enum Turn {
 }
 
 /// Listens, or awaits the call where it listens already.
-pub fn go_on<K, R>(
+pub fn go_on<K: Wake + Drop, R: Wait + Copy + Drop>(
     event: &Event<K, R>,
     waiting: &mut Option<Listener<K, R>>,
     waker: &K,
 ) -> Result<Turn, NoMemory>
-where
-    K: Wake + Drop,
-    R: Wait + Copy + Drop,
     ensures waits { result ≡ Ok turn.Waits → IsSome waiting.new }
 {
     match waiting.take() {

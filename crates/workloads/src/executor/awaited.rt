@@ -1,21 +1,20 @@
 use crate::executor::names::{Futures, Handle, Waker};
 use async_executor::ExStoredTask;
-use async_task::{Future, Poll, Returning};
+use async_task::{Future, Poll, Returning, Runtime};
 use std::alloc::Global;
 use std::collections::VecDeque;
-use std::sync::Wait;
 
 /// A future that awaits tasks in the order in which it was given them, and gives the sum of their outputs. A task that is
 /// closed adds nothing.
 #[derive(Drop)]
-pub struct Awaited<R: Wait + Copy + Drop + 'static> {
+pub struct Awaited<R: Runtime> {
     rt: R,
     realm: &'static Futures<R>,
     tasks: VecDeque<Returning<ExStoredTask>>,
     sum: u64,
 }
 
-impl<R: Wait + Copy + Drop + 'static> Awaited<R> {
+impl<R: Runtime> Awaited<R> {
     /// Awaits no task yet.
     pub fn new(rt: R, alloc: Global, realm: &'static Futures<R>) -> Self {
         Awaited {
@@ -36,7 +35,7 @@ impl<R: Wait + Copy + Drop + 'static> Awaited<R> {
     }
 }
 
-impl<R: Wait + Copy + Drop + 'static> Future<Waker<R>> for Awaited<R> {
+impl<R: Runtime> Future<Waker<R>> for Awaited<R> {
     type Output = u64;
 
     fn poll(&mut self, waker: &Waker<R>) -> Poll<u64> {

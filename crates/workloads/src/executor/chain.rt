@@ -5,10 +5,9 @@ use crate::executor::names::{Futures, Handle, Timed, Waker};
 use crate::executor::ticks::{complete, tick_all};
 use crate::executor::workplace::Worker;
 use crate::{Fault, Timing, round};
-use async_task::{Future, Poll, Wake};
+use async_task::{Future, Poll, Runtime, Wake};
 use std::alloc::Global;
 use std::rt::Clock;
-use std::sync::Wait;
 use std::time::Instant;
 
 /// How many futures a chain has.
@@ -18,7 +17,7 @@ const LINKS: u64 = 10_000;
 const TIMES: u64 = 2;
 
 /// A future of a chain.
-pub trait Chain<R: Wait + Copy + Drop + 'static> {
+pub trait Chain<R: Runtime> {
     /// The first, which gives the output of this future.
     fn first(future: Yields) -> Self;
 
@@ -29,12 +28,12 @@ pub trait Chain<R: Wait + Copy + Drop + 'static> {
 /// A future of a chain. What times it is generic over its type, since no code over any runtime type gets a proof of calls on
 /// an executor whose futures hold handles.
 #[derive(Drop)]
-pub enum Link<R: Wait + Copy + Drop + 'static> {
+pub enum Link<R: Runtime> {
     First(Yields),
     After(Handle<R>),
 }
 
-impl<R: Wait + Copy + Drop + 'static> Chain<R> for Link<R> {
+impl<R: Runtime> Chain<R> for Link<R> {
     fn first(future: Yields) -> Self {
         Link::First(future)
     }
@@ -44,7 +43,7 @@ impl<R: Wait + Copy + Drop + 'static> Chain<R> for Link<R> {
     }
 }
 
-impl<R: Wait + Copy + Drop + 'static> Future<Waker<R>> for Link<R> {
+impl<R: Runtime> Future<Waker<R>> for Link<R> {
     type Output = u64;
 
     fn poll(&mut self, waker: &Waker<R>) -> Poll<u64> {
@@ -67,7 +66,7 @@ impl<R: Wait + Copy + Drop + 'static> Future<Waker<R>> for Link<R> {
 
 /// Chains of 10,000 futures, and one of those that are left: each is spawned, ticked until nothing is to be done, and the
 /// last output is awaited.
-pub fn await_chain<L, P, R>(
+pub fn await_chain<L, P, R: Runtime + Clock>(
     rt: R,
     alloc: Global,
     realm: &'static Futures<R>,
@@ -76,7 +75,6 @@ pub fn await_chain<L, P, R>(
 where
     L: Chain<R> + Future<Waker<R>, Output = u64> + Drop,
     P: Worker<R>,
-    R: Clock + Wait + Copy + Drop + 'static,
 {
     match Timed::<L, R>::new(rt, alloc, realm, LINKS as usize) {
         Ok(executor) => time_await_chain::<L, P, R>(rt, alloc, realm, &executor, ops),
@@ -84,7 +82,7 @@ where
     }
 }
 
-fn time_await_chain<L, P, R>(
+fn time_await_chain<L, P, R: Runtime + Clock>(
     rt: R,
     alloc: Global,
     realm: &'static Futures<R>,
@@ -94,7 +92,6 @@ fn time_await_chain<L, P, R>(
 where
     L: Chain<R> + Future<Waker<R>, Output = u64> + Drop,
     P: Worker<R>,
-    R: Clock + Wait + Copy + Drop + 'static,
 {
     let mut moved = 0u64;
     let start = Instant::now(&rt)?;
@@ -106,18 +103,13 @@ where
 }
 
 /// One chain. Answers the number of its futures as its last output has it.
-fn links<L, P, R>(
+fn links<L: Chain<R> + Future<Waker<R>, Output = u64> + Drop, P: Worker<R>, R: Runtime>(
     rt: R,
     alloc: Global,
     realm: &'static Futures<R>,
     executor: &Timed<L, R>,
     count: u64,
-) -> Result<u64, Fault>
-where
-    L: Chain<R> + Future<Waker<R>, Output = u64> + Drop,
-    P: Worker<R>,
-    R: Wait + Copy + Drop + 'static,
-{
+) -> Result<u64, Fault> {
     let Some(last) = spawn_links(executor, count) else {
         return Err(Fault::Refused);
     };
@@ -131,11 +123,10 @@ where
 }
 
 /// Spawns one chain, and answers the handle of its last future.
-fn spawn_links<L, R>(executor: &Timed<L, R>, count: u64) -> Option<Handle<R>>
-where
-    L: Chain<R> + Future<Waker<R>, Output = u64> + Drop,
-    R: Wait + Copy + Drop + 'static,
-{
+fn spawn_links<L: Chain<R> + Future<Waker<R>, Output = u64> + Drop, R: Runtime>(
+    executor: &Timed<L, R>,
+    count: u64,
+) -> Option<Handle<R>> {
     let first = Yields {
         times: TIMES,
         number: 1,

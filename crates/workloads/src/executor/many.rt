@@ -5,9 +5,9 @@ use crate::executor::names::{Futures, Timed};
 use crate::executor::ticks::{complete, tick_all};
 use crate::executor::workplace::{Marks, Share, Worker, spawn_share};
 use crate::{Fault, Timing, round};
+use async_task::Runtime;
 use std::alloc::Global;
 use std::rt::Clock;
-use std::sync::Wait;
 use std::time::Instant;
 
 /// How many futures there are at a time.
@@ -15,33 +15,25 @@ const FUTURES: u64 = 50_000;
 
 /// Rounds of 50,000 ready futures, and one of those that are left: they are spawned one by one, ticked until nothing is to be
 /// done, and their outputs taken.
-pub fn spawn_many<P, R>(
+pub fn spawn_many<P: Worker<R>, R: Runtime + Clock>(
     rt: R,
     alloc: Global,
     realm: &'static Futures<R>,
     ops: u64,
-) -> Result<Timing, Fault>
-where
-    P: Worker<R>,
-    R: Clock + Wait + Copy + Drop + 'static,
-{
+) -> Result<Timing, Fault> {
     match Timed::new(rt, alloc, realm, FUTURES as usize) {
         Ok(executor) => time_spawn_many::<P, R>(rt, alloc, realm, &executor, ops),
         Err(_) => Err(Fault::NoMemory),
     }
 }
 
-fn time_spawn_many<P, R>(
+fn time_spawn_many<P: Worker<R>, R: Runtime + Clock>(
     rt: R,
     alloc: Global,
     realm: &'static Futures<R>,
     executor: &Timed<Yields, R>,
     ops: u64,
-) -> Result<Timing, Fault>
-where
-    P: Worker<R>,
-    R: Clock + Wait + Copy + Drop + 'static,
-{
+) -> Result<Timing, Fault> {
     let mut moved = 0u64;
     let start = Instant::now(&rt)?;
     for number in 0..ops.div_ceil(FUTURES) {
@@ -52,17 +44,13 @@ where
 }
 
 /// One round, in which each future gives 1: the sum of the outputs.
-fn outputs_of<P, R>(
+fn outputs_of<P: Worker<R>, R: Runtime>(
     rt: R,
     alloc: Global,
     realm: &'static Futures<R>,
     executor: &Timed<Yields, R>,
     count: u64,
-) -> Result<u64, Fault>
-where
-    P: Worker<R>,
-    R: Wait + Copy + Drop + 'static,
-{
+) -> Result<u64, Fault> {
     let mut awaited = Awaited::new(rt, alloc, realm);
     let share = Share {
         jobs: count,
@@ -76,7 +64,7 @@ where
 }
 
 /// Rounds of 50,000 futures, and one of those that are left: an executor is made, they are spawned, and it is dropped.
-pub fn drop_full<R: Clock + Wait + Copy + Drop + 'static>(
+pub fn drop_full<R: Runtime + Clock>(
     rt: R,
     alloc: Global,
     realm: &'static Futures<R>,
@@ -92,7 +80,7 @@ pub fn drop_full<R: Clock + Wait + Copy + Drop + 'static>(
 }
 
 /// Spawns so many futures on an executor, and drops it before one was polled.
-fn dropped<R: Wait + Copy + Drop + 'static>(
+fn dropped<R: Runtime>(
     rt: R,
     alloc: Global,
     realm: &'static Futures<R>,

@@ -5,9 +5,9 @@ use crate::executor::names::Futures;
 use crate::executor::ticks::complete;
 use crate::executor::workplace::{Marks, Share, Worker};
 use crate::{Fault, Timing, round, share};
+use async_task::Runtime;
 use std::alloc::AllocGlobal;
 use std::rt::Clock;
-use std::sync::Wait;
 use std::thread::{self, Threads};
 use std::time::Instant;
 
@@ -19,15 +19,12 @@ const FUTURES: u64 = 1_000;
 
 /// So many jobs, 100,000 in a round, each of which gives way once: each of the workers spawns its share, and runs the executor
 /// until these have ended.
-pub fn run<P, R>(
+pub fn run<P: Worker<R> + Sync + Drop, R: Runtime + AllocGlobal + Clock + Threads + Sync>(
     rt: &R,
     realm: &'static Futures<R>,
     workers: usize,
     ops: u64,
 ) -> Result<Timing, Fault>
-where
-    P: Worker<R> + Sync + Drop,
-    R: AllocGlobal + Clock + Wait + Threads + Sync + Copy + Drop + 'static,
     requires { (0 < workers) × (workers < 1000) }
 {
     match P::new(*rt, rt.alloc(), realm, JOBS as usize) {
@@ -39,7 +36,7 @@ where
 fn time_run<P, R>(rt: &R, place: &P, workers: usize, ops: u64) -> Result<Timing, Fault>
 where
     P: Worker<R> + Sync,
-    R: AllocGlobal + Clock + Wait + Threads + Sync + Copy + Drop + 'static,
+    R: Runtime + AllocGlobal + Clock + Threads + Sync,
     requires { (0 < workers) × (workers < 1000) }
 {
     let mut moved = 0u64;
@@ -58,16 +55,13 @@ where
 
 /// A thousand futures that give way so often that it comes to so many polls, or a few less: each of the workers spawns its
 /// share, and runs the executor until these have ended.
-pub fn storm<P, R>(
+pub fn storm<P: Worker<R> + Sync + Drop, R: Runtime + AllocGlobal + Clock + Threads + Sync>(
     rt: &R,
     realm: &'static Futures<R>,
     workers: usize,
     marks: Marks,
     ops: u64,
 ) -> Result<Timing, Fault>
-where
-    P: Worker<R> + Sync + Drop,
-    R: AllocGlobal + Clock + Wait + Threads + Sync + Copy + Drop + 'static,
     requires { (0 < workers) × (workers < 1000) }
 {
     match P::new(*rt, rt.alloc(), realm, FUTURES as usize) {
@@ -76,16 +70,13 @@ where
     }
 }
 
-fn time_storm<P, R>(
+fn time_storm<P: Worker<R> + Sync, R: Runtime + AllocGlobal + Clock + Threads + Sync>(
     rt: &R,
     place: &P,
     workers: usize,
     marks: Marks,
     ops: u64,
 ) -> Result<Timing, Fault>
-where
-    P: Worker<R> + Sync,
-    R: AllocGlobal + Clock + Wait + Threads + Sync + Copy + Drop + 'static,
     requires { (0 < workers) × (workers < 1000) }
 {
     let times = ops / FUTURES;
@@ -104,7 +95,7 @@ where
 fn work_of_all<P, R>(rt: &R, place: &P, workers: usize, all: Share) -> Result<u64, Fault>
 where
     P: Worker<R> + Sync,
-    R: AllocGlobal + Wait + Threads + Sync + Copy + Drop + 'static,
+    R: Runtime + AllocGlobal + Threads + Sync,
     requires { (0 < workers) × (workers < 1000) }
 {
     let sums = thread::map_indices(
@@ -120,10 +111,7 @@ where
     Ok(moved)
 }
 
-fn work_of_one<P, R>(place: &P, workers: usize, party: usize, all: Share) -> u64
-where
-    P: Worker<R>,
-    R: Wait + Copy + Drop + 'static,
+fn work_of_one<P: Worker<R>, R: Runtime>(place: &P, workers: usize, party: usize, all: Share) -> u64
     requires { 0 < workers }
 {
     place.work(Share {

@@ -3,14 +3,13 @@ use crate::executor::futures::Yields;
 use crate::executor::names::{Futures, Timed, Waker};
 use crate::{Fault, Timing};
 use async_executor::Mark;
-use async_task::Future;
+use async_task::{Future, Runtime};
 use std::alloc::Global;
 use std::rt::Clock;
-use std::sync::Wait;
 use std::time::Instant;
 
 /// Spawns a ready future, gives its handle up, and ticks.
-pub fn spawn_tick<R: Clock + Wait + Copy + Drop + 'static>(
+pub fn spawn_tick<R: Runtime + Clock>(
     rt: R,
     alloc: Global,
     realm: &'static Futures<R>,
@@ -22,7 +21,7 @@ pub fn spawn_tick<R: Clock + Wait + Copy + Drop + 'static>(
     }
 }
 
-fn time_spawn_tick<R: Clock + Wait + Copy + Drop + 'static>(
+fn time_spawn_tick<R: Runtime + Clock>(
     rt: &R,
     executor: &Timed<Yields, R>,
     ops: u64,
@@ -37,7 +36,7 @@ fn time_spawn_tick<R: Clock + Wait + Copy + Drop + 'static>(
 }
 
 /// Ticks, where a future wakes itself at each poll.
-pub fn ping<R: Clock + Wait + Copy + Drop + 'static>(
+pub fn ping<R: Runtime + Clock>(
     rt: R,
     alloc: Global,
     realm: &'static Futures<R>,
@@ -50,7 +49,7 @@ pub fn ping<R: Clock + Wait + Copy + Drop + 'static>(
 }
 
 /// Ticks, where an urgent future and a plain one wake themselves at each poll.
-pub fn ping_marked<R: Clock + Wait + Copy + Drop + 'static>(
+pub fn ping_marked<R: Runtime + Clock>(
     rt: R,
     alloc: Global,
     realm: &'static Futures<R>,
@@ -62,7 +61,7 @@ pub fn ping_marked<R: Clock + Wait + Copy + Drop + 'static>(
     }
 }
 
-fn time_ping<R: Clock + Wait + Copy + Drop + 'static>(
+fn time_ping<R: Runtime + Clock>(
     rt: &R,
     executor: &Timed<Yields, R>,
     marks: &[Mark],
@@ -84,7 +83,7 @@ fn time_ping<R: Clock + Wait + Copy + Drop + 'static>(
 }
 
 /// Spawns a future that nobody awaits.
-fn spawn_detached<R: Wait + Copy + Drop + 'static>(
+fn spawn_detached<R: Runtime>(
     executor: &Timed<Yields, R>,
     future: Yields,
     mark: Mark,
@@ -99,11 +98,10 @@ fn spawn_detached<R: Wait + Copy + Drop + 'static>(
 }
 
 /// Ticks until nothing is to be done.
-pub fn tick_all<F, R>(rt: &R, executor: &Timed<F, R>)
-where
-    F: Future<Waker<R>, Output = u64> + Drop,
-    R: Wait + Copy + Drop + 'static,
-{
+pub fn tick_all<F: Future<Waker<R>, Output = u64> + Drop, R: Runtime>(
+    rt: &R,
+    executor: &Timed<F, R>,
+) {
     for _ in rt.forever() {
         if !executor.try_tick() {
             return;

@@ -8,11 +8,10 @@ use crate::executor::awaited::Awaited;
 use crate::executor::futures::Yields;
 use crate::executor::names::{Futures, Timed, Waker};
 use async_executor::Mark;
-use async_task::Future;
+use async_task::{Future, Runtime};
 use blocking::block_on;
 use std::alloc::Global;
 use std::marker::PhantomData;
-use std::sync::Wait;
 
 /// What there is to spawn: so many futures with marks as these, each of which gives way so often, and then gives this number
 /// and how often that was.
@@ -44,7 +43,7 @@ impl Marks {
 }
 
 /// What threads do, and how handles are awaited.
-pub trait Worker<R: Wait + Copy + Drop + 'static> {
+pub trait Worker<R: Runtime> {
     /// An executor with places for so many futures.
     fn new(rt: R, alloc: Global, realm: &'static Futures<R>, limit: usize) -> Result<Self, Fault>
         requires { 0 < limit };
@@ -58,12 +57,12 @@ pub trait Worker<R: Wait + Copy + Drop + 'static> {
 }
 
 /// A future that awaits tasks, and gives the sum of their outputs.
-pub trait Crew<R: Wait + Copy + Drop + 'static> {
+pub trait Crew<R: Runtime> {
     /// Awaits these.
     fn of_tasks(awaited: Awaited<R>) -> Self;
 }
 
-impl<R: Wait + Copy + Drop + 'static> Crew<R> for Awaited<R> {
+impl<R: Runtime> Crew<R> for Awaited<R> {
     fn of_tasks(awaited: Awaited<R>) -> Self {
         awaited
     }
@@ -71,7 +70,7 @@ impl<R: Wait + Copy + Drop + 'static> Crew<R> for Awaited<R> {
 
 /// An executor, and where its tasks lie.
 #[derive(Drop)]
-pub struct Workplace<C, R: Wait + Copy + Drop + 'static> {
+pub struct Workplace<C, R: Runtime> {
     rt: R,
     alloc: Global,
     realm: &'static Futures<R>,
@@ -79,11 +78,7 @@ pub struct Workplace<C, R: Wait + Copy + Drop + 'static> {
     crew: PhantomData<C>,
 }
 
-impl<C, R> Worker<R> for Workplace<C, R>
-where
-    C: Crew<R> + Future<Waker<R>, Output = u64> + Drop,
-    R: Wait + Copy + Drop + 'static,
-{
+impl<C: Crew<R> + Future<Waker<R>, Output = u64> + Drop, R: Runtime> Worker<R> for Workplace<C, R> {
     fn new(rt: R, alloc: Global, realm: &'static Futures<R>, limit: usize) -> Result<Self, Fault> {
         match Timed::new(rt, alloc, realm, limit) {
             Ok(executor) => Ok(Workplace {
@@ -118,7 +113,7 @@ where
 }
 
 /// Spawns so many futures. One that is refused is not awaited.
-pub fn spawn_share<R: Wait + Copy + Drop + 'static>(
+pub fn spawn_share<R: Runtime>(
     executor: &Timed<Yields, R>,
     share: Share,
     awaited: &mut Awaited<R>,

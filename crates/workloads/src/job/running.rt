@@ -4,15 +4,15 @@ ghost use Rattle.jobs.specs.Answers.{IsInRange};
 
 use crate::job::list::{JOBS, jobs};
 use crate::{Fault, Timing};
+use async_task::Runtime;
 use jobs::{Job, JobRealm, JobSite, Open, run_jobs};
 use std::alloc::{AllocGlobal, Global};
 use std::rt::Clock;
-use std::sync::Wait;
 use std::thread::Threads;
 use std::time::Instant;
 
 /// So many jobs, 100,000 in a round, done by so many workers. The lists are made before the clock starts.
-pub fn run<P, R>(
+pub fn run<P, R: Runtime + AllocGlobal + Clock + Threads + Sync>(
     rt: &R,
     realm: &'static JobRealm<R>,
     workers: usize,
@@ -20,7 +20,6 @@ pub fn run<P, R>(
 ) -> Result<Timing, Fault>
 where
     P: JobSite<R, Gate = Open> + Sync + Drop,
-    R: AllocGlobal + Clock + Wait + Threads + Sync + Copy + Drop + 'static,
     requires { (0 < workers) × (workers ≤ 64) }
 {
     let whole = jobs(rt.alloc(), JOBS)?;
@@ -29,7 +28,7 @@ where
 }
 
 /// One list so many times, and the other one once.
-fn time_run<P, R>(
+fn time_run<P, R: Runtime + AllocGlobal + Clock + Threads + Sync>(
     rt: &R,
     realm: &'static JobRealm<R>,
     workers: usize,
@@ -39,7 +38,6 @@ fn time_run<P, R>(
 ) -> Result<Timing, Fault>
 where
     P: JobSite<R, Gate = Open> + Sync + Drop,
-    R: AllocGlobal + Clock + Wait + Threads + Sync + Copy + Drop + 'static,
     requires workers { (0 < workers) × (workers ≤ 64) }
     requires whole { All IsInRange whole.now × (length whole.now ≤ 100000) }
     requires rest { All IsInRange rest.now × (length rest.now ≤ 100000) }
@@ -54,16 +52,13 @@ where
 }
 
 /// How many answers one round gives.
-fn round<P, R>(
+fn round<P: JobSite<R, Gate = Open> + Sync + Drop, R: Runtime + Threads + Sync>(
     rt: R,
     alloc: Global,
     realm: &'static JobRealm<R>,
     list: &[Job],
     workers: usize,
 ) -> Result<u64, Fault>
-where
-    P: JobSite<R, Gate = Open> + Sync + Drop,
-    R: Wait + Threads + Sync + Copy + Drop + 'static,
     requires workers { (0 < workers) × (workers ≤ 64) }
     requires ranges { All IsInRange list.now }
     requires few { length list.now ≤ 100000 }

@@ -2,7 +2,7 @@
 //! holds a task is matched on and not asked with `?`, which has no proof where a `'static` reference is inside.
 use crate::Fault;
 use async_task::{
-    Future, Nobody, Poll, Realm, Returning, Runnable, Schedule, ScheduleInfo, Scheduled,
+    Future, Nobody, Poll, Realm, Returning, Runnable, Runtime, Schedule, ScheduleInfo, Scheduled,
     StoredRunnable, Task, TaskWaker, Wake, spawn,
 };
 use concurrent_queue::ConcurrentQueue;
@@ -69,7 +69,7 @@ pub fn empty_queue(alloc: Global) -> Result<Queue, Fault> {
 }
 
 /// Spawns a task that is put in this queue.
-pub fn spawn_to<R: Wait + Copy + Drop + 'static>(
+pub fn spawn_to<R: Runtime>(
     rt: R,
     realm: &'static Tasks<R>,
     queue: &Queue,
@@ -85,13 +85,13 @@ pub fn spawn_to<R: Wait + Copy + Drop + 'static>(
 }
 
 /// Runs the task.
-pub fn run<R: Wait + Copy + Drop + 'static>(runnable: WorkRunnable<R>) -> bool {
+pub fn run<R: Runtime>(runnable: WorkRunnable<R>) -> bool {
     runnable.run()
 }
 
 /// Runs the task that is first in the queue. The answer is that of its run, or `None` where no
 /// task is there.
-pub fn run_next<R: Wait + Copy + Drop + 'static>(
+pub fn run_next<R: Runtime>(
     rt: R,
     realm: &'static Tasks<R>,
     queue: &ConcurrentQueue<Returning<StoredRunnable>>,
@@ -107,13 +107,13 @@ pub fn run_next<R: Wait + Copy + Drop + 'static>(
 
 /// A task that is to be run first, and the queue that it is put in.
 #[derive(Drop)]
-pub struct Spawned<R: Wait + Copy + Drop + 'static> {
+pub struct Spawned<R: Runtime> {
     pub queue: Queue,
     pub runnable: WorkRunnable<R>,
     pub task: WorkTask<R>,
 }
 
-impl<R: Wait + Copy + Drop + 'static> Spawned<R> {
+impl<R: Runtime> Spawned<R> {
     pub fn new(
         rt: R,
         alloc: Global,
@@ -136,12 +136,12 @@ impl<R: Wait + Copy + Drop + 'static> Spawned<R> {
 
 /// A task that waits, and a waker of it.
 #[derive(Drop)]
-pub struct Waiting<R: Wait + Copy + Drop + 'static> {
+pub struct Waiting<R: Runtime> {
     pub spawned: Spawned<R>,
     pub waker: WorkWaker<R>,
 }
 
-impl<R: Wait + Copy + Drop + 'static> Waiting<R> {
+impl<R: Runtime> Waiting<R> {
     pub fn new(rt: R, alloc: Global, realm: &'static Tasks<R>) -> Result<Waiting<R>, Fault> {
         match Spawned::new(rt, alloc, realm, Work::Waits) {
             Ok(spawned) => match spawned.runnable.waker() {

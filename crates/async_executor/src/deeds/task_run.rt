@@ -7,49 +7,45 @@ ghost use Rattle.call_steps.specs.Todo.{below, top};
 ghost use Rattle.call_steps.specs.declared.step.CallStep.TheVariants as step;
 ghost use Rattle.call_steps.specs.declared.step.table.QueueStep.TheVariants as queue_step;
 ghost use Rattle.call_steps.specs.declared.step.table.TableStep.TheVariants as table_step;
-ghost use Rattle.async_executor.specs.Polling.{dropped_by, end_step, IsEndOf};
+ghost use Rattle.async_executor.specs.Settling.{IsSettled};
+ghost use Rattle.async_executor.specs.Polling.{dropped_by, end_by, end_step};
 
+use crate::deeds::Steps;
 use crate::entry::Unlocked;
-use crate::names::{ExClosing, ExRunEnd, ExRunning, ExWaker};
-use crate::steps::Steps;
+use crate::marked::Marked;
+use crate::names::{ExClosing, ExRunning, ExWaker};
 use crate::task_name::TaskName;
 use async_task::moves::{FutureDebt, Move, Owed};
-use async_task::{Back, ScheduleInfo, Wake};
+use async_task::{Back, Due, Output, OutsideWaker, RunEnd, Runtime, ScheduleInfo};
 use call_steps::Saw;
 use executor_parts::EntryPlace;
 use std::snapshot::Snapshot;
-use std::sync::Wait;
 
 /// A run whose future is polled. It has no drop: it is settled.
 #[must_use]
-pub struct Polling<T, W, R>
-where
-    T: Drop + 'static,
-    W: Wake + Drop + 'static,
-    R: Wait + Copy + Drop + 'static,
-{
+pub struct Polling<T: Output, W: OutsideWaker, R: Runtime> {
     running: ExRunning<T, W, R>,
+}
+
+/// What is left to do once a poll has ended. It has no drop.
+#[must_use]
+pub enum Settled<T: Output, W: OutsideWaker, R: Runtime> {
+    Over,
+    /// It was woken meanwhile, and is to be queued.
+    Due(Marked),
+    /// Its future is to be dropped.
+    Drop(EntryPlace, Dropping<T, W, R>),
 }
 
 /// A run whose future is dropped. It has no drop: it is finished.
 #[must_use]
-pub struct Dropping<T, W, R>
-where
-    T: Drop + 'static,
-    W: Wake + Drop + 'static,
-    R: Wait + Copy + Drop + 'static,
-{
+pub struct Dropping<T: Output, W: OutsideWaker, R: Runtime> {
     closing: ExClosing<T, W, R>,
     // By which move it ends, where the task was closed.
     ends: Snapshot<Move>,
 }
 
-impl<T, W, R> Polling<T, W, R>
-where
-    T: Drop + 'static,
-    W: Wake + Drop + 'static,
-    R: Wait + Copy + Drop + 'static,
-{
+impl<T: Output, W: OutsideWaker, R: Runtime> Polling<T, W, R> {
     /// A task was taken up, and its future is to be polled.
     #[inline(always)]
     pub fn begin(running: ExRunning<T, W, R>, name: &TaskName, steps: &mut Steps) -> Self
@@ -69,29 +65,44 @@ where
         self.running.waker()
     }
 
-    /// Ends the run, with no lock held.
+    /// Ends the run, with no lock held. What is left to do is the answer.
     #[inline(always)]
     pub fn settle(
         self,
         back: Back<EntryPlace, T>,
         name: &TaskName,
+        steps: &mut Steps,
         unlocked: &Unlocked,
-    ) -> ExRunEnd<T, W, R>
-        requires { identity_of self.running.waker ≡ Some name.now }
-        ensures { IsEndOf back result name.now }
+    ) -> Settled<T, W, R>
+        requires named { identity_of self.running.waker ≡ Some name.now }
+        requires ends { top steps.old ≡ Some (step.Move (end_by back) name.now) }
+        ensures { IsSettled result name.now (below steps.old) steps.new }
     {
-        let (_, _) = (unlocked, name);
+        let _ = unlocked;
         let Polling { running } = self;
-        running.settle(back)
+        match running.settle(back) {
+            RunEnd::Over => {
+                steps.see_moved(false);
+                Settled::Over
+            }
+            RunEnd::Pause(pause) => match pause.into_due() {
+                Some(Due { runnable, info: _ }) => {
+                    see_due(name, steps);
+                    Settled::Due(Marked::of(runnable))
+                }
+                None => {
+                    steps.see_moved(false);
+                    Settled::Over
+                }
+            },
+            RunEnd::Drop(place, closing) => {
+                Settled::Drop(place, Dropping::left(closing, name, steps))
+            }
+        }
     }
 }
 
-impl<T, W, R> Dropping<T, W, R>
-where
-    T: Drop + 'static,
-    W: Wake + Drop + 'static,
-    R: Wait + Copy + Drop + 'static,
-{
+impl<T: Output, W: OutsideWaker, R: Runtime> Dropping<T, W, R> {
     /// A task was taken up that is closed: its future is to be dropped.
     pub fn begin(closing: ExClosing<T, W, R>, name: &TaskName, steps: &mut Steps) -> Self
         requires closed { was_closed closing.closed ≡ true }
@@ -149,7 +160,7 @@ where
 
 /// A task was woken while it was polled: its Runnable is due, and all else is paid.
 #[inline(always)]
-pub fn see_due(name: &TaskName, steps: &mut Steps)
+fn see_due(name: &TaskName, steps: &mut Steps)
     requires { top steps.old ≡ Some (step.Move move.EndPending name.now) }
     ensures { steps.new ≡ step.Queue (queue_step.Append name.now) ∷ below steps.old }
 {

@@ -1,0 +1,336 @@
+//! The executor's two queues and the own ones of runs, and what calls do with them.
+ghost use Rattle.std.specs.Prelude.{◌≡◌, ◌<◌, ◌++◌, ℕ, Some, IfErr, IfNone, IfOk, IfSome, is_ok};
+ghost use Rattle.async_task.specs.declared.cell.Identity.{Identity};
+ghost use Rattle.call_steps.specs.Closing.{closed};
+ghost use Rattle.call_steps.specs.Fitting.{Fits};
+ghost use Rattle.call_steps.specs.Seeing.{seen};
+ghost use Rattle.call_steps.specs.Todo.{below, following, top};
+ghost use Rattle.call_steps.specs.declared.saw.Saw.TheVariants as saw;
+ghost use Rattle.call_steps.specs.declared.step.CallStep.TheVariants as step;
+ghost use Rattle.call_steps.specs.declared.step.table.ClosingStep.TheVariants as closing_step;
+ghost use Rattle.call_steps.specs.declared.step.table.QueueStep.TheVariants as queue_step;
+ghost use Rattle.executor_parts.specs.declared.mark.Mark.{Mark};
+ghost use Rattle.async_executor.specs.Deeds.{LooksAt, LooksOwn, StealsAt, stole_by, took_by};
+ghost use Rattle.async_executor.specs.Steps.{of_stored};
+
+use super::Steps;
+use crate::marked::Marked;
+use crate::names::ExStoredRunnable;
+use crate::task_name::TaskName;
+use crate::turns::Turns;
+use async_task::{NoMemory, Returning};
+use call_steps::{Saw, Searcher};
+use concurrent_queue::ConcurrentQueue;
+use executor_parts::Mark;
+use std::alloc::Global;
+use std::marker::Model;
+use std::sync::Wait;
+
+/// A queue of Runnables. What is in it comes and goes by the deeds alone.
+pub struct Queue {
+    items: ConcurrentQueue<Returning<ExStoredRunnable>>,
+}
+
+impl Model for Queue {
+    ghost use Rattle.concurrent_queue.specs.SharedQueue.{SharedQueue};
+
+    ghost Value = { SharedQueue };
+
+    ghost view = { λ q. q.items };
+}
+
+/// Written out: it is proved once, for all in this crate that let one go.
+impl Drop for Queue {
+    fn drop(self) {
+        let Queue { items: _items } = self;
+    }
+}
+
+/// The executor's queues. Each has a place for each future that the executor accepts.
+pub struct Queues {
+    pub urgent: Queue,
+    pub plain: Queue,
+}
+
+/// A queue that a call looks at: the executor's of this mark, or a run's own.
+#[derive(Clone, Copy)]
+pub enum At<'a> {
+    Common(&'a Queues, Mark),
+    Own(&'a Queue),
+}
+
+/// What a look at both queues has found. It has no drop: the Runnable is in hand.
+#[must_use]
+pub struct FromQueues {
+    pub runnable: ExStoredRunnable,
+    /// The mark of the queue that it stood in.
+    pub mark: Mark,
+}
+
+/// Written out: it is proved once, for all in this crate that let one go.
+impl Drop for Queues {
+    fn drop(self) {
+        let Queues {
+            urgent: _urgent,
+            plain: _plain,
+        } = self;
+    }
+}
+
+impl Queue {
+    /// With so many places.
+    pub fn bounded(alloc: Global, places: usize) -> Result<Queue, NoMemory>
+        requires { 0 < places }
+        ensures { IfOk result (λ queue. queue.capacity ≡ Some places) }
+    {
+        match ConcurrentQueue::bounded(alloc, places) {
+            Ok(items) => Ok(Queue { items }),
+            Err(_) => Err(NoMemory),
+        }
+    }
+
+    /// How many stand in it, as a text shows them.
+    #[inline(always)]
+    pub fn len<R: Wait>(&self, rt: &R) -> usize {
+        self.items.len(rt)
+    }
+}
+
+impl Queues {
+    /// Two queues with so many places each.
+    pub fn new(alloc: Global, limit: usize) -> Result<Queues, NoMemory>
+        requires { 0 < limit }
+        ensures urgent { IfOk result (λ queues. queues.urgent.capacity ≡ Some limit) }
+        ensures plain { IfOk result (λ queues. queues.plain.capacity ≡ Some limit) }
+    {
+        let Ok(urgent) = Queue::bounded(alloc, limit) else {
+            return Err(NoMemory);
+        };
+        let Ok(plain) = Queue::bounded(alloc, limit) else {
+            return Err(NoMemory);
+        };
+        Ok(Queues { urgent, plain })
+    }
+
+    /// The queue of this mark.
+    #[inline(always)]
+    fn of(&self, mark: Mark) -> &Queue {
+        match mark {
+            Mark::Urgent => &self.urgent,
+            Mark::Plain => &self.plain,
+        }
+    }
+}
+
+impl<'a> At<'a> {
+    #[inline(always)]
+    fn queue(self) -> &'a Queue {
+        match self {
+            At::Common(queues, mark) => queues.of(mark),
+            At::Own(queue) => queue,
+        }
+    }
+}
+
+impl Steps {
+    /// Takes a turn, which names a queue to look at.
+    #[inline(always)]
+    pub fn take_turn(&mut self, turns: &Turns) -> Mark
+        requires { (m : Mark) → Fits (top self.old) (saw.Turn m) }
+        ensures { self.new ≡ following (saw.Turn result) self.old }
+    {
+        let mark = turns.take();
+        self.follow(Saw::Turn(mark));
+        mark
+    }
+
+    /// Takes the first Runnable of this queue, where there is one.
+    #[inline(always)]
+    pub fn take<R: Wait>(
+        &mut self,
+        at: At<'_>,
+        by: Option<Searcher>,
+        rt: &R,
+    ) -> Option<ExStoredRunnable>
+        requires looks { LooksAt at (top self.old) }
+        requires found { (f : Identity) → Fits (top self.old) (took_by by (Some f)) }
+        requires nothing { Fits (top self.old) saw.Nothing }
+        ensures { self.new ≡ following (took_by by (of_stored result)) self.old }
+    {
+        match at.queue().items.pop(rt) {
+            Ok(first) => {
+                let runnable = first.into_inner();
+                self.see_found(&runnable, by);
+                Some(runnable)
+            }
+            Err(_) => {
+                self.follow(Saw::Nothing);
+                None
+            }
+        }
+    }
+
+    /// The same. A queue that is empty is left after loads alone, with no pop.
+    #[inline(always)]
+    pub fn take_unless_empty<R: Wait>(
+        &mut self,
+        at: At<'_>,
+        by: Option<Searcher>,
+        rt: &R,
+    ) -> Option<ExStoredRunnable>
+        requires looks { LooksAt at (top self.old) }
+        requires found { (f : Identity) → Fits (top self.old) (took_by by (Some f)) }
+        requires nothing { Fits (top self.old) saw.Nothing }
+        ensures { self.new ≡ following (took_by by (of_stored result)) self.old }
+    {
+        if at.queue().items.is_empty(rt) {
+            self.follow(Saw::Nothing);
+            return None;
+        }
+        self.take(at, by, rt)
+    }
+
+    /// In a walk, takes the first Runnable of the own queue, where there is one. That nothing was there is seen where the walk goes on.
+    #[inline(always)]
+    pub fn take_in_walk<R: Wait>(
+        &mut self,
+        own: &Queue,
+        by: Searcher,
+        rt: &R,
+    ) -> Option<ExStoredRunnable>
+        requires looks { LooksOwn (top self.old) }
+        requires found { (f : Identity) → Fits (top self.old) (saw.FoundBy f by) }
+        ensures found { IfSome result (λ r. self.new ≡ following (saw.FoundBy r.identity by) self.old) }
+        ensures none { IfNone result (self.new ≡ self.old) }
+    {
+        match own.items.pop(rt) {
+            Ok(first) => {
+                let runnable = first.into_inner();
+                self.follow(Saw::FoundBy(TaskName::of_runnable(&runnable), by));
+                Some(runnable)
+            }
+            Err(_) => None,
+        }
+    }
+
+    #[inline(always)]
+    fn see_found(&mut self, runnable: &ExStoredRunnable, by: Option<Searcher>)
+        requires { Fits (top self.old) (took_by by (Some runnable.now.identity)) }
+        ensures { self.new ≡ following (took_by by (Some runnable.now.identity)) self.old }
+    {
+        let name = TaskName::of_runnable(runnable);
+        match by {
+            None => self.follow(Saw::Found(name)),
+            Some(at) => self.follow(Saw::FoundBy(name, at)),
+        }
+    }
+
+    /// Puts a Runnable into the executor's queue of its mark, or answers it where that is closed.
+    #[inline(always)]
+    pub fn append<R: Wait>(
+        &mut self,
+        queues: &Queues,
+        runnable: Marked,
+        rt: &R,
+    ) -> Result<(), ExStoredRunnable>
+        requires { top self.old ≡ Some (step.Queue (queue_step.Append runnable.stored.identity)) }
+        ensures steps { self.new ≡ following (seen (is_ok result)) self.old }
+        ensures back { IfErr result (λ back. back ≡ runnable.stored) }
+    {
+        let Marked { mark, stored } = runnable;
+        match queues.of(mark).items.push(rt, Returning::new(stored)) {
+            Ok(()) => {
+                self.follow(Saw::Something);
+                Ok(())
+            }
+            Err(refused) => {
+                self.follow(Saw::Nothing);
+                Err(refused.into_inner().into_inner())
+            }
+        }
+    }
+
+    /// Closes the executor's queue of this mark.
+    pub fn close_queue<R: Wait>(&mut self, queues: &Queues, mark: Mark, rt: &R)
+        requires { top self.old ≡ Some (step.Closing (closing_step.Close mark)) }
+        ensures { self.new ≡ closed mark ++ below self.old }
+    {
+        queues.of(mark).items.close(rt);
+        self.follow(Saw::Nothing);
+    }
+
+    /// A steal reads how many stand in its source.
+    #[inline(always)]
+    pub fn read_length<R: Wait>(&mut self, at: At<'_>, by: Searcher, rt: &R) -> usize
+        requires steals { StealsAt at (top self.old) }
+        requires fits { (n : ℕ) → Fits (top self.old) (saw.Number n by) }
+        ensures { self.new ≡ following (saw.Number result by) self.old }
+    {
+        let length = at.queue().items.len(rt);
+        self.follow(Saw::Number(length as u64, by));
+        length
+    }
+
+    /// And how many of so many places are free in the own queue.
+    #[inline(always)]
+    pub fn read_free<R: Wait>(&mut self, own: &Queue, places: usize, by: Searcher, rt: &R) -> usize
+        requires { (n : ℕ) → Fits (top self.old) (saw.Number n by) }
+        ensures { self.new ≡ following (saw.Number result by) self.old }
+    {
+        let free = places.saturating_sub(own.items.len(rt));
+        self.follow(Saw::Number(free as u64, by));
+        free
+    }
+
+    /// A steal takes the first Runnable of its source, or ends where there is none.
+    #[inline(always)]
+    pub fn steal_one<R: Wait>(
+        &mut self,
+        at: At<'_>,
+        by: Searcher,
+        rt: &R,
+    ) -> Option<ExStoredRunnable>
+        requires steals { StealsAt at (top self.old) }
+        requires found { (f : Identity) → Fits (top self.old) (saw.Found f) }
+        requires ends { Fits (top self.old) (saw.StealEnds by) }
+        ensures { self.new ≡ following (stole_by by (of_stored result)) self.old }
+    {
+        match at.queue().items.pop(rt) {
+            Ok(first) => {
+                let runnable = first.into_inner();
+                self.follow(Saw::Found(TaskName::of_runnable(&runnable)));
+                Some(runnable)
+            }
+            Err(_) => {
+                self.follow(Saw::StealEnds(by));
+                None
+            }
+        }
+    }
+
+    /// A steal puts what it took into the own queue, or answers it where that is full.
+    #[inline(always)]
+    pub fn keep<R: Wait>(
+        &mut self,
+        own: &Queue,
+        runnable: ExStoredRunnable,
+        by: Searcher,
+        rt: &R,
+    ) -> Result<(), ExStoredRunnable>
+        requires fits { Fits (top self.old) (saw.Fits by) }
+        requires refused { Fits (top self.old) (saw.Refused by) }
+        ensures fits { IfOk result (λ _. self.new ≡ following (saw.Fits by) self.old) }
+        ensures refused { IfErr result (λ back. (back ≡ runnable) × (self.new ≡ following (saw.Refused by) self.old)) }
+    {
+        match own.items.push(rt, Returning::new(runnable)) {
+            Ok(()) => {
+                self.follow(Saw::Fits(by));
+                Ok(())
+            }
+            Err(refused) => {
+                self.follow(Saw::Refused(by));
+                Err(refused.into_inner().into_inner())
+            }
+        }
+    }
+}

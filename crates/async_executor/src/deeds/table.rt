@@ -1,0 +1,136 @@
+//! What calls do with the executor's table, but for the sections of a task's poll.
+ghost use Rattle.std.specs.Prelude.{◌≡◌, ◌∷◌, [], ◌++◌, ◌+◌, IfErr, IfNone, IfOk, IfSome, None, OnSome, Some, length};
+ghost use Rattle.std.specs.Prelude.{drop as list_drop};
+ghost use Rattle.call_steps.specs.Closing.{closing, leaking};
+ghost use Rattle.call_steps.specs.Todo.{below, following, top};
+ghost use Rattle.call_steps.specs.declared.reply.Reply.TheVariants as reply;
+ghost use Rattle.call_steps.specs.declared.step.CallStep.TheVariants as step;
+ghost use Rattle.call_steps.specs.declared.step.table.ClosingStep.TheVariants as closing_step;
+ghost use Rattle.call_steps.specs.declared.step.table.TableStep.TheVariants as table_step;
+ghost use Rattle.executor_parts.specs.Places.{first_waker, turned};
+ghost use Rattle.async_executor.specs.Closing.{listed};
+ghost use Rattle.async_executor.specs.Errors.{refused};
+ghost use Rattle.async_executor.specs.Steps.{accepted_as};
+
+use super::{Steps, sections};
+use crate::closing::HasClosed;
+use crate::entry::Unlocked;
+use crate::errors::SpawnError;
+use crate::leaving::{Leaving, NoRoom, ToCall};
+use crate::locks::Guarded;
+use crate::marked::Marked;
+use crate::names::{ExRealm, ExTask, TableWaker};
+use crate::queue::ExQueue;
+use crate::spawning::accept;
+use crate::task_name::TaskName;
+use async_task::{Output, OutsideWaker, Runtime};
+use call_steps::Saw;
+use executor_parts::{Mark, Places};
+
+impl Steps {
+    /// Accepts a future with this mark, or refuses it, in one section of the table's lock.
+    #[inline(always)]
+    pub fn accept<F: Drop, T: Output, W: OutsideWaker, R: Runtime>(
+        &mut self,
+        table: &Guarded<Places<F, TableWaker>>,
+        rt: R,
+        realm: &'static ExRealm<T, W, R>,
+        schedule: ExQueue<T, W, R>,
+        is_static: bool,
+        mark: Mark,
+        future: F,
+        closed: HasClosed,
+        unlocked: &mut Unlocked,
+    ) -> Result<(Marked, ExTask<T, W, R>), SpawnError<F>>
+        requires { top self.old ≡ Some (step.Table (table_step.Enter mark)) }
+        ensures steps { self.new ≡ following (accepted_as result) self.old }
+        ensures one_task { IfOk result (λ both. both.0.stored.identity ≡ both.1.identity) }
+        ensures marked { IfOk result (λ both. both.1.metadata ≡ mark) }
+        ensures here { IfOk result (λ both. both.1.identity.realm ≡ realm.now.number) }
+        ensures future { IfErr result (λ error. refused error ≡ future) }
+    {
+        let accepted = accept(
+            table.lock(&rt, unlocked).get(),
+            rt,
+            realm,
+            schedule,
+            is_static,
+            mark,
+            future,
+            closed,
+        );
+        match &accepted {
+            Ok((runnable, _)) => self.follow(Saw::Entered(runnable.name())),
+            Err(SpawnError::Full(_)) => self.follow(Saw::Full),
+            Err(SpawnError::NoMemory(_)) => self.follow(Saw::NoMemory),
+        }
+        accepted
+    }
+
+    /// An executor's drop takes all out of the table, as it has this room for their wakers.
+    pub fn take_out<F>(
+        &mut self,
+        table: Guarded<Places<F, TableWaker>>,
+        leaving: &Leaving,
+    ) -> Places<F, TableWaker>
+        requires { top self.old ≡ Some (step.Closing closing_step.TakeOut) }
+        ensures { self.new ≡ closing (length result.entries) (length leaving.now.wakers.items) ++ below self.old }
+    {
+        let table = table.into_inner();
+        self.follow(Saw::Closes(table.len() as u64, leaving.len() as u64));
+        table
+    }
+
+    /// A leak takes all out of the table, to call their wakers.
+    pub fn leak_out<F>(&mut self, table: Guarded<Places<F, TableWaker>>) -> Places<F, TableWaker>
+        requires { top self.old ≡ Some (step.Closing closing_step.LeakOut) }
+        ensures { self.new ≡ leaking (length result.entries) ++ below self.old }
+    {
+        let table = table.into_inner();
+        self.follow(Saw::Closes(0, table.len() as u64));
+        table
+    }
+
+    /// An executor's drop drops the future of the first entry, and keeps that one's waker, which comes last; the waker comes back
+    /// where there is no room for it. None where no entry is left.
+    pub fn drop_next<F: Drop>(
+        &mut self,
+        table: &mut Places<F, TableWaker>,
+        leaving: &mut Leaving,
+        unlocked: &Unlocked,
+    ) -> Option<Option<NoRoom>>
+        requires { self.old ≡ closing (length table.old.entries) (length leaving.old.wakers.items) ++ step.End reply.Done ∷ [] }
+        ensures steps { self.new ≡ closing (length table.new.entries) (length leaving.new.wakers.items) ++ step.End reply.Done ∷ [] }
+        ensures rest { table.new.entries ≡ list_drop 1 table.old.entries }
+        ensures none { IfNone result ((table.new.entries ≡ []) × (leaving.new ≡ leaving.old)) }
+        ensures some { OnSome result (length table.old.entries ≡ length table.new.entries + 1) }
+        ensures kept { result ≡ Some None → leaving.new.wakers.items ≡ leaving.old.wakers.items ++ listed (first_waker table.old.entries) }
+        ensures back { IfSome result (λ refused. IfSome refused (λ back. (first_waker table.old.entries ≡ Some back.waker)
+            × (leaving.new.wakers.items ≡ leaving.old.wakers.items))) }
+    {
+        let (future, waker) = sections::leave_first(table)?;
+        let (name, refused) = leaving.keep(waker);
+        self.follow(Saw::Drops(name, table.len() as u64, leaving.len() as u64));
+        if let Some(future) = future {
+            future.let_go(unlocked);
+        }
+        self.follow(Saw::Nothing);
+        Some(refused)
+    }
+
+    /// A leak takes the next waker out, which is to be called, where so many are left; an entry without one counts as woken.
+    pub fn turn<F>(&mut self, table: &mut Places<F, TableWaker>, left: u64) -> Option<ToCall>
+        requires { top self.old ≡ Some (step.Closing closing_step.LeakNext) }
+        ensures waker { result ≡ first_waker table.old.entries }
+        ensures turned { table.new.entries ≡ turned table.old.entries }
+        ensures rest { table.new ≡ record table.old { entries = table.new.entries } }
+        ensures some { IfSome result (λ _. self.new ≡ self.old) }
+        ensures none { IfNone result (self.new ≡ leaking left ++ below self.old) }
+    {
+        let waker = sections::turn(table);
+        if waker.is_none() {
+            self.see_woken(TaskName::of_none(), false, left);
+        }
+        waker
+    }
+}

@@ -8,7 +8,7 @@ TEXTS = ("src", "specs", "proofs")
 
 
 def text_of(path):
-    with open(path, encoding="utf-8") as file:
+    with open(path, encoding="utf-8", errors="replace") as file:
         return file.read()
 
 
@@ -69,3 +69,9 @@ def replace(path, text):
     with contextlib.suppress(FileNotFoundError):
         os.remove(path)
     write(path, text)
+
+
+def lanes(memory):
+    """Returns how many go side by side that take so many kilobytes each: one a processor, and as many as free memory holds."""
+    free = int(re.search(r"MemAvailable:\s+(\d+)", text_of("/proc/meminfo"))[1])
+    return max(1, min(len(os.sched_getaffinity(0)), free // memory))

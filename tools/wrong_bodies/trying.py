@@ -15,7 +15,6 @@ from .judging import judge
 from .proved import take_proved
 from .refused import Line, judge_now, read_lines, sum_of, sum_of_tree, write_lines
 
-MEMORY_OF_A_CHECK = 4_000_000  # kilobytes
 # How many edits of a sample are drawn at a time, for each check that goes beside others.
 DRAWN = 16
 
@@ -228,12 +227,6 @@ def weight_of(folder, edits):
 
 
 # All
-
-
-def lanes():
-    """Returns how many checks go side by side: one a processor, and as many as free memory holds."""
-    free = int(re.search(r"MemAvailable:\s+(\d+)", text_of("/proc/meminfo"))[1])
-    return max(1, min(len(os.sched_getaffinity(0)), free // MEMORY_OF_A_CHECK))
 
 
 def is_confirmed(line):

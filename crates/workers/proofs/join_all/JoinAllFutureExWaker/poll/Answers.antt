@@ -1,6 +1,6 @@
 use Rattle.std.proofs.Common.{rules, ◌≡◌, ◌<◌, ◌∷◌, ◌++◌, [], length, refl, sym, ◌∙◌}
 use Rattle.std.specs.Prelude.{vec_items}
-use Rattle.workers.proofs.Joins.{error_came, one_came, some_left, stays}
+use Rattle.workers.proofs.Joins.{error_came, none_came, one_came, some_left, stays}
 use Rattle.workers.specs.Joining.{to_come}
 use Rattle.workers.proofs.join_all.JoinAllFutureExWaker.poll.Goals as goal
 
@@ -11,6 +11,9 @@ returns-in-Ready-Err-clause-joined g c =
     let stay : vec_items c.step.new.self.outputs ≡ vec_items c.loop.self.outputs = search rules in
     let came = stays _ _ _ _ _ _ c.loop.invariant.2 stay refl in
     error_came _ _ _ _ _ _ s.error came some s.ensures.stepped s.field-0-is
+
+pub loop-init : goal.loop-init
+loop-init g c = (tt, tt, none_came _ _)
 
 pub loop-preserved : goal.loop-preserved
 loop-preserved g c =

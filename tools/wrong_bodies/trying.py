@@ -181,8 +181,8 @@ def try_crate(trial, name, edits):
 
 
 def check_packs(trial, name, packs, number):
-    """Checks the packs side by side, in copies numbered from this one, and returns what was said of each, or None of those that came too late.
-    Of a crate with no work yet the first and largest goes before the others, which begin with what its check proved."""
+    """Checks the packs side by side, in copies numbered from this one, and gives what was said of each in turn, or None of those that came too
+    late. Of a crate with no work yet the first and largest goes before the others, which begin with what its check proved."""
     is_bare = not os.path.isfile(f"{trial.room}/{name}/crates/{name}/whole")
     with ThreadPoolExecutor(len(packs)) as pool:
         checked = []
@@ -190,7 +190,8 @@ def check_packs(trial, name, packs, number):
             checked.append(pool.submit(check_in_time, trial, name, pack, at, number > 0))
             if is_bare and at == 0:
                 wait(checked)
-    return [it.result() for it in checked]
+        for it in checked:
+            yield it.result()
 
 
 def check_in_time(trial, name, pack, number, is_doubted):

@@ -5,7 +5,7 @@ import re
 import shutil
 import threading
 import time
-from concurrent.futures import ThreadPoolExecutor, wait
+from concurrent.futures import ThreadPoolExecutor, as_completed, wait
 from dataclasses import dataclass, field
 
 from .copies import packs_of, rt, try_pack
@@ -168,7 +168,7 @@ def try_crate(trial, name, edits):
     left, tried = [it for it in edits if not it.fault and known is not None], 0
     while left:
         packs, doubted = packs_of(left, apart), []
-        for pack, said in zip(packs, check_packs(trial, name, packs, copies)):
+        for pack, said in check_packs(trial, name, packs, copies):
             tried += len(pack) if said is not None else 0
             doubted += settle(trial, name, pack, said) if said is not None else []
             # those in doubt stand with none of the same copy again, so that each comes to stand alone at the latest
@@ -181,17 +181,17 @@ def try_crate(trial, name, edits):
 
 
 def check_packs(trial, name, packs, number):
-    """Checks the packs side by side, in copies numbered from this one, and gives what was said of each in turn, or None of those that came too
-    late. Of a crate with no work yet the first and largest goes before the others, which begin with what its check proved."""
+    """Checks the packs side by side, in copies numbered from this one, and gives each, once it was checked, with what was said of it, or with None
+    if it came too late. Of a crate with no work yet the first and largest goes before the others, which begin with what its check proved."""
     is_bare = not os.path.isfile(f"{trial.room}/{name}/crates/{name}/whole")
     with ThreadPoolExecutor(len(packs)) as pool:
-        checked = []
+        checked = {}
         for at, pack in enumerate(packs, number):
-            checked.append(pool.submit(check_in_time, trial, name, pack, at, number > 0))
+            checked[pool.submit(check_in_time, trial, name, pack, at, number > 0)] = pack
             if is_bare and at == 0:
                 wait(checked)
-        for it in checked:
-            yield it.result()
+        for it in as_completed(checked):
+            yield checked[it], it.result()
 
 
 def check_in_time(trial, name, pack, number, is_doubted):

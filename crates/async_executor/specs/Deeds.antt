@@ -14,7 +14,6 @@ use Rattle.call_steps.specs.declared.saw.Searcher.{Searcher}
 use Rattle.call_steps.specs.declared.step.CallStep.{CallStep}
 use Rattle.call_steps.specs.declared.step.CallStep.TheVariants as step
 use Rattle.call_steps.specs.declared.step.run.RunStep.TheVariants as run_step
-use Rattle.call_steps.specs.declared.step.run.StealStep.TheVariants as steal_step
 use Rattle.call_steps.specs.declared.step.table.ClosingStep.TheVariants as closing_step
 use Rattle.call_steps.specs.declared.step.table.QueueStep.TheVariants as queue_step
 use Rattle.call_steps.specs.declared.step.tick.TickStep.TheVariants as tick_step
@@ -23,23 +22,14 @@ use Rattle.call_steps.specs.declared.names.Waker.{Waker}
 use Rattle.call_steps.specs.declared.names.Waker.TheVariants as waker
 use Rattle.async_executor.specs.declared.foreign.Foreign.{Foreign}
 use Rattle.async_executor.specs.declared.sleeping.SleeperWaker.{SleeperWaker}
-use Rattle.async_executor.specs.declared.ticker.Laid.{Laid}
-use Rattle.async_executor.specs.declared.ticker.Laid.TheVariants as laid
 use Rattle.call_steps.specs.declared.reply.Reply.TheVariants as reply
 use Rattle.call_steps.specs.declared.step.user.UserStep.TheVariants as user_step
 use Rattle.async_executor.specs.Polling.{Todo}
 use Rattle.async_executor.specs.Runs.{poll_with}
 use Rattle.async_executor.specs.Steps.{name_of}
-use Rattle.async_executor.specs.declared.deeds.queues.At.{At}
-use Rattle.async_executor.specs.declared.deeds.queues.At.TheVariants.{Common, Own}
 
 abbrev pub Next : Type 0
 Next = Option (CallStep Identity (Unit {0}))
-
--- a source of this queue
-abbrev pub source_at : At → Source (Unit {0})
-source_at (Common queues mark) = source.Common mark
-source_at (Own queue) = source.Own tt
 
 -- the executor's queue of this mark is looked at
 abbrev pub LooksCommon : Mark → Next → Type 0
@@ -56,26 +46,15 @@ LooksOwn (Some (step.Run (run_step.LookOwn x left))) = Unit {0}
 LooksOwn (Some (step.Run (run_step.Reschedule r a))) = Unit {0}
 LooksOwn _ = ⊥
 
-abbrev pub LooksAt : At → Next → Type 0
-LooksAt (Common queues mark) next = LooksCommon mark next
-LooksAt (Own queue) next = LooksOwn next
-
--- a steal goes to this queue
-abbrev pub StealsAt : At → Next → Type 0
-StealsAt at (Some (step.Steal (steal_step.Length s))) = s.from ≡ source_at at
-StealsAt at (Some (step.Steal (steal_step.Take s more))) = s.from ≡ source_at at
-StealsAt at _ = ⊥
+abbrev pub LooksAt : Source (Unit {0}) → Next → Type 0
+LooksAt (source.Common mark) next = LooksCommon mark next
+LooksAt (source.Own tt) next = LooksOwn next
 
 -- a queue's first Runnable is of this future, or it has none; as one sees it that counts, or that doesn't
 abbrev pub took_by : Option Searcher → Option Identity → Saw Identity (Unit {0})
 took_by by None = saw.Nothing
 took_by None (Some f) = saw.Found f
 took_by (Some at) (Some f) = saw.FoundBy f at
-
--- the same of a steal
-abbrev pub stole_by : Searcher → Option Identity → Saw Identity (Unit {0})
-stole_by at None = saw.StealEnds at
-stole_by at (Some f) = saw.Found f
 
 -- room is asked for, or refused
 abbrev pub MakesRoom : Next → Type 0
@@ -92,12 +71,6 @@ module _ {W : Type 0} where
   abbrev pub name_of_old : Option (Foreign (SleeperWaker W)) → Option (Waker Identity)
   name_of_old None = None
   name_of_old (Some old) = Some (name_of old.value)
-
-  -- what one sees that falls asleep
-  abbrev pub laid_seen : Laid W → Saw Identity (Unit {0})
-  laid_seen laid.Anew = saw.Anew
-  laid_seen (laid.Already old) = saw.Already (Some (name_of old.value))
-  laid_seen (laid.Nowhere back) = saw.Nowhere
 
 -- a waker of this name is to be let go next; and what is left once it was, with all that this leads to
 abbrev pub LetsGo : Waker Identity → Todo → Type 0

@@ -6,6 +6,8 @@ use Rattle.async_task.specs.Runs.{was_closed}
 use Rattle.async_task.specs.declared.cell.Identity.{Identity}
 use Rattle.async_task.specs.declared.poll.Poll.{Poll}
 use Rattle.async_task.specs.declared.poll.Poll.TheVariants.{Ready, Pending}
+use Rattle.async_task.specs.declared.runnable.RunEnd.{RunEnd}
+use Rattle.async_task.specs.declared.runnable.RunEnd.TheVariants.{Over, Pause, Drop}
 use Rattle.call_steps.specs.declared.saw.Saw.{Saw}
 use Rattle.call_steps.specs.declared.saw.Saw.TheVariants as saw
 use Rattle.call_steps.specs.declared.step.CallStep.{CallStep}
@@ -37,6 +39,12 @@ end_of Pending = move.EndPending
 abbrev pub end_by : {P O : Type 0} → Back P O → Move
 end_by (back.Ready output) = move.EndReady
 end_by (back.Pending place) = move.EndPending
+
+-- a run that has ended is one of this task; what isn't over was polled without an output
+abbrev pub IsEndOf : {P T S M W R : Type 0} → Back P T → RunEnd P T S M W R → Identity → Type 0
+IsEndOf b Over f = Unit {0}
+IsEndOf b (Pause pause) f = (pause.held.identity ≡ f) × (end_by b ≡ move.EndPending)
+IsEndOf b (Drop place closing) f = end_by b ≡ move.EndPending
 
 -- by which step a run ends whose future is dropped: that of a closed task by this move; that of one which nobody can reach any more
 -- lets go of who awaited it

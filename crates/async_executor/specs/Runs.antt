@@ -68,11 +68,6 @@ reads_own_length w from then n = step.Steal (steal_step.OwnLength (steal_with w 
 abbrev pub puts : Waker Identity → Source (Unit {0}) → Then Identity → ℕ → Identity → Todo
 puts w from then more f = step.Steal (steal_step.Put (steal_with w from then) more f) ∷ []
 
--- what is left once it looked into its own queue, as a search begins
-abbrev pub looked_own : Searcher → Waker Identity → Option Identity → Todo
-looked_own at w None = step.Run (run_step.TakeTurn (poll_with w)) ∷ []
-looked_own at w (Some f) = found_by_run at (poll_with w) f
-
 -- what is left once it found this in the executor's queue of this mark
 abbrev pub found_common : Waker Identity → Mark → Identity → Todo
 found_common w mark f = reads_length w (Common mark) (Found f)

@@ -2,21 +2,19 @@
 ghost use Rattle.std.specs.Prelude.{◌≡◌, ◌<◌, [], ◌∷◌, true, Some, IfOk, IfErr};
 ghost use Rattle.std.specs.Arc.{arc_value};
 ghost use Rattle.async_executor.specs.Errors.{refused};
-ghost use Rattle.async_executor.specs.Steps.{accepted_as, spawned, yes_or_no};
-ghost use Rattle.call_steps.specs.Todo.{below, following, top};
+ghost use Rattle.async_executor.specs.Steps.{spawned, yes_or_no};
+ghost use Rattle.call_steps.specs.Todo.{below, top};
 ghost use Rattle.call_steps.specs.declared.step.CallStep.TheVariants as step;
 ghost use Rattle.call_steps.specs.declared.step.table.QueueStep.TheVariants as queue_step;
 ghost use Rattle.call_steps.specs.declared.step.table.TableStep.TheVariants as table_step;
 
-use crate::closing::{ClosesReturned, HasClosed};
+use crate::closing::ClosesReturned;
 use crate::deeds::{Steps, sections};
-use crate::due::share;
 use crate::entry::Unlocked;
 use crate::errors::SpawnError;
 use crate::locks::Guarded;
 use crate::marked::Marked;
 use crate::names::{ExRealm, ExTask, ExWaker, TableWaker};
-use crate::queue::ExQueue;
 use crate::state::State;
 use async_task::{Future, NoMemory, Output, OutsideWaker, Runtime};
 use call_steps::{Last, Reply};
@@ -162,37 +160,6 @@ where
                 (Err(SpawnError::NoMemory(future)), last)
             }
         }
-    }
-
-    /// Accepts a future, once what was let go is closed: what a spawn does under the table's lock, and what it saw there.
-    #[inline(always)]
-    fn accept(
-        &self,
-        future: F,
-        mark: Mark,
-        closed: HasClosed,
-        steps: &mut Steps,
-        unlocked: &mut Unlocked,
-    ) -> Result<(Marked, ExTask<T, W, R>), SpawnError<F>>
-        requires { steps.old ≡ step.Table (table_step.Enter mark) ∷ [] }
-        ensures steps { steps.new ≡ following (accepted_as result) steps.old }
-        ensures one_task { IfOk result (λ both. both.0.stored.identity ≡ both.1.identity) }
-        ensures marked { IfOk result (λ both. both.1.metadata ≡ mark) }
-        ensures here { IfOk result (λ both. both.1.identity.realm ≡ self.now.realm.now.number) }
-        ensures future { IfErr result (λ error. refused error ≡ future) }
-    {
-        let schedule = ExQueue::new(self.rt, share(self.rt, &self.state));
-        steps.accept(
-            &self.table,
-            self.rt,
-            self.realm,
-            schedule,
-            self.is_static,
-            mark,
-            future,
-            closed,
-            unlocked,
-        )
     }
 
     /// Runs one task, where one is queued, and says whether it did.

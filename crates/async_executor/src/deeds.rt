@@ -10,6 +10,7 @@ use crate::task_name::TaskName;
 use call_steps::{Asked, Call, Last, Part, Reply, Saw};
 use std::marker::Model;
 
+mod falling_asleep;
 mod lists;
 pub mod queues;
 mod saying;

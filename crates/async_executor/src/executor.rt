@@ -192,7 +192,7 @@ fn drain<T: Output, W: OutsideWaker, R: Runtime>(
     ensures { steps.new ≡ drained mark ++ step.End reply.Done ∷ [] }
 {
     for _ in rt.forever() {
-        let Some(runnable) = steps.take(At::Common(&state.queues, mark), None, &rt) else {
+        let Some(runnable) = steps.take(&At::common(&state.queues, mark), None, &rt) else {
             return;
         };
         close_and_pay(rt, realm, steps, runnable, unlocked);

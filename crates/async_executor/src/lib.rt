@@ -28,7 +28,6 @@ mod runner;
 mod sleeping;
 mod spawning;
 mod state;
-mod steal;
 mod steps;
 mod task_name;
 mod tick;

@@ -25,10 +25,10 @@ impl<W: Drop> State<W> {
         ensures { steps.new ≡ tried (of_stored result) }
     {
         let mark = steps.take_turn(&self.turns);
-        if let Some(first) = steps.take_unless_empty(At::Common(&self.queues, mark), None, rt) {
+        if let Some(first) = steps.take_unless_empty(&At::common(&self.queues, mark), None, rt) {
             return Some(first);
         }
-        steps.take(At::Common(&self.queues, mark.other()), None, rt)
+        steps.take(&At::common(&self.queues, mark.other()), None, rt)
     }
 
     /// A run's look at the executor's queues, in a poll with a waker of this name: takes a turn, and then the first Runnable of the
@@ -45,14 +45,12 @@ impl<W: Drop> State<W> {
     {
         let _ = name;
         let mark = steps.take_turn(&self.turns);
-        if let Some(runnable) = steps.take_unless_empty(At::Common(&self.queues, mark), None, rt) {
+        if let Some(runnable) = steps.take_unless_empty(&At::common(&self.queues, mark), None, rt) {
             return Some(FromQueues { runnable, mark });
         }
         let mark = mark.other();
-        match steps.take(At::Common(&self.queues, mark), None, rt) {
-            Some(runnable) => Some(FromQueues { runnable, mark }),
-            None => None,
-        }
+        let runnable = steps.take(&At::common(&self.queues, mark), None, rt)?;
+        Some(FromQueues { runnable, mark })
     }
 
     /// A search of a tick that sleeps or not, and was polled with a waker of this name: takes a turn, and then the first Runnable
@@ -75,9 +73,9 @@ impl<W: Drop> State<W> {
             taken: 0,
         });
         let mark = steps.take_turn(&self.turns);
-        if let Some(first) = steps.take_unless_empty(At::Common(&self.queues, mark), by, rt) {
+        if let Some(first) = steps.take_unless_empty(&At::common(&self.queues, mark), by, rt) {
             return Some(first);
         }
-        steps.take(At::Common(&self.queues, mark.other()), by, rt)
+        steps.take(&At::common(&self.queues, mark.other()), by, rt)
     }
 }

@@ -11,16 +11,12 @@ ghost use Rattle.async_executor.specs.Polling.{end_by, end_of, end_step};
 
 use crate::body::Body;
 use crate::deeds::sections::Taken;
-use crate::deeds::task_run::{Dropping, Polling, Settled};
+use crate::deeds::task_run::{Dropping, Polling};
 use crate::deeds::{Steps, sections};
-use crate::due::pay;
 use crate::entry::Unlocked;
 use crate::names::{ExStoredRunnable, ExWaker};
-use crate::state::redeem;
 use crate::task_name::TaskName;
-use async_task::{
-    Back, Future, Output, OutsideWaker, Poll, Returning, Runtime, Started, StoredWaker,
-};
+use async_task::{Back, Future, GoesBack, Output, OutsideWaker, Poll, Runtime, Started};
 use executor_parts::EntryPlace;
 
 impl<F, T: Output, W: OutsideWaker, R: Runtime> Body<F, T, W, R>
@@ -39,18 +35,20 @@ where
         ensures { steps.new ≡ below steps.old }
     {
         let name = TaskName::of_runnable(&stored);
-        let Some(scheduled) = redeem(self.rt, self.realm, stored) else {
-            steps.take_up_elsewhere(&name);
-            return;
-        };
-        match scheduled.into_runnable().start() {
-            Started::Poll(place, running) => {
-                let polling = Polling::begin(running, &name, steps);
-                self.poll(place, polling, &name, steps, unlocked);
-            }
-            Started::Drop(place, closing) => {
-                let dropping = Dropping::begin(closing, &name, steps);
-                self.drop_future(place, dropping, &name, steps, unlocked);
+        match stored.redeem(self.rt, self.realm) {
+            Ok(scheduled) => match scheduled.into_runnable().start() {
+                Started::Poll(place, running) => {
+                    let polling = Polling::begin(running, &name, steps);
+                    self.poll(place, polling, &name, steps, unlocked);
+                }
+                Started::Drop(place, closing) => {
+                    let dropping = Dropping::begin(closing, &name, steps);
+                    self.drop_future(place, dropping, &name, steps, unlocked);
+                }
+            },
+            Err(elsewhere) => {
+                elsewhere.go_back();
+                steps.take_up_elsewhere(&name);
             }
         }
     }
@@ -77,37 +75,11 @@ where
         );
         let polled = self.poll_taken(place, taken, &polling, name, steps, unlocked);
         let back = back_of(polled, place);
-        self.settle(polling, back, name, steps, unlocked);
+        polling.settle(self, back, name, steps, unlocked);
     }
 
-    /// Ends the run of a future that was polled. A task that was woken meanwhile is queued, and one that was closed meanwhile
-    /// loses its future.
-    #[inline(always)]
-    fn settle(
-        &self,
-        polling: Polling<T, W, R>,
-        back: Back<EntryPlace, T>,
-        name: &TaskName,
-        steps: &mut Steps,
-        unlocked: &mut Unlocked,
-    )
-        requires named { identity_of polling.running.waker ≡ Some name.now }
-        requires ends { top steps.old ≡ Some (step.Move (end_by back) name.now) }
-        ensures { steps.new ≡ below steps.old }
-    {
-        match polling.settle(back, name, steps, unlocked) {
-            Settled::Over => {}
-            Settled::Due(marked) => {
-                self.state
-                    .push_and_pay(self.rt, self.realm, steps, marked, unlocked);
-            }
-            Settled::Drop(place, dropping) => {
-                self.drop_future(place, dropping, name, steps, unlocked);
-            }
-        }
-    }
-
-    /// Polls the future that was taken out. One that isn't in its entry counts as pending.
+    /// Polls the future that was taken out of this place, and puts it back, or drops it where it is ready. One that isn't in its entry
+    /// counts as pending.
     #[inline(always)]
     fn poll_taken(
         &self,
@@ -122,30 +94,10 @@ where
         requires polls { top steps.old ≡ Some (step.User (user_step.Poll name.now)) }
         ensures { steps.new ≡ step.Move (end_of result) name.now ∷ below steps.old }
     {
-        match taken {
-            Some(taken) => self.poll_future(place, taken, polling, name, steps, unlocked),
-            None => {
-                steps.poll_nothing(name);
-                Poll::Pending
-            }
-        }
-    }
-
-    /// Polls a future that was taken out of this place, and puts it back, or drops it where it is ready.
-    #[inline(always)]
-    fn poll_future(
-        &self,
-        place: EntryPlace,
-        taken: Taken<F>,
-        polling: &Polling<T, W, R>,
-        name: &TaskName,
-        steps: &mut Steps,
-        unlocked: &mut Unlocked,
-    ) -> Poll<T>
-        requires place { taken.place ≡ place }
-        requires polls { top steps.old ≡ Some (step.User (user_step.Poll name.now)) }
-        ensures { steps.new ≡ step.Move (end_of result) name.now ∷ below steps.old }
-    {
+        let Some(taken) = taken else {
+            steps.poll_nothing(name);
+            return Poll::Pending;
+        };
         let mut taken = taken;
         match taken.poll(polling.waker(), name, steps, unlocked) {
             Poll::Ready(output) => {
@@ -171,7 +123,7 @@ where
     /// Drops the future at this place, as its task is closed, and ends the run.
     #[cold]
     #[inline(never)]
-    fn drop_future(
+    pub fn drop_future(
         &self,
         place: EntryPlace,
         dropping: Dropping<T, W, R>,
@@ -227,24 +179,8 @@ where
             future.let_go(unlocked);
         }
         if let Some(waker) = waker {
-            self.release(waker, name, steps, unlocked);
+            steps.release_entry(waker, name, self.rt, self.realm, unlocked);
         }
-    }
-
-    /// The waker that an entry had goes.
-    #[inline(always)]
-    fn release(
-        &self,
-        waker: Returning<StoredWaker>,
-        name: &TaskName,
-        steps: &mut Steps,
-        unlocked: &mut Unlocked,
-    )
-        requires { top steps.old ≡ Some (step.Move move.Release name.now) }
-        ensures { steps.new ≡ below steps.old }
-    {
-        let due = steps.release_entry(waker, name, self.rt, self.realm);
-        pay(self.rt, due, unlocked);
     }
 }
 

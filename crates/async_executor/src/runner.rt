@@ -14,7 +14,7 @@ ghost use Rattle.executor_parts.specs.declared.mark.Mark.TheVariants as mark;
 ghost use Rattle.async_executor.specs.Seeds.{seeded};
 ghost use Rattle.async_executor.specs.Making.{IsUnlisted};
 ghost use Rattle.async_executor.specs.OwnQueues.{listed};
-ghost use Rattle.async_executor.specs.Runs.{looked_own, poll_with, reads_length, robbed, runs};
+ghost use Rattle.async_executor.specs.Runs.{poll_with, reads_length, robbed, runs};
 ghost use Rattle.async_executor.specs.Runs.{searched_by_run, stage_by};
 ghost use Rattle.async_executor.specs.Searched.{searched};
 ghost use Rattle.async_executor.specs.Steps.{of_stored};
@@ -22,13 +22,13 @@ ghost use Rattle.async_executor.specs.Ticks.{sleeping};
 
 use crate::counts::OwesSteal;
 use crate::deeds::Steps;
+use crate::deeds::queues::steal::{Theft, steal};
 use crate::deeds::queues::{At, FromQueues, Queue};
 use crate::due::{close_and_pay, share};
 use crate::entry::Unlocked;
 use crate::names::{ExRealm, ExStoredRunnable};
 use crate::own_queues::{OwnQueues, RunRoom};
 use crate::state::{OWN_PLACES, State};
-use crate::steal::{Theft, steal};
 use crate::task_name::TaskName;
 use async_task::{NoMemory, Output, OutsideWaker, Runtime};
 use call_steps::{Searcher, Then, Waker};
@@ -209,11 +209,11 @@ impl Runner {
     {
         let theft = Theft {
             name: search.name,
-            from: At::Common(&state.queues, mark),
             then,
             at: search.at,
         };
-        let refused = steal(&rt, &self.own, &theft, steps);
+        let from = At::common(&state.queues, mark);
+        let refused = steal(&rt, &from, &self.own, &theft, steps);
         drop_refused(rt, realm, refused, &theft, steps, unlocked);
     }
 
@@ -261,7 +261,7 @@ impl Runner {
         requires { steps.old ≡ step.Tick (tick_step.Search (sleeping (tick_or_run.Run tt) search.now.name.now)) ∷ [] }
         ensures { steps.new ≡ searched search.now.at search.now.name.now result }
     {
-        if let Some(runnable) = self.look_own(&rt, search, steps) {
+        if let Some(runnable) = steps.take(&At::own(&self.own), Some(search.at), &rt) {
             return Searched::Found(runnable);
         }
         if let Some(FromQueues { runnable, mark }) = state.look_common(&rt, search.name, steps) {
@@ -270,20 +270,6 @@ impl Runner {
             return Searched::Found(runnable);
         }
         self.walk(&rt, state, search, steps, unlocked)
-    }
-
-    /// A search begins with the own queue.
-    #[inline(always)]
-    fn look_own<R: Wait>(
-        &self,
-        rt: &R,
-        search: &Search<'_>,
-        steps: &mut Steps,
-    ) -> Option<ExStoredRunnable>
-        requires { steps.old ≡ step.Tick (tick_step.Search (sleeping (tick_or_run.Run tt) search.now.name.now)) ∷ [] }
-        ensures { steps.new ≡ looked_own search.now.at search.now.name.now (of_stored result) }
-    {
-        steps.take(At::Own(&self.own), Some(search.at), rt)
     }
 }
 

@@ -5,11 +5,10 @@ ghost use Rattle.call_steps.specs.declared.step.tick.TickStep.TheVariants as tic
 ghost use Rattle.call_steps.specs.declared.reply.Reply.TheVariants as reply;
 ghost use Rattle.async_executor.specs.Polls.{has_left};
 ghost use Rattle.async_executor.specs.Foreign.{value_of};
-ghost use Rattle.async_executor.specs.Sleeping.{is_asleep, laid_as, ComesBack, FallsAsleep, LaidBack, Lies, SleepsBy, WakesUp};
+ghost use Rattle.async_executor.specs.Sleeping.{is_asleep, laid_as, ComesBack, FallsAsleep, LaidBack, Lies, WakesUp};
 ghost use Rattle.async_executor.specs.Sleeping.{SaysFellAsleep};
 ghost use Rattle.async_executor.specs.Steps.{name_of, name_given};
-ghost use Rattle.async_executor.specs.Ticks.{sleeping, slept};
-ghost use Rattle.call_steps.specs.Todo.{below, top};
+ghost use Rattle.async_executor.specs.Ticks.{sleeping};
 ghost use Rattle.executor_parts.specs.Sleepers.{flag_of};
 
 use crate::deeds::Steps;
@@ -79,86 +78,6 @@ pub struct WokenUp<W> {
 }
 
 impl Ticker {
-    /// Wakes up. That it had been told is of no account, as the call tells another.
-    pub fn wake_up<T: Output, W: OutsideWaker, R: Runtime>(
-        &mut self,
-        rt: R,
-        state: &State<W>,
-        realm: &'static ExRealm<T, W, R>,
-        who: &TickOrRun<()>,
-        steps: &mut Steps,
-        unlocked: &mut Unlocked,
-    )
-        requires { top steps.old ≡ Some (step.Tick (tick_step.WakeUp who.now)) }
-        ensures steps { steps.new ≡ below steps.old }
-        ensures awake { is_asleep self.new ≡ false }
-        ensures stays { has_left self.new ≡ has_left self.old }
-    {
-        if let Some(old) = steps.wake_up(self, who, state, &rt, unlocked) {
-            old.let_go_and_pay(rt, realm, steps, unlocked);
-        }
-    }
-
-    /// What one does that found nothing: it copies the waker that its poll was given, of this name, and falls asleep with the
-    /// copy. A waker of a task of another realm can't be found from here: it is called at once.
-    pub fn sleep<T: Output, W: OutsideWaker, R: Runtime>(
-        &mut self,
-        rt: R,
-        state: &State<W>,
-        realm: &'static ExRealm<T, W, R>,
-        waker: &ExWaker<T, W, R>,
-        name: &Waker<TaskName>,
-        who: &TickOrRun<()>,
-        steps: &mut Steps,
-        unlocked: &mut Unlocked,
-    ) -> Slept
-        requires named { name.now ≡ name_given waker.now }
-        requires copies { steps.old ≡ step.Tick (tick_step.CopyWaker (sleeping who.now name.now)) ∷ [] }
-        ensures steps { steps.new ≡ slept who.now name.now result }
-        ensures asleep { SleepsBy name.now self.new result }
-        ensures stays { has_left self.new ≡ has_left self.old }
-    {
-        if sleeps_elsewhere(waker, realm) {
-            call_at_once(waker, name, who, steps, unlocked);
-            return Slept::Called;
-        }
-        let Some(copy) = steps.copy_waker(waker, name, who, unlocked) else {
-            return Slept::NoMemory;
-        };
-        self.sleep_with(rt, state, realm, copy, name, who, steps, unlocked)
-    }
-
-    /// Falls asleep with a copy of the waker of this name. It has to search again where it wasn't asleep, or had been told.
-    fn sleep_with<T: Output, W: OutsideWaker, R: Runtime>(
-        &mut self,
-        rt: R,
-        state: &State<W>,
-        realm: &'static ExRealm<T, W, R>,
-        copy: Foreign<SleeperWaker<W>>,
-        name: &Waker<TaskName>,
-        who: &TickOrRun<()>,
-        steps: &mut Steps,
-        unlocked: &mut Unlocked,
-    ) -> Slept
-        requires named { name_of copy.value ≡ name.now }
-        requires falls { steps.old ≡ step.Tick (tick_step.FallAsleep (sleeping who.now name.now)) ∷ [] }
-        ensures steps { steps.new ≡ slept who.now name.now result }
-        ensures asleep { SleepsBy name.now self.new result }
-        ensures stays { has_left self.new ≡ has_left self.old }
-    {
-        match steps.fall_asleep(self, copy, name, who, state, &rt, unlocked) {
-            Laid::Anew => Slept::Anew,
-            Laid::Already(old) => {
-                old.let_go_and_pay(rt, realm, steps, unlocked);
-                Slept::Still
-            }
-            Laid::Nowhere(waker) => {
-                waker.wake_and_pay(rt, realm, who, steps, unlocked);
-                Slept::Called
-            }
-        }
-    }
-
     /// Falls asleep with this waker, of this name, in one section of the sleepers' lock.
     pub fn lie_down<W: Drop, R: Wait>(
         &mut self,
@@ -304,7 +223,7 @@ fn woken_up_with<W>(notified: bool, waker: Option<SleeperWaker<W>>) -> WokenUp<W
 }
 
 /// Whether it is a waker of a task of another realm.
-fn sleeps_elsewhere<T: Output, W: OutsideWaker, R: Runtime>(
+pub fn sleeps_elsewhere<T: Output, W: OutsideWaker, R: Runtime>(
     waker: &ExWaker<T, W, R>,
     realm: &'static ExRealm<T, W, R>,
 ) -> bool {
@@ -316,7 +235,7 @@ fn sleeps_elsewhere<T: Output, W: OutsideWaker, R: Runtime>(
 
 /// Calls the waker of this name that one was polled with, which can't be kept, at once.
 #[tactic(auto, using(crate::proofs::Calling::sleepers_is_kept, crate::proofs::Calling::sleepers_was_called))]
-fn call_at_once<T: Output, W: OutsideWaker, R: Runtime>(
+pub fn call_at_once<T: Output, W: OutsideWaker, R: Runtime>(
     waker: &ExWaker<T, W, R>,
     name: &Waker<TaskName>,
     who: &TickOrRun<()>,

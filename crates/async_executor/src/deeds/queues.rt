@@ -1,16 +1,17 @@
 //! The executor's two queues and the own ones of runs, and what calls do with them.
-ghost use Rattle.std.specs.Prelude.{◌≡◌, ◌<◌, ◌++◌, ℕ, Some, IfErr, IfNone, IfOk, IfSome, is_ok};
+ghost use Rattle.std.specs.Prelude.{◌≡◌, ◌<◌, ◌++◌, Some, IfErr, IfNone, IfOk, IfSome, is_ok};
 ghost use Rattle.async_task.specs.declared.cell.Identity.{Identity};
 ghost use Rattle.call_steps.specs.Closing.{closed};
 ghost use Rattle.call_steps.specs.Fitting.{Fits};
 ghost use Rattle.call_steps.specs.Seeing.{seen};
 ghost use Rattle.call_steps.specs.Todo.{below, following, top};
+ghost use Rattle.call_steps.specs.declared.names.Source.TheVariants as source;
 ghost use Rattle.call_steps.specs.declared.saw.Saw.TheVariants as saw;
 ghost use Rattle.call_steps.specs.declared.step.CallStep.TheVariants as step;
 ghost use Rattle.call_steps.specs.declared.step.table.ClosingStep.TheVariants as closing_step;
 ghost use Rattle.call_steps.specs.declared.step.table.QueueStep.TheVariants as queue_step;
 ghost use Rattle.executor_parts.specs.declared.mark.Mark.{Mark};
-ghost use Rattle.async_executor.specs.Deeds.{LooksAt, LooksOwn, StealsAt, stole_by, took_by};
+ghost use Rattle.async_executor.specs.Deeds.{LooksAt, LooksOwn, took_by};
 ghost use Rattle.async_executor.specs.Steps.{of_stored};
 
 use super::Steps;
@@ -19,12 +20,15 @@ use crate::names::ExStoredRunnable;
 use crate::task_name::TaskName;
 use crate::turns::Turns;
 use async_task::{NoMemory, Returning};
-use call_steps::{Saw, Searcher};
+use call_steps::{Saw, Searcher, Source};
 use concurrent_queue::ConcurrentQueue;
 use executor_parts::Mark;
 use std::alloc::Global;
 use std::marker::Model;
+use std::snapshot::Snapshot;
 use std::sync::Wait;
+
+pub mod steal;
 
 /// A queue of Runnables. What is in it comes and goes by the deeds alone.
 pub struct Queue {
@@ -52,11 +56,19 @@ pub struct Queues {
     pub plain: Queue,
 }
 
-/// A queue that a call looks at: the executor's of this mark, or a run's own.
-#[derive(Clone, Copy)]
-pub enum At<'a> {
-    Common(&'a Queues, Mark),
-    Own(&'a Queue),
+/// A queue that a call looks at, the executor's of a mark or a run's own: contracts see which. It is one word.
+#[derive(Drop)]
+pub struct At<'a> {
+    queue: &'a Queue,
+    source: Snapshot<Source<()>>,
+}
+
+impl<'a> Model for At<'a> {
+    ghost use Rattle.call_steps.specs.declared.names.Source.{Source};
+
+    ghost Value = { Source (Unit {0}) };
+
+    ghost view = { λ a. a.source.value };
 }
 
 /// What a look at both queues has found. It has no drop: the Runnable is in hand.
@@ -123,11 +135,25 @@ impl Queues {
 }
 
 impl<'a> At<'a> {
+    /// The executor's of this mark.
     #[inline(always)]
-    fn queue(self) -> &'a Queue {
-        match self {
-            At::Common(queues, mark) => queues.of(mark),
-            At::Own(queue) => queue,
+    pub fn common(queues: &'a Queues, mark: Mark) -> At<'a>
+        ensures { result ≡ source.Common mark }
+    {
+        At {
+            queue: queues.of(mark),
+            source: Snapshot::of(&Source::Common(mark)),
+        }
+    }
+
+    /// A run's own.
+    #[inline(always)]
+    pub fn own(queue: &'a Queue) -> At<'a>
+        ensures { result ≡ source.Own tt }
+    {
+        At {
+            queue,
+            source: Snapshot::of(&Source::Own(())),
         }
     }
 }
@@ -148,46 +174,50 @@ impl Steps {
     #[inline(always)]
     pub fn take<R: Wait>(
         &mut self,
-        at: At<'_>,
+        at: &At<'_>,
         by: Option<Searcher>,
         rt: &R,
     ) -> Option<ExStoredRunnable>
-        requires looks { LooksAt at (top self.old) }
+        requires looks { LooksAt at.now (top self.old) }
         requires found { (f : Identity) → Fits (top self.old) (took_by by (Some f)) }
         requires nothing { Fits (top self.old) saw.Nothing }
         ensures { self.new ≡ following (took_by by (of_stored result)) self.old }
     {
-        match at.queue().items.pop(rt) {
-            Ok(first) => {
-                let runnable = first.into_inner();
-                self.see_found(&runnable, by);
-                Some(runnable)
-            }
-            Err(_) => {
-                self.follow(Saw::Nothing);
-                None
-            }
-        }
+        let queue = at.queue;
+        let Ok(first) = queue.items.pop(rt) else {
+            self.follow(Saw::Nothing);
+            return None;
+        };
+        let runnable = first.into_inner();
+        self.see_found(&runnable, by);
+        Some(runnable)
     }
 
     /// The same. A queue that is empty is left after loads alone, with no pop.
     #[inline(always)]
     pub fn take_unless_empty<R: Wait>(
         &mut self,
-        at: At<'_>,
+        at: &At<'_>,
         by: Option<Searcher>,
         rt: &R,
     ) -> Option<ExStoredRunnable>
-        requires looks { LooksAt at (top self.old) }
+        requires looks { LooksAt at.now (top self.old) }
         requires found { (f : Identity) → Fits (top self.old) (took_by by (Some f)) }
         requires nothing { Fits (top self.old) saw.Nothing }
         ensures { self.new ≡ following (took_by by (of_stored result)) self.old }
     {
-        if at.queue().items.is_empty(rt) {
+        let queue = at.queue;
+        if queue.items.is_empty(rt) {
             self.follow(Saw::Nothing);
             return None;
         }
-        self.take(at, by, rt)
+        let Ok(first) = queue.items.pop(rt) else {
+            self.follow(Saw::Nothing);
+            return None;
+        };
+        let runnable = first.into_inner();
+        self.see_found(&runnable, by);
+        Some(runnable)
     }
 
     /// In a walk, takes the first Runnable of the own queue, where there is one. That nothing was there is seen where the walk goes on.
@@ -203,14 +233,12 @@ impl Steps {
         ensures found { IfSome result (λ r. self.new ≡ following (saw.FoundBy r.identity by) self.old) }
         ensures none { IfNone result (self.new ≡ self.old) }
     {
-        match own.items.pop(rt) {
-            Ok(first) => {
-                let runnable = first.into_inner();
-                self.follow(Saw::FoundBy(TaskName::of_runnable(&runnable), by));
-                Some(runnable)
-            }
-            Err(_) => None,
-        }
+        let Ok(first) = own.items.pop(rt) else {
+            return None;
+        };
+        let runnable = first.into_inner();
+        self.follow(Saw::FoundBy(TaskName::of_runnable(&runnable), by));
+        Some(runnable)
     }
 
     #[inline(always)]
@@ -257,80 +285,5 @@ impl Steps {
     {
         queues.of(mark).items.close(rt);
         self.follow(Saw::Nothing);
-    }
-
-    /// A steal reads how many stand in its source.
-    #[inline(always)]
-    pub fn read_length<R: Wait>(&mut self, at: At<'_>, by: Searcher, rt: &R) -> usize
-        requires steals { StealsAt at (top self.old) }
-        requires fits { (n : ℕ) → Fits (top self.old) (saw.Number n by) }
-        ensures { self.new ≡ following (saw.Number result by) self.old }
-    {
-        let length = at.queue().items.len(rt);
-        self.follow(Saw::Number(length as u64, by));
-        length
-    }
-
-    /// And how many of so many places are free in the own queue.
-    #[inline(always)]
-    pub fn read_free<R: Wait>(&mut self, own: &Queue, places: usize, by: Searcher, rt: &R) -> usize
-        requires { (n : ℕ) → Fits (top self.old) (saw.Number n by) }
-        ensures { self.new ≡ following (saw.Number result by) self.old }
-    {
-        let free = places.saturating_sub(own.items.len(rt));
-        self.follow(Saw::Number(free as u64, by));
-        free
-    }
-
-    /// A steal takes the first Runnable of its source, or ends where there is none.
-    #[inline(always)]
-    pub fn steal_one<R: Wait>(
-        &mut self,
-        at: At<'_>,
-        by: Searcher,
-        rt: &R,
-    ) -> Option<ExStoredRunnable>
-        requires steals { StealsAt at (top self.old) }
-        requires found { (f : Identity) → Fits (top self.old) (saw.Found f) }
-        requires ends { Fits (top self.old) (saw.StealEnds by) }
-        ensures { self.new ≡ following (stole_by by (of_stored result)) self.old }
-    {
-        match at.queue().items.pop(rt) {
-            Ok(first) => {
-                let runnable = first.into_inner();
-                self.follow(Saw::Found(TaskName::of_runnable(&runnable)));
-                Some(runnable)
-            }
-            Err(_) => {
-                self.follow(Saw::StealEnds(by));
-                None
-            }
-        }
-    }
-
-    /// A steal puts what it took into the own queue, or answers it where that is full.
-    #[inline(always)]
-    pub fn keep<R: Wait>(
-        &mut self,
-        own: &Queue,
-        runnable: ExStoredRunnable,
-        by: Searcher,
-        rt: &R,
-    ) -> Result<(), ExStoredRunnable>
-        requires fits { Fits (top self.old) (saw.Fits by) }
-        requires refused { Fits (top self.old) (saw.Refused by) }
-        ensures fits { IfOk result (λ _. self.new ≡ following (saw.Fits by) self.old) }
-        ensures refused { IfErr result (λ back. (back ≡ runnable) × (self.new ≡ following (saw.Refused by) self.old)) }
-    {
-        match own.items.push(rt, Returning::new(runnable)) {
-            Ok(()) => {
-                self.follow(Saw::Fits(by));
-                Ok(())
-            }
-            Err(refused) => {
-                self.follow(Saw::Refused(by));
-                Err(refused.into_inner().into_inner())
-            }
-        }
     }
 }

@@ -1,5 +1,5 @@
 //! What calls do with the flag, and in the sections of the sleepers' lock.
-ghost use Rattle.std.specs.Prelude.{◌≡◌, ◌∷◌, [], Some, IfSome, false, is_ok, is_some};
+ghost use Rattle.std.specs.Prelude.{◌≡◌, ◌∷◌, [], Some, is_ok};
 ghost use Rattle.call_steps.specs.Seeing.{called, seen};
 ghost use Rattle.call_steps.specs.Sleeping.{sleep_nowhere};
 ghost use Rattle.call_steps.specs.Todo.{below, following, top};
@@ -8,10 +8,8 @@ ghost use Rattle.call_steps.specs.declared.step.CallStep.TheVariants as step;
 ghost use Rattle.call_steps.specs.declared.step.run.RunStep.TheVariants as run_step;
 ghost use Rattle.call_steps.specs.declared.step.tick.SleeperStep.TheVariants as sleeper_step;
 ghost use Rattle.call_steps.specs.declared.step.tick.TickStep.TheVariants as tick_step;
-ghost use Rattle.async_executor.specs.Deeds.{laid_seen, MakesRoom, name_of_old, room_seen};
-ghost use Rattle.async_executor.specs.Polls.{has_left};
-ghost use Rattle.async_executor.specs.Sleeping.{is_asleep, LaidBack, Lies};
-ghost use Rattle.async_executor.specs.Steps.{name_given, name_of, sleeper_of};
+ghost use Rattle.async_executor.specs.Deeds.{MakesRoom, name_of_old, room_seen};
+ghost use Rattle.async_executor.specs.Steps.{sleeper_of};
 ghost use Rattle.async_executor.specs.Ticks.{sleeping};
 
 use super::Steps;
@@ -19,13 +17,11 @@ use crate::deeds::sections;
 use crate::entry::Unlocked;
 use crate::flag::Flag;
 use crate::foreign::Foreign;
-use crate::names::ExWaker;
 use crate::sleeping::SleeperWaker;
 use crate::state::State;
 use crate::task_name::TaskName;
 use crate::ticker::leave::leave_in;
-use crate::ticker::{Laid, Ticker};
-use async_task::{NoMemory, Output, OutsideWaker, Runtime};
+use async_task::NoMemory;
 use call_steps::{Saw, TickOrRun, Waker};
 use executor_parts::{Room, Sleeper};
 use std::sync::Wait;
@@ -102,57 +98,6 @@ impl Steps {
         self.follow(Saw::Nothing);
     }
 
-    /// One falls asleep with this waker, of this name.
-    pub fn fall_asleep<W: Drop, R: Wait>(
-        &mut self,
-        ticker: &mut Ticker,
-        waker: Foreign<SleeperWaker<W>>,
-        name: &Waker<TaskName>,
-        who: &TickOrRun<()>,
-        state: &State<W>,
-        rt: &R,
-        unlocked: &mut Unlocked,
-    ) -> Laid<W>
-        requires named { name_of waker.value ≡ name.now }
-        requires falls { top self.old ≡ Some (step.Tick (tick_step.FallAsleep (sleeping who.now name.now))) }
-        ensures steps { self.new ≡ following (laid_seen result) self.old }
-        ensures back { LaidBack waker.value result }
-        ensures lies { Lies name.now ticker.new result }
-        ensures stays { has_left ticker.new ≡ has_left ticker.old }
-    {
-        let _ = who;
-        let laid = ticker.lie_down(rt, state, waker, name, unlocked);
-        match &laid {
-            Laid::Anew => self.follow(Saw::Anew),
-            Laid::Already(old) => self.follow(Saw::Already(Some(old.name()))),
-            Laid::Nowhere(_) => self.follow(Saw::Nowhere),
-        }
-        laid
-    }
-
-    /// One wakes up. The waker that it had among the sleepers is the answer.
-    pub fn wake_up<W: Drop, R: Wait>(
-        &mut self,
-        ticker: &mut Ticker,
-        who: &TickOrRun<()>,
-        state: &State<W>,
-        rt: &R,
-        unlocked: &mut Unlocked,
-    ) -> Option<Foreign<SleeperWaker<W>>>
-        requires { top self.old ≡ Some (step.Tick (tick_step.WakeUp who.now)) }
-        ensures steps { self.new ≡ following (saw.Awake (name_of_old result)) self.old }
-        ensures awake { is_asleep ticker.new ≡ false }
-        ensures stays { has_left ticker.new ≡ has_left ticker.old }
-    {
-        let _ = who;
-        let old = ticker.stand_up(rt, state, unlocked);
-        match &old {
-            Some(waker) => self.follow(Saw::Awake(Some(waker.name()))),
-            None => self.follow(Saw::Awake(None)),
-        }
-        old
-    }
-
     /// One that sleeps leaves the sleepers. Its room is the first answer, and the waker that it had there the second; none where it
     /// had been told.
     pub fn leave<W: Drop, R: Wait>(
@@ -202,28 +147,6 @@ impl Steps {
     {
         let _ = who;
         self.follow(Saw::Nothing);
-    }
-
-    /// Copies the waker of this name that one was polled with, to fall asleep with.
-    pub fn copy_waker<T: Output, W: OutsideWaker, R: Runtime>(
-        &mut self,
-        waker: &ExWaker<T, W, R>,
-        name: &Waker<TaskName>,
-        who: &TickOrRun<()>,
-        unlocked: &Unlocked,
-    ) -> Option<Foreign<SleeperWaker<W>>>
-        requires named { name.now ≡ name_given waker.now }
-        requires copies { top self.old ≡ Some (step.Tick (tick_step.CopyWaker (sleeping who.now name.now))) }
-        ensures steps { self.new ≡ following (room_seen (is_some result)) self.old }
-        ensures named { IfSome result (λ copy. name_of copy.value ≡ name.now) }
-    {
-        let (_, _) = (name, who);
-        let copy = SleeperWaker::of(waker, unlocked);
-        match &copy {
-            Some(_) => self.follow(Saw::Something),
-            None => self.follow(Saw::NoMemory),
-        }
-        copy
     }
 
     /// A waker of another realm counts as copied, and as one that can't be kept.

@@ -13,13 +13,15 @@ ghost use Rattle.async_executor.specs.Errors.{refused};
 ghost use Rattle.async_executor.specs.Steps.{accepted_as};
 
 use super::{Steps, sections};
+use crate::body::Body;
 use crate::closing::HasClosed;
+use crate::due::share;
 use crate::entry::Unlocked;
 use crate::errors::SpawnError;
 use crate::leaving::{Leaving, NoRoom, ToCall};
 use crate::locks::Guarded;
 use crate::marked::Marked;
-use crate::names::{ExRealm, ExTask, TableWaker};
+use crate::names::{ExTask, TableWaker};
 use crate::queue::ExQueue;
 use crate::spawning::accept;
 use crate::task_name::TaskName;
@@ -27,46 +29,45 @@ use async_task::{Output, OutsideWaker, Runtime};
 use call_steps::Saw;
 use executor_parts::{Mark, Places};
 
-impl Steps {
-    /// Accepts a future with this mark, or refuses it, in one section of the table's lock.
+impl<F: Drop, T: Output, W: OutsideWaker, R: Runtime> Body<F, T, W, R> {
+    /// Accepts a future with this mark, or refuses it, in one section of the table's lock, once what was let go is closed.
     #[inline(always)]
-    pub fn accept<F: Drop, T: Output, W: OutsideWaker, R: Runtime>(
-        &mut self,
-        table: &Guarded<Places<F, TableWaker>>,
-        rt: R,
-        realm: &'static ExRealm<T, W, R>,
-        schedule: ExQueue<T, W, R>,
-        is_static: bool,
-        mark: Mark,
+    pub fn accept(
+        &self,
         future: F,
+        mark: Mark,
         closed: HasClosed,
+        steps: &mut Steps,
         unlocked: &mut Unlocked,
     ) -> Result<(Marked, ExTask<T, W, R>), SpawnError<F>>
-        requires { top self.old ≡ Some (step.Table (table_step.Enter mark)) }
-        ensures steps { self.new ≡ following (accepted_as result) self.old }
+        requires { top steps.old ≡ Some (step.Table (table_step.Enter mark)) }
+        ensures steps { steps.new ≡ following (accepted_as result) steps.old }
         ensures one_task { IfOk result (λ both. both.0.stored.identity ≡ both.1.identity) }
         ensures marked { IfOk result (λ both. both.1.metadata ≡ mark) }
-        ensures here { IfOk result (λ both. both.1.identity.realm ≡ realm.now.number) }
+        ensures here { IfOk result (λ both. both.1.identity.realm ≡ self.now.realm.now.number) }
         ensures future { IfErr result (λ error. refused error ≡ future) }
     {
+        let schedule = ExQueue::new(self.rt, share(self.rt, &self.state));
         let accepted = accept(
-            table.lock(&rt, unlocked).get(),
-            rt,
-            realm,
+            self.table.lock(&self.rt, unlocked).get(),
+            self.rt,
+            self.realm,
             schedule,
-            is_static,
+            self.is_static,
             mark,
             future,
             closed,
         );
         match &accepted {
-            Ok((runnable, _)) => self.follow(Saw::Entered(runnable.name())),
-            Err(SpawnError::Full(_)) => self.follow(Saw::Full),
-            Err(SpawnError::NoMemory(_)) => self.follow(Saw::NoMemory),
+            Ok((runnable, _)) => steps.follow(Saw::Entered(runnable.name())),
+            Err(SpawnError::Full(_)) => steps.follow(Saw::Full),
+            Err(SpawnError::NoMemory(_)) => steps.follow(Saw::NoMemory),
         }
         accepted
     }
+}
 
+impl Steps {
     /// An executor's drop takes all out of the table, as it has this room for their wakers.
     pub fn take_out<F>(
         &mut self,

@@ -7,16 +7,16 @@ ghost use Rattle.call_steps.specs.Todo.{below, top};
 ghost use Rattle.call_steps.specs.declared.step.CallStep.TheVariants as step;
 ghost use Rattle.call_steps.specs.declared.step.table.QueueStep.TheVariants as queue_step;
 ghost use Rattle.call_steps.specs.declared.step.table.TableStep.TheVariants as table_step;
-ghost use Rattle.async_executor.specs.Settling.{IsSettled};
-ghost use Rattle.async_executor.specs.Polling.{dropped_by, end_by, end_step};
+ghost use Rattle.async_executor.specs.Polling.{dropped_by, end_by, end_step, IsEndOf};
 
+use crate::body::Body;
 use crate::deeds::Steps;
 use crate::entry::Unlocked;
 use crate::marked::Marked;
-use crate::names::{ExClosing, ExRunning, ExWaker};
+use crate::names::{ExClosing, ExRunEnd, ExRunning, ExWaker};
 use crate::task_name::TaskName;
 use async_task::moves::{FutureDebt, Move, Owed};
-use async_task::{Back, Due, Output, OutsideWaker, RunEnd, Runtime, ScheduleInfo};
+use async_task::{Back, Due, Future, Output, OutsideWaker, RunEnd, Runtime, ScheduleInfo};
 use call_steps::Saw;
 use executor_parts::EntryPlace;
 use std::snapshot::Snapshot;
@@ -25,16 +25,6 @@ use std::snapshot::Snapshot;
 #[must_use]
 pub struct Polling<T: Output, W: OutsideWaker, R: Runtime> {
     running: ExRunning<T, W, R>,
-}
-
-/// What is left to do once a poll has ended. It has no drop.
-#[must_use]
-pub enum Settled<T: Output, W: OutsideWaker, R: Runtime> {
-    Over,
-    /// It was woken meanwhile, and is to be queued.
-    Due(Marked),
-    /// Its future is to be dropped.
-    Drop(EntryPlace, Dropping<T, W, R>),
 }
 
 /// A run whose future is dropped. It has no drop: it is finished.
@@ -65,40 +55,54 @@ impl<T: Output, W: OutsideWaker, R: Runtime> Polling<T, W, R> {
         self.running.waker()
     }
 
-    /// Ends the run, with no lock held. What is left to do is the answer.
+    /// Ends the run of a future of this executor that was polled, with no lock held. A task that was woken meanwhile is queued, and one
+    /// that was closed meanwhile loses its future. What has ended is matched where it is answered: it is large.
     #[inline(always)]
-    pub fn settle(
+    pub fn settle<F>(
         self,
+        body: &Body<F, T, W, R>,
         back: Back<EntryPlace, T>,
         name: &TaskName,
         steps: &mut Steps,
-        unlocked: &Unlocked,
-    ) -> Settled<T, W, R>
+        unlocked: &mut Unlocked,
+    )
+    where
+        F: Future<ExWaker<T, W, R>, Output = T> + Drop,
         requires named { identity_of self.running.waker ≡ Some name.now }
         requires ends { top steps.old ≡ Some (step.Move (end_by back) name.now) }
-        ensures { IsSettled result name.now (below steps.old) steps.new }
+        ensures { steps.new ≡ below steps.old }
     {
-        let _ = unlocked;
-        let Polling { running } = self;
-        match running.settle(back) {
-            RunEnd::Over => {
-                steps.see_moved(false);
-                Settled::Over
-            }
+        match self.end(back, name, unlocked) {
+            RunEnd::Over => steps.see_moved(false),
             RunEnd::Pause(pause) => match pause.into_due() {
                 Some(Due { runnable, info: _ }) => {
                     see_due(name, steps);
-                    Settled::Due(Marked::of(runnable))
+                    let marked = Marked::of(runnable);
+                    body.state
+                        .push_and_pay(body.rt, body.realm, steps, marked, unlocked);
                 }
-                None => {
-                    steps.see_moved(false);
-                    Settled::Over
-                }
+                None => steps.see_moved(false),
             },
             RunEnd::Drop(place, closing) => {
-                Settled::Drop(place, Dropping::left(closing, name, steps))
+                let dropping = Dropping::left(closing, name, steps);
+                body.drop_future(place, dropping, name, steps, unlocked);
             }
         }
+    }
+
+    #[inline(always)]
+    fn end(
+        self,
+        back: Back<EntryPlace, T>,
+        name: &TaskName,
+        unlocked: &Unlocked,
+    ) -> ExRunEnd<T, W, R>
+        requires { identity_of self.running.waker ≡ Some name.now }
+        ensures { IsEndOf back result name.now }
+    {
+        let (_, _) = (unlocked, name);
+        let Polling { running } = self;
+        running.settle(back)
     }
 }
 

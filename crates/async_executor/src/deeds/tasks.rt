@@ -10,10 +10,10 @@ ghost use Rattle.async_executor.specs.Calling.{called_kept, CallsKept};
 ghost use Rattle.async_executor.specs.Steps.{name_given, of_handed, sleeper_as};
 
 use super::Steps;
-use crate::due::Handed;
+use crate::due::{Handed, pay};
 use crate::entry::Unlocked;
 use crate::leaving::ToCall;
-use crate::names::{ExDue, ExRealm, ExStoredRunnable, ExWaker};
+use crate::names::{ExRealm, ExStoredRunnable, ExWaker};
 use crate::sleeping::SleeperWaker;
 use crate::task_name::TaskName;
 use async_task::{GoesBack, Output, OutsideWaker, Returning, Runtime, StoredWaker, Wake};
@@ -157,8 +157,8 @@ impl Steps {
         }
     }
 
-    /// The waker goes of an entry that left, which is of this task by reading alone. What is due then, which is nothing, is a part of
-    /// its own.
+    /// The waker goes of an entry that left, which is of this task by reading alone. What is due then, which is nothing, is handed over as a
+    /// part of its own.
     #[inline(always)]
     pub fn release_entry<T: Output, W: OutsideWaker, R: Runtime>(
         &mut self,
@@ -166,13 +166,13 @@ impl Steps {
         name: &TaskName,
         rt: R,
         realm: &'static ExRealm<T, W, R>,
-    ) -> Option<ExDue<T, W, R>>
+        unlocked: &mut Unlocked,
+    )
         requires { top self.old ≡ Some (step.Move move.Release name.now) }
         ensures { self.new ≡ below self.old }
     {
         let _ = name;
-        let due = waker.release(rt, realm);
         self.see_moved(false);
-        due
+        pay(rt, waker.release(rt, realm), unlocked);
     }
 }

@@ -59,7 +59,8 @@ where
     }
 
     /// As `spawn`, with this mark. An urgent future's task goes into the urgent queue, which seven of eight searches look at
-    /// before the other.
+    /// before the other. A tick and `try_tick` search for each task. A run searches only once its own queue of 512 is empty:
+    /// until then an urgent task waits, too. So mark little, and tick on one thread where it can't wait.
     pub fn spawn_marked(&self, future: F, mark: Mark) -> Result<ExTask<T, W, R>, SpawnError<F>>
         ensures future { IfErr result (λ error. refused error ≡ future) }
         ensures here { IfOk result (λ task. task.identity.realm ≡ self.now.body.realm.now.number) }

@@ -136,7 +136,7 @@ impl Runner {
         ensures room { self.new.room ≡ self.old.room }
     {
         let _ = reply;
-        let Some(runnable) = steps.take(At::Own(&self.own), None, rt) else {
+        let Some(runnable) = steps.take(&At::own(&self.own), None, rt) else {
             self.is_drained = true;
             return None;
         };

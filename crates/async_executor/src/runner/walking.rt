@@ -8,12 +8,12 @@ ghost use Rattle.async_executor.specs.Steps.{of_stored};
 
 use super::{Runner, Search, Searched};
 use crate::deeds::Steps;
+use crate::deeds::queues::steal::{Theft, steal};
 use crate::deeds::queues::{At, Queue};
 use crate::entry::Unlocked;
 use crate::names::ExStoredRunnable;
 use crate::own_queues::Numbered;
 use crate::state::State;
-use crate::steal::{Theft, steal};
 use crate::walks::Walk;
 use call_steps::Then;
 use std::alloc::Global;
@@ -91,11 +91,10 @@ impl Runner {
         search.go_to(left, behind, steps);
         let theft = Theft {
             name: search.name,
-            from: At::Own(queue),
             then: &Then::Walk(left),
             at: search.at,
         };
-        steal(rt, &self.own, &theft, steps)
+        steal(rt, &At::own(queue), &self.own, &theft, steps)
     }
 
     /// In a walk, looks into the own queue, with so many still to go to.

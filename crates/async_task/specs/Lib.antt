@@ -7,3 +7,4 @@ pub mod Errors
 pub mod Slots
 pub mod Looks
 pub mod Polls
+pub mod Ready

@@ -1,3 +1,6 @@
+ghost use Rattle.std.specs.Prelude.{◌≡◌};
+ghost use Rattle.async_task.specs.Ready.{is_pending, is_ready};
+
 /// What a poll answers.
 #[derive(Clone, Copy, Debug, PartialEq, Eq, Drop)]
 #[must_use]
@@ -6,6 +9,22 @@ pub enum Poll<T> {
     Ready(T),
     /// It isn't there yet: the waker of the poll is woken when it is worth another.
     Pending,
+}
+
+impl<T> Poll<T> {
+    /// Whether it is there.
+    pub fn is_ready(&self) -> bool
+        ensures { result ≡ is_ready self.now }
+    {
+        matches!(self, Poll::Ready(_))
+    }
+
+    /// Whether it isn't there yet.
+    pub fn is_pending(&self) -> bool
+        ensures { result ≡ is_pending self.now }
+    {
+        matches!(self, Poll::Pending)
+    }
 }
 
 /// A computation that is polled until it has an output. After the trait of the standard library,

@@ -7,6 +7,7 @@ use async_task::{Awaiter, Future, Output, Poll, Schedule, Scheduled, Wake};
 use crossbeam_utils::sync::{Parker, Unparker};
 use std::alloc::{AllocError, Global};
 use std::sync::Wait;
+use std::time::{Clock, Duration};
 
 /// Wakes the thread that waits in `block_on`: a waker from outside, for a future that awaits tasks.
 #[derive(Drop)]
@@ -73,6 +74,44 @@ where
             return Ok(output);
         }
         parker.park(rt);
+    }
+    unreachable!()
+}
+
+/// What a thread sees to between two polls of its future, before it parks: a timer, say.
+pub trait Beside<K> {
+    /// Sees to it, without a wait. Answers for how long the thread may park at most. Where something is to be seen to before that,
+    /// the waker is woken.
+    fn turn(&self, waker: &K) -> Option<Duration>;
+}
+
+/// `block_on` on a thread that sees to something else between two polls. It parks until its waker is woken, and no longer than that
+/// says.
+pub fn block_on_beside<K, F, B: Beside<K>, R: Wait + Clock>(
+    rt: &R,
+    alloc: Global,
+    beside: &B,
+    future: F,
+) -> Result<F::Output, F>
+where
+    K: From<ThreadWaker> + Drop,
+    F: Future<K> + Drop,
+    ensures { IfErr result (λ back. back ≡ future) }
+{
+    let (parker, thread) = match pair(alloc) {
+        Ok(both) => both,
+        Err(_) => return Err(future),
+    };
+    let waker = K::from(thread);
+    let mut future = future;
+    for _ in rt.forever() {
+        if let Poll::Ready(output) = future.poll(&waker) {
+            return Ok(output);
+        }
+        match beside.turn(&waker) {
+            Some(longest) => parker.park_timeout(rt, longest),
+            None => parker.park(rt),
+        }
     }
     unreachable!()
 }

@@ -4,7 +4,11 @@
 mod alone;
 #[cfg(test)]
 mod door;
+#[cfg(test)]
+mod midway;
 mod moving;
+#[cfg(test)]
+mod texts;
 #[cfg(test)]
 mod threads;
 

@@ -7,7 +7,7 @@ ghost use Rattle.local_executor.specs.Spawning.{SpawnsMany};
 ghost use Rattle.local_executor.specs.Starts.{drawn, seeded};
 
 use crate::body::Body;
-use crate::debug::show;
+use crate::debug::{LocalRunners, counts_of, show};
 use crate::errors::LocalError;
 use crate::{ending, making};
 use async_task::{Future, NoMemory, Wake};
@@ -84,7 +84,8 @@ where
     }
 
     /// As `spawn`, with this mark. An urgent future's task goes into the urgent queue, which seven of eight searches look at
-    /// before the other.
+    /// before the other. A tick and `try_tick` search for each task. A run searches only once its own queue of 512 is empty:
+    /// until then an urgent task waits, too. So mark little, and tick where it can't wait.
     pub fn spawn_marked(&self, future: F, mark: Mark) -> Result<LocalHandle<T, W, R>, SpawnError<F>>
         ensures back { IfErr result (λ error. refused error ≡ future) }
         ensures here { IfOk result (λ handle. handle.held.link.id ≡ self.now.body.link.id) }
@@ -186,11 +187,15 @@ impl<F: Drop, T: Drop, W: Wake + Drop, R: Wait + Copy + Drop> Drop for LocalExec
 impl<F: Drop, T: Drop, W: Wake + Drop, R: Wait + Copy + Drop> fmt::Debug
     for LocalExecutor<F, T, W, R> {
     fn fmt<O: fmt::Write>(&self, f: &mut fmt::Formatter<O>) -> fmt::Result {
-        show(
-            &self.body.link,
-            "LocalExecutor",
-            f,
-            &mut Unlocked::at_entry(),
-        )
+        let link = &self.body.link;
+        let counts = counts_of(link, Kind::Owned, &mut Unlocked::at_entry());
+        show(link, "LocalExecutor", counts, f)
+    }
+}
+
+impl<W: Drop, R: Wait + Copy + Drop> LocalRunners<'_, W, R> {
+    /// The length of the queue at this place, as a text comes to it.
+    pub(crate) fn length_at(&self, at: usize) -> Option<Option<usize>> {
+        self.length_in(at, &mut Unlocked::at_entry())
     }
 }

@@ -46,6 +46,14 @@ impl<T: Drop, W: Wake + Drop, R: Wait + Copy + Drop> Held<T, W, R> {
         sections::is_finished(self.link.lock(unlocked).get(), self.task)
     }
 
+    /// The same, where the lock is free.
+    pub fn is_finished_at_a_glance(&self, unlocked: &mut Unlocked) -> Option<bool> {
+        match self.link.try_lock(unlocked) {
+            Some(mut locked) => Some(sections::is_finished(locked.get(), self.task)),
+            None => None,
+        }
+    }
+
     /// Closes the task, where it isn't over.
     pub fn cancel(&self, unlocked: &mut Unlocked) {
         let owed = sections::cancel(self.link.lock(unlocked).get(), self.task);

@@ -1,10 +1,11 @@
 //! Slots in pages that double in size and never move, and a list of the slots that are free. No lock
 //! is taken to reach a slot, to find a free one or to give it back.
-ghost use Rattle.std.specs.Prelude.{◌<◌};
+ghost use Rattle.std.specs.Prelude.{◌<◌, ⊤};
 
 use crate::realm::Vacant;
+use boxcar::slot::{OnceSlot, SlotRule};
+use boxcar::tag::Tag;
 use std::alloc::{AllocError, Global};
-use std::sync::OnceLock;
 use std::sync::atomic::AtomicU64;
 use std::sync::atomic::Ordering::SeqCst;
 
@@ -22,11 +23,21 @@ const PLACES: usize = 0x100_0000;
 /// The part of `Pages::free` that has a place: no more than a place needs, so that the count of changes has 40 bits.
 const LINK: u64 = 0xff_ffff;
 
+/// What is set once may be anything.
+pub struct Anything;
+
+impl<T> SlotRule<T> for Anything {
+    ghost holds = { λ _ _. ⊤ };
+}
+
+/// What is set once, and then read by any thread. Nobody waits for it, so that to set it calls no system.
+type Once<T> = OnceSlot<T, Anything>;
+
 /// A place for a cell.
 #[derive(Drop)]
 pub struct Slot<C> {
     /// It is made when the place is first taken, and stays.
-    pub cell: OnceLock<C>,
+    pub cell: Once<C>,
     /// Where the slot is free: 1 more than the place of the next free one, or 0.
     next: AtomicU64,
 }
@@ -41,7 +52,7 @@ pub struct Pages<C> {
     free: AtomicU64,
     /// The places from this one on were never in use.
     used: AtomicU64,
-    pages: Vec<OnceLock<Vec<Slot<C>, Global>>, Global>,
+    pages: Vec<Once<Vec<Slot<C>, Global>>, Global>,
     alloc: Global,
 }
 
@@ -60,7 +71,7 @@ fn new_page<C: Drop>(alloc: Global, page: usize) -> Result<Vec<Slot<C>, Global>,
     let mut slots = Vec::with_capacity(alloc, len)?;
     for _ in 0..len {
         slots.push(Slot {
-            cell: OnceLock::new(),
+            cell: OnceSlot::new(&Tag::empty()),
             next: AtomicU64::new(0),
         })?;
     }
@@ -77,7 +88,7 @@ impl<C: Drop> Pages<C> {
     pub fn new(alloc: Global) -> Result<Pages<C>, AllocError> {
         let mut pages = Vec::with_capacity(alloc, PAGES)?;
         for _ in 0..PAGES {
-            pages.push(OnceLock::new())?;
+            pages.push(OnceSlot::new(&Tag::empty()))?;
         }
         Ok(Pages {
             free: AtomicU64::new(0),
@@ -152,7 +163,7 @@ impl<C: Drop> Pages<C> {
         requires { page < 19 }
     {
         let slots = new_page(self.alloc, page).ok()?;
-        let _ = self.pages.get(page)?.try_set(slots);
+        let _ = self.pages.get(page)?.set_written(slots);
         Some(())
     }
 }
@@ -179,7 +190,7 @@ impl<C: Vacant + Drop> Pages<C> {
     fn make_cell(&self, place: usize) -> Option<()> {
         let slot = self.slot(place)?;
         if slot.cell.get().is_none() {
-            let _ = slot.cell.try_set(C::vacant(self.alloc).ok()?);
+            let _ = slot.cell.set_written(C::vacant(self.alloc).ok()?);
         }
         Some(())
     }

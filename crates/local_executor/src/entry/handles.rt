@@ -1,10 +1,12 @@
 //! The handles of tasks of an executor of one thread. They stay on its thread.
 ghost use Rattle.std.specs.Prelude.{◌≡◌, false, true};
 
+use crate::debug::show_handle;
 use crate::entry::{LocalExWaker, Unlocked};
 use crate::foreign::Foreign;
 use crate::handle::{Found, Held};
 use async_task::{Future, NoMemory, Poll, TaskError, Wake};
+use std::fmt;
 use std::sync::Wait;
 
 /// The handle of a task. It is polled for the output. Its drop cancels the task.
@@ -169,5 +171,19 @@ impl<T: Drop, W: Wake + Drop, R: Wait + Copy + Drop> Drop for LocalCancel<T, W, 
         } else {
             held.cancel_and_leave(&mut Unlocked::at_entry());
         }
+    }
+}
+
+impl<T: Drop, W: Wake + Drop, R: Wait + Copy + Drop> fmt::Debug for LocalHandle<T, W, R> {
+    fn fmt<O: fmt::Write>(&self, f: &mut fmt::Formatter<O>) -> fmt::Result {
+        let is_finished = self.held.is_finished_at_a_glance(&mut Unlocked::at_entry());
+        show_handle("LocalHandle", is_finished, f)
+    }
+}
+
+impl<T: Drop, W: Wake + Drop, R: Wait + Copy + Drop> fmt::Debug for LocalFallible<T, W, R> {
+    fn fmt<O: fmt::Write>(&self, f: &mut fmt::Formatter<O>) -> fmt::Result {
+        let is_finished = self.held.is_finished_at_a_glance(&mut Unlocked::at_entry());
+        show_handle("LocalFallible", is_finished, f)
     }
 }

@@ -5,7 +5,7 @@ ghost use Rattle.local_executor.specs.Starts.{drawn, seeded};
 
 use super::{LocalExWaker, LocalHandle, LocalRun, LocalTick, Unlocked};
 use crate::body::Body;
-use crate::debug::show;
+use crate::debug::{counts_of, show};
 use crate::errors::LocalError;
 use crate::making;
 use async_task::{Future, NoMemory, Wake};
@@ -50,7 +50,8 @@ where
     }
 
     /// As `spawn`, with this mark. An urgent future's task goes into the urgent queue, which seven of eight searches look at
-    /// before the other.
+    /// before the other. A tick and `try_tick` search for each task. A run searches only once its own queue of 512 is empty:
+    /// until then an urgent task waits, too. So mark little, and tick where it can't wait.
     pub fn spawn_marked(&self, future: F, mark: Mark) -> Result<LocalHandle<T, W, R>, SpawnError<F>>
         ensures back { IfErr result (λ error. refused error ≡ future) }
         ensures here { IfOk result (λ handle. handle.held.link.id ≡ self.now.body.link.id) }
@@ -106,15 +107,12 @@ impl<F: Drop, T: Drop, W: Wake + Drop, R: Wait + Copy + Drop> Drop
     }
 }
 
-/// As that of a `LocalExecutor`.
+/// As that of a `LocalExecutor`, but that its table has no wakers: none is counted.
 impl<F: Drop, T: Drop, W: Wake + Drop, R: Wait + Copy + Drop> fmt::Debug
     for StaticLocalExecutor<F, T, W, R> {
     fn fmt<O: fmt::Write>(&self, f: &mut fmt::Formatter<O>) -> fmt::Result {
-        show(
-            &self.body.link,
-            "StaticLocalExecutor",
-            f,
-            &mut Unlocked::at_entry(),
-        )
+        let link = &self.body.link;
+        let counts = counts_of(link, Kind::Static, &mut Unlocked::at_entry());
+        show(link, "StaticLocalExecutor", counts, f)
     }
 }

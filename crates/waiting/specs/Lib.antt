@@ -1,6 +1,9 @@
+pub mod Acquiring
+pub mod Ascending
 pub mod Both
 pub mod Sending
 pub mod Slots
 pub mod Waiters
+pub mod Permits
 pub mod Kinds
 pub mod First

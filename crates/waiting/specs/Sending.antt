@@ -1,18 +1,21 @@
 -- The message that comes back.
-use Rattle.std.specs.Prelude.{◌≡◌, Option, Some, None, Result, Ok, Err}
+use Rattle.std.specs.Prelude.{◌≡◌, ℕ, IsSome, Option, Some, None, Result, Ok, Err}
 use Rattle.async_task.specs.declared.poll.Poll.{Poll}
 use Rattle.async_task.specs.declared.poll.Poll.TheVariants.{Ready, Pending}
 use Rattle.waiting.specs.declared.channel.errors.TrySendError.{TrySendError}
 use Rattle.waiting.specs.declared.channel.errors.TrySendError.TheVariants as tried
 use Rattle.waiting.specs.declared.channel.errors.SendError.{SendError}
 use Rattle.waiting.specs.declared.channel.errors.SendError.TheVariants as unsent
-use Rattle.waiting.specs.declared.channel.sender.Tried.{Tried}
-use Rattle.waiting.specs.declared.channel.sender.Tried.TheVariants.{Sent, Refused, Waits, Again}
+use Rattle.waiting.specs.declared.channel.sending.Tried.{Tried}
+use Rattle.waiting.specs.declared.channel.sending.Tried.TheVariants.{Sent, Refused, Waits, Again}
 
 module _ {T : Type 0} where
-  abbrev pub try_sent : TrySendError T → T
-  try_sent (tried.Full message) = message
-  try_sent (tried.Closed message) = message
+  -- a try with this message, in a channel of so many places: a message that isn't sent comes back
+  abbrev pub MayTrySend : {X : Type 0} → Option ℕ → T → Result X (TrySendError T) → Type 0
+  MayTrySend places message (Ok _) = Unit {0}
+  MayTrySend places message (Err (tried.Full back)) = IsSome places × (back ≡ message)
+  MayTrySend places message (Err (tried.Closed back)) = back ≡ message
+  MayTrySend places message (Err (tried.NoMemory back)) = (places ≡ None) × (back ≡ message)
 
   abbrev pub refused : SendError T → T
   refused (unsent.Closed message) = message

@@ -13,6 +13,11 @@ module _ {T : Type 0} {K : Type 0} where
   is_open (Full _) = false
   is_open Closed = false
 
+  -- no value is to come or to be taken any more
+  abbrev pub is_shut : Slot T K → Bool
+  is_shut Closed = true
+  is_shut _ = false
+
   -- the waker of who waits
   abbrev pub waker_left : Slot T K → Option K
   waker_left (Waited waker) = Some waker

@@ -1,9 +1,9 @@
 ghost use Rattle.std.specs.Arc.{arc_value};
 ghost use Rattle.std.specs.Prelude.{◌≡◌, IfOk};
 
-use crate::guarded::Guarded;
+use crate::listed::Listed;
 use crate::listener::Listener;
-use crate::waiters::{Call, Waiters};
+use crate::waiters::Call;
 use async_task::{NoMemory, Wake};
 use std::alloc::Global;
 use std::sync::{Arc, Wait};
@@ -12,7 +12,7 @@ use std::sync::{Arc, Wait};
 /// one who came first, or all; it stays that one's until it is used or passed on, and one with nobody to hear it is gone. So
 /// who waits for a fact listens first, then looks whether it holds, and then awaits the listener. Its waker's type is `K`.
 ///
-/// Wakers are called and dropped with no lock held, and a call takes no memory.
+/// Wakers are called and dropped with no lock held, and a call takes no memory. Where nobody waits it takes no lock.
 ///
 /// ```
 /// let event = Event::<Nobody, _>::new(rt, rt.alloc())?;
@@ -24,7 +24,7 @@ use std::sync::{Arc, Wait};
 /// ```
 #[derive(Drop)]
 pub struct Event<K: Wake + Drop, R: Wait + Copy + Drop> {
-    waiters: Arc<Guarded<Waiters<K>>>,
+    waiters: Arc<Listed<K>>,
     rt: R,
 }
 
@@ -33,7 +33,7 @@ impl<K: Wake + Drop, R: Wait + Copy + Drop> Event<K, R> {
     pub fn new(rt: R, alloc: Global) -> Result<Self, NoMemory>
         ensures { IfOk result (λ event. event.rt ≡ rt) }
     {
-        match Arc::new(alloc, Guarded::new(Waiters::new(alloc))) {
+        match Arc::new(alloc, Listed::new(alloc)) {
             Ok(waiters) => Ok(Event { waiters, rt }),
             Err(_) => Err(NoMemory),
         }
@@ -52,7 +52,8 @@ impl<K: Wake + Drop, R: Wait + Copy + Drop> Event<K, R> {
         }
     }
 
-    /// Listens from now on: a future that is ready once it was told. It takes memory for its place in the list.
+    /// Listens from now on: a future that is ready once it was told. It takes memory for its place in the list where others wait
+    /// already.
     pub fn listen(&self) -> Result<Listener<K, R>, NoMemory>
         ensures here { IfOk result (λ listener. arc_value listener.event.waiters ≡ arc_value self.now.waiters) }
     {
@@ -60,8 +61,7 @@ impl<K: Wake + Drop, R: Wait + Copy + Drop> Event<K, R> {
             Ok(event) => event,
             Err(error) => return Err(error),
         };
-        let listening = self.waiters.lock(&self.rt).listen();
-        match listening {
+        match self.waiters.listen(&self.rt) {
             Ok(listening) => Ok(Listener::new(self.rt, event, listening)),
             Err(_) => Err(NoMemory),
         }
@@ -69,15 +69,13 @@ impl<K: Wake + Drop, R: Wait + Copy + Drop> Event<K, R> {
 
     /// Tells the one who has waited longest of those who weren't told yet. Answers whether one waited.
     pub fn notify(&self) -> bool {
-        let told = self.waiters.lock(&self.rt).tell();
-        reach(told)
+        reach(self.waiters.tell(&self.rt))
     }
 
     /// Tells all who wait now. Answers how many.
     pub fn notify_all(&self) -> u64 {
-        let waiting = self.waiters.lock(&self.rt).len();
         let mut number = 0u64;
-        for _ in 0..waiting {
+        for _ in 0..self.waiters.len() {
             if !self.notify() {
                 break;
             }
@@ -88,11 +86,10 @@ impl<K: Wake + Drop, R: Wait + Copy + Drop> Event<K, R> {
 
     /// Tells the next in the place of one who was told and leaves.
     pub(crate) fn pass_on(&self, call: Call) {
-        let told = self.waiters.lock(&self.rt).pass_on(call);
-        let _ = reach(told);
+        let _ = reach(self.waiters.pass_on(&self.rt, call));
     }
 
-    pub(crate) fn waiters(&self) -> &Guarded<Waiters<K>> {
+    pub(crate) fn waiters(&self) -> &Listed<K> {
         &*self.waiters
     }
 }

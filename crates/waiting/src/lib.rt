@@ -1,18 +1,23 @@
-//! What waits, for any waker: futures that are ready or never are, both of two, the first of two, events, one value for one
-//! receiver, and bounded channels.
+//! What waits, for any waker: futures that are ready or never are, both of two, the first of two, events, semaphores, one value for
+//! one receiver, and channels.
 #![tactic(auto)]
 
 mod both;
 mod called;
 pub mod channel;
+mod entries;
 mod event;
 mod first;
 mod guarded;
 mod kinds;
+mod listed;
 mod listener;
 mod making;
 mod now;
 pub mod oneshot;
+pub mod parts;
+mod permits;
+pub mod semaphore;
 mod slot;
 mod waiters;
 
@@ -22,5 +27,3 @@ pub use first::{Either, Select};
 pub use listener::Listener;
 pub use making::{join, pending, ready, select, yield_now};
 pub use now::{Never, Ready, YieldNow};
-pub use slot::{Over, Received, Slot};
-pub use waiters::{Call, Left, Listening, Looked, Waiters, WasTold};

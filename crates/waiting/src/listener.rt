@@ -35,8 +35,7 @@ impl<K: Wake + Drop, R: Wait + Copy + Drop> Listener<K, R> {
 
 /// Leaves, and tells the next where it was told.
 fn leave<K: Wake + Drop, R: Wait + Copy + Drop>(rt: &R, event: &Event<K, R>, listening: Listening) {
-    let left = event.waiters().lock(rt).leave(listening);
-    match left {
+    match event.waiters().leave(rt, listening) {
         Left::Told(call) => event.pass_on(call),
         Left::Untold(_waker) => {}
     }
@@ -60,8 +59,7 @@ impl<K: Wake + Drop, R: Wait + Copy + Drop> Future<K> for Listener<K, R> {
         };
         let copy = waker.clone();
         let is_left = copy.is_some();
-        let looked = self.event.waiters().lock(&self.rt).look(listening, copy);
-        match looked {
+        match self.event.waiters().look(&self.rt, listening, copy) {
             Looked::Told(call, _waker) => {
                 self.told = Some(call.take());
                 Poll::Ready(())

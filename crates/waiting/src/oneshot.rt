@@ -70,6 +70,13 @@ impl<T: Drop, K: Wake + Drop, R: Wait + Copy + Drop> Sender<T, K, R> {
     }
 }
 
+impl<T: Drop, K: Wake + Drop, R: Wait + Copy + Drop> Sender<T, K, R> {
+    /// Whether the receiver went: so it stays, and a value is refused.
+    pub fn is_canceled(&self) -> bool {
+        self.slot.lock(&self.rt).is_closed()
+    }
+}
+
 impl<T: Drop, K: Wake + Drop, R: Wait + Copy + Drop> Drop for Sender<T, K, R> {
     fn drop(self) {
         let Sender { slot, rt } = self;

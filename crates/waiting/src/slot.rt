@@ -1,7 +1,7 @@
 //! The place where one value is handed on.
 ghost use Rattle.std.specs.Prelude.{◌≡◌, Some, None, IfOk, IfErr, OnOk, is_ok};
 ghost use Rattle.waiting.specs.declared.slot.Slot.TheVariants as slot;
-ghost use Rattle.waiting.specs.Slots.{HasReceived, HasEnded, is_open, waited_with, waker_left};
+ghost use Rattle.waiting.specs.Slots.{HasReceived, HasEnded, is_open, is_shut, waited_with, waker_left};
 
 use std::mem;
 
@@ -100,6 +100,13 @@ impl<T: Drop, K: Drop> Slot<T, K> {
         ensures closed { self.new ≡ slot.Closed }
     {
         mem::replace(self, Slot::Closed)
+    }
+
+    /// Whether no value is to come or to be taken any more.
+    pub fn is_closed(&self) -> bool
+        ensures { result ≡ is_shut self.now }
+    {
+        matches!(self, Slot::Closed)
     }
 
     fn of(waker: Option<K>) -> Slot<T, K>

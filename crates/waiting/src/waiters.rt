@@ -1,10 +1,11 @@
 //! The list of those who wait for a call.
-ghost use Rattle.std.specs.Prelude.{◌≡◌, ◌+◌, ◌<◌, [], Some, None, OnOk, IfOk, OnErr, IfSome, length};
-ghost use Rattle.waiting.specs.Waiters.{first_waker, HasLeft, HasLooked, listened, position_of, told};
+ghost use Rattle.std.specs.Prelude.{◌≡◌, [], OnOk, IfOk, OnErr, length};
+ghost use Rattle.waiting.specs.Waiters.{first_waker, HasLeft, HasLooked, listened, told};
 
+use crate::entries::{First, Rest, append, pop, put, take};
 use std::alloc::{AllocError, Global};
+use std::collections::BTreeMap;
 use std::marker::Model;
-use std::mem;
 
 /// Those who wait, each under a number, with the wakers that they left last, in the order in which they came. One was told
 /// when its number is missing from the list. Each call is one section of whoever locks the list; `listen` alone takes memory.
@@ -12,7 +13,10 @@ use std::mem;
 #[derive(Drop)]
 pub struct Waiters<K> {
     next: u64,
-    waiting: Vec<(u64, Option<K>)>,
+    // One who came when nobody waited.
+    first: First<K>,
+    // Who came after it.
+    rest: Rest<K>,
 }
 
 /// The number of one who waits. It has no drop: who has it looks or leaves.
@@ -62,38 +66,27 @@ impl Call {
 }
 
 impl<K> Model for Waiters<K> {
+    ghost use Rattle.waiting.specs.Ascending.{Ascends as IsAscending, before};
     ghost use Rattle.waiting.specs.Waiters.{Waiters as List, waiters_code};
 
     ghost Value = { List K };
 
     ghost coded = { waiters_code K.code };
 
-    ghost view = { λ w. record { next = w.next; waiting = w.waiting.items } };
+    ghost view = { λ w. record { next = w.next; waiting = before w.first w.rest.entries } };
+
+    ghost invariant = { λ w. IsAscending 0 w.next (before w.first w.rest.entries) };
 }
 
-/// Where the last entry of this number is.
-fn find<K>(waiting: &[(u64, Option<K>)], number: u64) -> Option<usize>
-    ensures place { result ≡ position_of number waiting.now }
-    ensures within { IfSome result (λ at. at < length waiting.now) }
-{
-    let mut at = waiting.len();
-    while at > 0 {
-        at -= 1;
-        if waiting[at].0 == number {
-            return Some(at);
-        }
-    }
-    None
-}
-
-impl<K> Waiters<K> {
+impl<K: Drop> Waiters<K> {
     /// Nobody waits. Takes no memory.
     pub fn new(alloc: Global) -> Self
         ensures { result ≡ record { next = 0; waiting = [] } }
     {
         Waiters {
             next: 0,
-            waiting: Vec::new(alloc),
+            first: None,
+            rest: BTreeMap::new(alloc),
         }
     }
 
@@ -101,7 +94,10 @@ impl<K> Waiters<K> {
     pub fn len(&self) -> usize
         ensures { result ≡ length self.now.waiting }
     {
-        self.waiting.len()
+        match &self.first {
+            Some(_) => self.rest.len() + 1,
+            None => self.rest.len(),
+        }
     }
 
     /// One more waits, the last of all. Refused, for want of memory or after 2^64 - 1 of them, nothing changes.
@@ -114,8 +110,7 @@ impl<K> Waiters<K> {
         if number == u64::MAX {
             return Err(AllocError);
         }
-        self.waiting.reserve(1)?;
-        self.waiting.push_reserved((number, None));
+        append(&mut self.first, &mut self.rest, number)?;
         self.next = number + 1;
         Ok(Listening { number })
     }
@@ -125,10 +120,7 @@ impl<K> Waiters<K> {
         ensures first { result ≡ first_waker self.old.waiting }
         ensures told { self.new ≡ told self.old }
     {
-        if self.waiting.is_empty() {
-            return None;
-        }
-        Some(self.waiting.remove(0).1)
+        pop(&mut self.first, &mut self.rest)
     }
 
     /// Passes a call on to the one who came first, as `tell` does.
@@ -144,13 +136,9 @@ impl<K> Waiters<K> {
     pub fn look(&mut self, listening: Listening, waker: Option<K>) -> Looked<K>
         ensures { HasLooked listening.number waker self.old self.new result }
     {
-        match find(self.waiting.as_slice(), listening.number) {
-            Some(at) => {
-                let entry = (listening.number, waker);
-                let (_, before) = mem::replace(&mut self.waiting[at], entry);
-                Looked::Waits(listening, before)
-            }
-            None => {
+        match put(&mut self.first, &mut self.rest, listening.number, waker) {
+            Ok(before) => Looked::Waits(listening, before),
+            Err(waker) => {
                 let Listening { number: _ } = listening;
                 Looked::Told(Call { own: () }, waker)
             }
@@ -162,8 +150,8 @@ impl<K> Waiters<K> {
         ensures { HasLeft listening.number self.old self.new result }
     {
         let Listening { number } = listening;
-        match find(self.waiting.as_slice(), number) {
-            Some(at) => Left::Untold(self.waiting.remove(at).1),
+        match take(&mut self.first, &mut self.rest, number) {
+            Some(waker) => Left::Untold(waker),
             None => Left::Told(Call { own: () }),
         }
     }

@@ -1,6 +1,6 @@
 //! A channel's queue, and what has to be told of each of its changes.
-ghost use Rattle.std.specs.Prelude.{◌≡◌, ◌<◌, ◌≤◌, IfErr, IfOk, IfSome, Some};
-ghost use Rattle.waiting.specs.Sending.{try_sent};
+ghost use Rattle.std.specs.Prelude.{◌≡◌, ◌<◌, ◌≤◌, IfOk, IfSome, None, Some, false};
+ghost use Rattle.waiting.specs.Sending.{MayTrySend};
 
 use crate::channel::errors::TrySendError;
 use crate::event::Event;
@@ -55,7 +55,8 @@ pub struct Shut {
 }
 
 impl<T: Drop> Line<T> {
-    pub fn new(alloc: Global, places: usize) -> Result<Self, NoMemory>
+    /// With so many places.
+    pub fn bounded(alloc: Global, places: usize) -> Result<Self, NoMemory>
         requires { 0 < places }
         ensures { IfOk result (λ line. line.queue.capacity ≡ Some places) }
     {
@@ -65,16 +66,24 @@ impl<T: Drop> Line<T> {
         }
     }
 
+    /// With as many places as memory holds.
+    pub fn unbounded(alloc: Global) -> Self
+        ensures { result.queue.capacity ≡ None }
+    {
+        Line {
+            queue: ConcurrentQueue::unbounded(alloc),
+        }
+    }
+
     /// Appends the message.
     pub fn push<R: Wait>(&self, rt: &R, message: T) -> Result<Came, TrySendError<T>>
-        ensures { IfErr result (λ error. try_sent error ≡ message) }
+        ensures { MayTrySend self.now.queue.capacity message result }
     {
         match self.queue.push(rt, message) {
             Ok(()) => Ok(Came { own: () }),
             Err(PushError::Closed(message)) => Err(TrySendError::Closed(message)),
-            Err(PushError::Full(message) | PushError::NoMemory(message)) => Err(TrySendError::Full(
-                message,
-            )),
+            Err(PushError::Full(message)) => Err(TrySendError::Full(message)),
+            Err(PushError::NoMemory(message)) => Err(TrySendError::NoMemory(message)),
         }
     }
 
@@ -100,6 +109,30 @@ impl<T: Drop> Line<T> {
     {
         self.queue.len(rt)
     }
+
+    /// Whether there is none.
+    pub fn is_empty<R: Wait>(&self, rt: &R) -> bool {
+        self.queue.is_empty(rt)
+    }
+
+    /// Whether each place has one.
+    pub fn is_full<R: Wait>(&self, rt: &R) -> bool
+        ensures { (self.now.queue.capacity ≡ None) → (result ≡ false) }
+    {
+        self.queue.is_full(rt)
+    }
+
+    /// Whether it takes no message any more.
+    pub fn is_closed<R: Wait>(&self, rt: &R) -> bool {
+        self.queue.is_closed(rt)
+    }
+
+    /// How many places there are.
+    pub fn capacity(&self) -> Option<usize>
+        ensures { result ≡ self.now.queue.capacity }
+    {
+        self.queue.capacity()
+    }
 }
 
 impl Came {
@@ -121,9 +154,10 @@ impl Freed {
 
 impl Shut {
     /// Tells all who wait. Answers whether the channel was open.
-    pub fn tell<K, R>(self, places: &Event<K, R>, messages: &Event<K, R>) -> bool
+    pub fn tell<A, B, R>(self, places: &Event<A, R>, messages: &Event<B, R>) -> bool
     where
-        K: Wake + Drop,
+        A: Wake + Drop,
+        B: Wake + Drop,
         R: Wait + Copy + Drop,
         ensures { result ≡ self.was_open }
     {

@@ -1,32 +1,39 @@
 ghost use Rattle.std.specs.Arc.{arc_value};
-ghost use Rattle.std.specs.Prelude.{◌≡◌, ◌≤◌, Err, None, IfOk, IfSome, IsSome};
+ghost use Rattle.std.specs.Prelude.{◌≡◌, ◌≤◌, Err, None, IfOk, IfSome, IsSome, false};
 ghost use Rattle.async_task.specs.declared.poll.Poll.TheVariants as poll;
 ghost use Rattle.waiting.specs.declared.channel.errors.RecvError.TheVariants as recv;
+ghost use Rattle.waiting.specs.declared.channel.receiving.Heard.TheVariants as heard;
 
 use crate::channel::errors::{RecvError, TryRecvError};
 use crate::channel::line::{Ended, Nothing};
-use crate::channel::shared::{Shared, Turn, go_on};
+use crate::channel::receiving::{Heard, receive_or_wait};
+use crate::channel::shared::Shared;
 use crate::listener::Listener;
 use async_task::{Future, NoMemory, Poll, Wake};
 use std::sync::atomic::Ordering::SeqCst;
 use std::sync::{Arc, Wait};
 
-/// Receives messages, each of which one receiver gets, the oldest first. The drop of the last receiver closes the channel.
-pub struct Receiver<T: Drop, K: Wake + Drop, R: Wait + Copy + Drop> {
-    shared: Arc<Shared<T, K, R>>,
-    waiting: Option<Listener<K, R>>,
+/// Receives messages, each of which one receiver gets, the oldest first. The drop of the last receiver closes the channel, and drops
+/// the messages that are left.
+pub struct Receiver<T: Drop, A: Wake + Drop, B: Wake + Drop, R: Wait + Copy + Drop> {
+    shared: Arc<Shared<T, A, B, R>>,
+    waiting: Option<Listener<B, R>>,
     // Once it has answered that nothing comes any more.
     ended: Option<Ended>,
 }
 
-/// Receives a message: a future that is ready once one came, or the channel is closed and empty. Dropped before, it takes none.
+/// Receives a message: a future that is ready once one came, or the channel is closed and empty. Dropped before, it takes none, and
+/// waits no more: a call that came for it goes on to the next who waits.
 #[derive(Drop)]
-pub struct Recv<'a, T: Drop, K: Wake + Drop, R: Wait + Copy + Drop> {
-    receiver: &'a mut Receiver<T, K, R>,
+pub struct Recv<'a, T: Drop, A: Wake + Drop, B: Wake + Drop, R: Wait + Copy + Drop> {
+    receiver: &'a Receiver<T, A, B, R>,
+    waiting: Option<Listener<B, R>>,
+    // Once it has answered that nothing comes any more.
+    ended: Option<Ended>,
 }
 
-impl<T: Drop, K: Wake + Drop, R: Wait + Copy + Drop> Receiver<T, K, R> {
-    pub(crate) fn new(shared: Arc<Shared<T, K, R>>) -> Self
+impl<T: Drop, A: Wake + Drop, B: Wake + Drop, R: Wait + Copy + Drop> Receiver<T, A, B, R> {
+    pub(crate) fn new(shared: Arc<Shared<T, A, B, R>>) -> Self
         ensures shared { result.shared ≡ shared }
         ensures waits_not { result.waiting ≡ None }
     {
@@ -60,37 +67,42 @@ impl<T: Drop, K: Wake + Drop, R: Wait + Copy + Drop> Receiver<T, K, R> {
     }
 
     /// Receives a message, and waits for one.
-    pub fn recv(&mut self) -> Recv<'_, T, K, R>
-        ensures { result.receiver.ghost_name ≡ self.entry.ghost_name }
+    pub fn recv(&self) -> Recv<'_, T, A, B, R>
+        ensures receiver { result.receiver.now ≡ self.now }
+        ensures waits_not { result.waiting ≡ None }
     {
-        Recv { receiver: self }
+        Recv {
+            receiver: self,
+            waiting: None,
+            ended: None,
+        }
     }
 
-    /// As the poll of `recv`, for a future that has the receiver in a field. It takes memory where it has to wait.
-    pub fn poll_recv(&mut self, waker: &K) -> Poll<Result<T, RecvError>>
+    /// As the poll of `recv`, for a future that has the receiver in a field. It takes memory where it has to wait. Who was told to
+    /// wait and won't poll again calls `give_up`, or drops the receiver: until then a call may come that others wait for.
+    pub fn poll_recv(&mut self, waker: &B) -> Poll<Result<T, RecvError>>
         ensures waits { result ≡ poll.Pending → IsSome self.new.waiting }
         ensures over { result ≡ poll.Ready (Err recv.Closed) → IsSome self.new.ended }
     {
-        for _ in self.shared.rt().forever() {
-            match self.shared.try_recv() {
-                Ok(message) => {
-                    self.waiting = None;
-                    return Poll::Ready(Ok(message));
-                }
-                Err(Nothing::Over(ended)) => {
-                    self.waiting = None;
-                    self.ended = Some(ended);
-                    return Poll::Ready(Err(RecvError::Closed));
-                }
-                Err(Nothing::Empty) => {}
-            }
-            match go_on(self.shared.messages(), &mut self.waiting, waker) {
-                Ok(Turn::Looks) => {}
-                Ok(Turn::Waits) => return Poll::Pending,
-                Err(NoMemory) => return Poll::Ready(Err(RecvError::NoMemory)),
-            }
-        }
-        unreachable!()
+        answer(
+            receive_or_wait(&*self.shared, &mut self.waiting, waker),
+            &mut self.ended,
+        )
+    }
+
+    /// Waits no more, after a `poll_recv` that was pending: a call that came for it goes on to the next who waits. It may receive
+    /// again. It takes no memory.
+    pub fn give_up(&mut self)
+        ensures waits_not { self.new.waiting ≡ None }
+        ensures same { (self.new.shared ≡ self.old.shared) × (self.new.ended ≡ self.old.ended) }
+    {
+        drop(self.waiting.take());
+    }
+
+    fn shared(&self) -> &Shared<T, A, B, R>
+        ensures { result.now ≡ arc_value self.now.shared }
+    {
+        &*self.shared
     }
 
     /// Closes the channel: nothing is sent any more, what was sent can still be received, and all who wait are told. Answers
@@ -105,10 +117,50 @@ impl<T: Drop, K: Wake + Drop, R: Wait + Copy + Drop> Receiver<T, K, R> {
     {
         self.shared.len()
     }
+
+    /// Whether there is no message, which others may change at once.
+    pub fn is_empty(&self) -> bool {
+        self.shared.is_empty()
+    }
+
+    /// Whether each place has a message, which others may change at once.
+    pub fn is_full(&self) -> bool
+        ensures { ((arc_value self.now.shared).line.queue.capacity ≡ None) → (result ≡ false) }
+    {
+        self.shared.is_full()
+    }
+
+    /// Whether the channel is closed: so it stays.
+    pub fn is_closed(&self) -> bool {
+        self.shared.is_closed()
+    }
+
+    /// How many places the channel has.
+    pub fn capacity(&self) -> Option<usize>
+        ensures { result ≡ (arc_value self.now.shared).line.queue.capacity }
+    {
+        self.shared.capacity()
+    }
 }
 
-impl<T: Drop, K: Wake + Drop, R: Wait + Copy + Drop> Drop for Receiver<T, K, R> {
-    /// Leaves those who wait, and closes the channel where it is the last receiver.
+/// What a poll answers. It keeps the end that it found.
+fn answer<T>(found: Heard<T>, end: &mut Option<Ended>) -> Poll<Result<T, RecvError>>
+    ensures waits { result ≡ poll.Pending → found ≡ heard.Waits }
+    ensures over { result ≡ poll.Ready (Err recv.Closed) → IsSome end.new }
+{
+    match found {
+        Heard::Message(message) => Poll::Ready(Ok(message)),
+        Heard::Waits => Poll::Pending,
+        Heard::Over(ended) => {
+            *end = Some(ended);
+            Poll::Ready(Err(RecvError::Closed))
+        }
+        Heard::NoMemory => Poll::Ready(Err(RecvError::NoMemory)),
+    }
+}
+
+impl<T: Drop, A: Wake + Drop, B: Wake + Drop, R: Wait + Copy + Drop> Drop for Receiver<T, A, B, R> {
+    /// Leaves those who wait. Where it is the last receiver it closes the channel, and drops the messages that are left.
     fn drop(self) {
         let Receiver {
             shared,
@@ -118,18 +170,23 @@ impl<T: Drop, K: Wake + Drop, R: Wait + Copy + Drop> Drop for Receiver<T, K, R> 
         drop(waiting);
         if shared.receivers.fetch_sub(1, SeqCst) == 1 {
             shared.close();
+            let _ended = shared.drain();
         }
     }
 }
 
-impl<'a, T: Drop, K: Wake + Drop, R: Wait + Copy + Drop> Future<K> for Recv<'a, T, K, R> {
+impl<'a, T: Drop, A: Wake + Drop, B: Wake + Drop, R: Wait + Copy + Drop> Future<B>
+    for Recv<'a, T, A, B, R> {
     type Output = Result<T, RecvError>;
 
-    fn poll(&mut self, waker: &K) -> Poll<Result<T, RecvError>>
-        ensures receiver { self.new.receiver.ghost_name ≡ self.old.receiver.ghost_name }
-        ensures waits { result ≡ poll.Pending → IsSome self.new.receiver.now.waiting }
-        ensures over { result ≡ poll.Ready (Err recv.Closed) → IsSome self.new.receiver.now.ended }
+    fn poll(&mut self, waker: &B) -> Poll<Result<T, RecvError>>
+        ensures receiver { self.new.receiver ≡ self.old.receiver }
+        ensures waits { result ≡ poll.Pending → IsSome self.new.waiting }
+        ensures over { result ≡ poll.Ready (Err recv.Closed) → IsSome self.new.ended }
     {
-        self.receiver.poll_recv(waker)
+        answer(
+            receive_or_wait(self.receiver.shared(), &mut self.waiting, waker),
+            &mut self.ended,
+        )
     }
 }

@@ -1,44 +1,36 @@
 ghost use Rattle.std.specs.Arc.{arc_value};
-ghost use Rattle.std.specs.Prelude.{◌≡◌, None, Some, IfErr, IfOk, IsSome, Ok};
+ghost use Rattle.std.specs.Prelude.{◌≡◌, ◌≤◌, None, Some, IfOk, IfSome, IsSome, Ok, false};
 ghost use Rattle.async_task.specs.declared.poll.Poll.TheVariants as poll;
-ghost use Rattle.waiting.specs.Sending.{try_sent, HasTried, IsBack, IsSentOrBack};
+ghost use Rattle.waiting.specs.Sending.{IsBack, IsSentOrBack, MayTrySend};
 
 use crate::channel::errors::{SendError, TrySendError};
 use crate::channel::line::Sent;
-use crate::channel::shared::{Shared, Turn, go_on};
+use crate::channel::sending::{Tried, send_or_wait};
+use crate::channel::shared::Shared;
 use crate::listener::Listener;
 use async_task::{Future, NoMemory, Poll, Wake};
 use std::sync::atomic::Ordering::SeqCst;
 use std::sync::{Arc, Wait};
 
 /// Sends messages. The drop of the last sender closes the channel: what was sent can still be received.
-pub struct Sender<T: Drop, K: Wake + Drop, R: Wait + Copy + Drop> {
-    shared: Arc<Shared<T, K, R>>,
-    waiting: Option<Listener<K, R>>,
+pub struct Sender<T: Drop, A: Wake + Drop, B: Wake + Drop, R: Wait + Copy + Drop> {
+    shared: Arc<Shared<T, A, B, R>>,
+    waiting: Option<Listener<A, R>>,
 }
 
 /// Sends a message: a future that is ready once it was sent, or the channel is closed. Dropped before that, it drops the message,
-/// which wasn't sent.
+/// which wasn't sent, and waits no more: a call that came for it goes on to the next who waits.
 #[derive(Drop)]
-pub struct Send<'a, T: Drop, K: Wake + Drop, R: Wait + Copy + Drop> {
-    sender: &'a mut Sender<T, K, R>,
+pub struct Send<'a, T: Drop, A: Wake + Drop, B: Wake + Drop, R: Wait + Copy + Drop> {
+    sender: &'a Sender<T, A, B, R>,
+    waiting: Option<Listener<A, R>>,
     message: Option<T>,
     // Once it was sent.
     sent: Option<Sent>,
 }
 
-/// What a try to send came to.
-pub(crate) enum Tried<T> {
-    Sent(Sent),
-    Refused(SendError<T>),
-    /// No place is free, and the waker is called when one is.
-    Waits(T),
-    /// No place was free; one may be now.
-    Again(T),
-}
-
-impl<T: Drop, K: Wake + Drop, R: Wait + Copy + Drop> Sender<T, K, R> {
-    pub(crate) fn new(shared: Arc<Shared<T, K, R>>) -> Self
+impl<T: Drop, A: Wake + Drop, B: Wake + Drop, R: Wait + Copy + Drop> Sender<T, A, B, R> {
+    pub(crate) fn new(shared: Arc<Shared<T, A, B, R>>) -> Self
         ensures shared { result.shared ≡ shared }
         ensures waits_not { result.waiting ≡ None }
     {
@@ -63,7 +55,7 @@ impl<T: Drop, K: Wake + Drop, R: Wait + Copy + Drop> Sender<T, K, R> {
 
     /// Sends a message where a place is free, and tells one who waits for it. It takes no memory.
     pub fn try_send(&self, message: T) -> Result<(), TrySendError<T>>
-        ensures { IfErr result (λ error. try_sent error ≡ message) }
+        ensures { MayTrySend (arc_value self.now.shared).line.queue.capacity message result }
     {
         match self.shared.try_send(message) {
             Ok(_sent) => Ok(()),
@@ -72,22 +64,25 @@ impl<T: Drop, K: Wake + Drop, R: Wait + Copy + Drop> Sender<T, K, R> {
     }
 
     /// Sends a message, and waits for a place.
-    pub fn send(&mut self, message: T) -> Send<'_, T, K, R>
+    pub fn send(&self, message: T) -> Send<'_, T, A, B, R>
         ensures message { result.message ≡ Some message }
-        ensures sender { result.sender.ghost_name ≡ self.entry.ghost_name }
+        ensures sender { result.sender.now ≡ self.now }
+        ensures waits_not { result.waiting ≡ None }
     {
         Send {
             sender: self,
+            waiting: None,
             message: Some(message),
             sent: None,
         }
     }
 
     /// As the poll of `send`, for a future that has the sender in a field: sends the message that is there, and takes it out once
-    /// it was sent. One that wasn't sent stays. It takes memory where it has to wait.
+    /// it was sent. One that wasn't sent stays. It takes memory where it has to wait. Who was told to wait and won't poll again calls
+    /// `give_up`, or drops the sender: until then a call may come that others wait for.
     pub fn poll_send(
         &mut self,
-        waker: &K,
+        waker: &A,
         message: &mut Option<T>,
     ) -> Poll<Result<(), SendError<()>>>
         ensures sent { IsSentOrBack message.old message.new result }
@@ -96,7 +91,7 @@ impl<T: Drop, K: Wake + Drop, R: Wait + Copy + Drop> Sender<T, K, R> {
         let Some(item) = message.take() else {
             return Poll::Ready(Ok(()));
         };
-        match self.try_until_it_waits(waker, item) {
+        match send_or_wait(&*self.shared, &mut self.waiting, waker, item) {
             Tried::Sent(_sent) => Poll::Ready(Ok(())),
             Tried::Waits(item) | Tried::Again(item) => {
                 *message = Some(item);
@@ -113,40 +108,19 @@ impl<T: Drop, K: Wake + Drop, R: Wait + Copy + Drop> Sender<T, K, R> {
         }
     }
 
-    /// Tries to send until the message is sent or refused, or has to wait.
-    fn try_until_it_waits(&mut self, waker: &K, item: T) -> Tried<T>
-        ensures { HasTried item result }
+    /// Waits no more, after a `poll_send` that was pending: a call that came for it goes on to the next who waits. It may send again.
+    /// It takes no memory.
+    pub fn give_up(&mut self)
+        ensures waits_not { self.new.waiting ≡ None }
+        ensures same { self.new.shared ≡ self.old.shared }
     {
-        let mut item = item;
-        for _ in self.shared.rt().forever() {
-            match self.try_once(waker, item) {
-                Tried::Again(back) => item = back,
-                tried => return tried,
-            }
-        }
-        unreachable!()
+        drop(self.waiting.take());
     }
 
-    /// Tries to send. Where no place is free it listens, or awaits the call for which it listens already.
-    fn try_once(&mut self, waker: &K, item: T) -> Tried<T>
-        ensures { HasTried item result }
+    fn shared(&self) -> &Shared<T, A, B, R>
+        ensures { result.now ≡ arc_value self.now.shared }
     {
-        let item = match self.shared.try_send(item) {
-            Ok(sent) => {
-                self.waiting = None;
-                return Tried::Sent(sent);
-            }
-            Err(TrySendError::Closed(item)) => {
-                self.waiting = None;
-                return Tried::Refused(SendError::Closed(item));
-            }
-            Err(TrySendError::Full(item)) => item,
-        };
-        match go_on(self.shared.places(), &mut self.waiting, waker) {
-            Ok(Turn::Looks) => Tried::Again(item),
-            Ok(Turn::Waits) => Tried::Waits(item),
-            Err(NoMemory) => Tried::Refused(SendError::NoMemory(item)),
-        }
+        &*self.shared
     }
 
     /// Closes the channel: nothing is sent any more, what was sent can still be received, and all who wait are told. Answers
@@ -154,9 +128,40 @@ impl<T: Drop, K: Wake + Drop, R: Wait + Copy + Drop> Sender<T, K, R> {
     pub fn close(&self) -> bool {
         self.shared.close()
     }
+
+    /// How many messages there are, which others may change at once.
+    pub fn len(&self) -> usize
+        ensures { IfSome (arc_value self.now.shared).line.queue.capacity (λ places. result ≤ places) }
+    {
+        self.shared.len()
+    }
+
+    /// Whether there is no message, which others may change at once.
+    pub fn is_empty(&self) -> bool {
+        self.shared.is_empty()
+    }
+
+    /// Whether each place has a message, which others may change at once.
+    pub fn is_full(&self) -> bool
+        ensures { ((arc_value self.now.shared).line.queue.capacity ≡ None) → (result ≡ false) }
+    {
+        self.shared.is_full()
+    }
+
+    /// Whether the channel is closed: so it stays.
+    pub fn is_closed(&self) -> bool {
+        self.shared.is_closed()
+    }
+
+    /// How many places the channel has.
+    pub fn capacity(&self) -> Option<usize>
+        ensures { result ≡ (arc_value self.now.shared).line.queue.capacity }
+    {
+        self.shared.capacity()
+    }
 }
 
-impl<T: Drop, K: Wake + Drop, R: Wait + Copy + Drop> Drop for Sender<T, K, R> {
+impl<T: Drop, A: Wake + Drop, B: Wake + Drop, R: Wait + Copy + Drop> Drop for Sender<T, A, B, R> {
     /// Leaves those who wait, and closes the channel where it is the last sender.
     fn drop(self) {
         let Sender { shared, waiting } = self;
@@ -167,10 +172,11 @@ impl<T: Drop, K: Wake + Drop, R: Wait + Copy + Drop> Drop for Sender<T, K, R> {
     }
 }
 
-impl<'a, T: Drop, K: Wake + Drop, R: Wait + Copy + Drop> Future<K> for Send<'a, T, K, R> {
+impl<'a, T: Drop, A: Wake + Drop, B: Wake + Drop, R: Wait + Copy + Drop> Future<A>
+    for Send<'a, T, A, B, R> {
     type Output = Result<(), SendError<T>>;
 
-    fn poll(&mut self, waker: &K) -> Poll<Result<(), SendError<T>>>
+    fn poll(&mut self, waker: &A) -> Poll<Result<(), SendError<T>>>
         ensures sent { IsBack self.old.message self.new.message result }
         ensures nothing { self.old.message ≡ None → result ≡ poll.Ready (Ok tt) }
         ensures done { IsSome self.old.message → result ≡ poll.Ready (Ok tt) → IsSome self.new.sent }
@@ -178,7 +184,7 @@ impl<'a, T: Drop, K: Wake + Drop, R: Wait + Copy + Drop> Future<K> for Send<'a, 
         let Some(item) = self.message.take() else {
             return Poll::Ready(Ok(()));
         };
-        match self.sender.try_until_it_waits(waker, item) {
+        match send_or_wait(self.sender.shared(), &mut self.waiting, waker, item) {
             Tried::Sent(sent) => {
                 self.sent = Some(sent);
                 Poll::Ready(Ok(()))

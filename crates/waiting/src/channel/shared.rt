@@ -1,9 +1,9 @@
-ghost use Rattle.std.specs.Prelude.{◌≡◌, ◌<◌, ◌≤◌, IfErr, IfOk, IfSome, IsSome, Ok, Some};
-ghost use Rattle.waiting.specs.Sending.{try_sent};
+ghost use Rattle.std.specs.Prelude.{◌≡◌, ◌≤◌, IfOk, IfSome, IsSome, None, Ok, false};
+ghost use Rattle.waiting.specs.Sending.{MayTrySend};
 ghost use Rattle.waiting.specs.declared.channel.shared.Turn.TheVariants as turn;
 
 use crate::channel::errors::TrySendError;
-use crate::channel::line::{Line, Nothing, Sent};
+use crate::channel::line::{Ended, Line, Nothing, Sent};
 use crate::event::Event;
 use crate::listener::Listener;
 use async_task::{Future, NoMemory, Poll, Wake};
@@ -13,27 +13,23 @@ use std::sync::atomic::AtomicU64;
 
 /// What the senders and receivers of a channel share.
 #[derive(Drop)]
-pub struct Shared<T: Drop, K: Wake + Drop, R: Wait + Copy + Drop> {
+pub struct Shared<T: Drop, A: Wake + Drop, B: Wake + Drop, R: Wait + Copy + Drop> {
     rt: R,
     line: Line<T>,
     /// Told for each place that comes free.
-    places: Event<K, R>,
+    places: Event<A, R>,
     /// Told for each message that comes.
-    messages: Event<K, R>,
+    messages: Event<B, R>,
     /// How many senders there are.
     pub senders: AtomicU64,
     /// How many receivers there are.
     pub receivers: AtomicU64,
 }
 
-impl<T: Drop, K: Wake + Drop, R: Wait + Copy + Drop> Shared<T, K, R> {
-    pub fn new(rt: R, alloc: Global, places: usize) -> Result<Self, NoMemory>
-        requires { 0 < places }
-        ensures { IfOk result (λ shared. shared.line.queue.capacity ≡ Some places) }
+impl<T: Drop, A: Wake + Drop, B: Wake + Drop, R: Wait + Copy + Drop> Shared<T, A, B, R> {
+    pub fn new(rt: R, alloc: Global, line: Line<T>) -> Result<Self, NoMemory>
+        ensures { IfOk result (λ shared. shared.line ≡ line) }
     {
-        let Ok(line) = Line::new(alloc, places) else {
-            return Err(NoMemory);
-        };
         let (free, came) = match (Event::new(rt, alloc), Event::new(rt, alloc)) {
             (Ok(free), Ok(came)) => (free, came),
             _ => return Err(NoMemory),
@@ -50,7 +46,7 @@ impl<T: Drop, K: Wake + Drop, R: Wait + Copy + Drop> Shared<T, K, R> {
 
     /// Appends the message, and then tells one who waits for it.
     pub fn try_send(&self, message: T) -> Result<Sent, TrySendError<T>>
-        ensures { IfErr result (λ error. try_sent error ≡ message) }
+        ensures { MayTrySend self.now.line.queue.capacity message result }
     {
         match self.line.push(&self.rt, message) {
             Ok(came) => Ok(came.tell(&self.messages)),
@@ -75,19 +71,32 @@ impl<T: Drop, K: Wake + Drop, R: Wait + Copy + Drop> Shared<T, K, R> {
         shut.tell(&self.places, &self.messages)
     }
 
+    /// Drops the messages that are left in a channel that is closed. A message whose sending began before the close is among them,
+    /// since a queue that is closed says so only once all that were appended are taken. So none is left, and none comes.
+    pub fn drain(&self) -> Ended {
+        for _ in self.rt.forever() {
+            match self.try_recv() {
+                Ok(message) => drop(message),
+                Err(Nothing::Over(ended)) => return ended,
+                Err(Nothing::Empty) => {}
+            }
+        }
+        unreachable!()
+    }
+
     pub fn rt(&self) -> R
         ensures { result ≡ self.now.rt }
     {
         self.rt
     }
 
-    pub fn places(&self) -> &Event<K, R>
+    pub fn places(&self) -> &Event<A, R>
         ensures { result.now ≡ self.now.places }
     {
         &self.places
     }
 
-    pub fn messages(&self) -> &Event<K, R>
+    pub fn messages(&self) -> &Event<B, R>
         ensures { result.now ≡ self.now.messages }
     {
         &self.messages
@@ -98,6 +107,30 @@ impl<T: Drop, K: Wake + Drop, R: Wait + Copy + Drop> Shared<T, K, R> {
         ensures { IfSome self.now.line.queue.capacity (λ places. result ≤ places) }
     {
         self.line.len(&self.rt)
+    }
+
+    /// Whether there is no message.
+    pub fn is_empty(&self) -> bool {
+        self.line.is_empty(&self.rt)
+    }
+
+    /// Whether each place has a message.
+    pub fn is_full(&self) -> bool
+        ensures { (self.now.line.queue.capacity ≡ None) → (result ≡ false) }
+    {
+        self.line.is_full(&self.rt)
+    }
+
+    /// Whether nothing is sent any more.
+    pub fn is_closed(&self) -> bool {
+        self.line.is_closed(&self.rt)
+    }
+
+    /// How many places there are.
+    pub fn capacity(&self) -> Option<usize>
+        ensures { result ≡ self.now.line.queue.capacity }
+    {
+        self.line.capacity()
     }
 }
 

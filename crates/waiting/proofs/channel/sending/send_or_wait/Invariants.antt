@@ -1,5 +1,5 @@
 use Rattle.std.proofs.Common.{◌≡◌}
-use Rattle.waiting.proofs.channel.sender.Sender.try_until_it_waits.Given as goal
+use Rattle.waiting.proofs.channel.sending.send_or_wait.Given as goal
 
 -- the message is the one that was given
 abbrev pub invariant-loop : goal.invariant-loop

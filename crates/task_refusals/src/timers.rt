@@ -27,5 +27,5 @@ pub fn try_timers<R: Clock + Wait + Copy + Drop>(
     let is_pending = matches!(sleep.poll(&Nobody), Poll::Pending);
     timer.close();
     timer.drive();
-    is_pending & matches!(sleep.poll(&Nobody), Poll::Ready(()))
+    is_pending & matches!(sleep.poll(&Nobody), Poll::Ready(Ok(())))
 }

@@ -1,22 +1,32 @@
 -- Who is due when, and in which order.
-use Rattle.std.specs.Prelude.{◌≡◌, ◌+◌, ◌≤◌, ◌<◌, ◌==◌, not, ℕ, List, [], ◌∷◌, All, map, IsPermutation}
-use Rattle.std.specs.BinaryHeap.{heap_items}
-use Rattle.std.specs.Global.{Global}
+use Rattle.std.specs.Prelude.{◌≡◌, ◌+◌, ◌-◌, ◌^◌, ◌≤◌, ◌<◌, ◌==◌, not, nat_lt, cond, ℕ, List, [], ◌∷◌, All, IsPermutation, drop}
+use Rattle.std.specs.Prelude.{slice_index_or, slice_set, ⊤}
 use Rattle.std.specs.List.{filter}
-use Rattle.std.specs.Ordering.{nat_cmp, ordering_then}
-use Rattle.std.specs.declared.cmp.Ordering.{Ordering}
-use Rattle.std.specs.declared.cmp.Reverse.{Reverse}
-use Rattle.std.specs.declared.collections.binary_heap.BinaryHeap.{BinaryHeap}
+use Rattle.timer.specs.declared.agenda.Agenda.{Agenda}
 use Rattle.timer.specs.declared.agenda.Turn.{Turn}
 use Rattle.timer.specs.declared.agenda.Turn.TheVariants as turn
 
--- of two deadlines the later one comes first in this order, so the heap's greatest is the first deadline
-abbrev pub later_first : Reverse (ℕ × ℕ) → Reverse (ℕ × ℕ) → Ordering
-later_first x y = ordering_then (nat_cmp y.0.0 x.0.0) (nat_cmp y.0.1 x.0.1)
+-- the time of a place at which nobody sleeps: whoever sleeps is due before it
+abbrev pub never : ℕ
+never = 2 ^ 128 - 1
+
+-- when each is due, with its place, of times that stand at the places from this one on
+abbrev pub standing_from : ℕ → List ℕ → List (ℕ × ℕ)
+standing_from place [] = []
+standing_from place (time ∷ rest) =
+    cond (nat_lt time never) ((time, place) ∷ standing_from (place + 1) rest) (standing_from (place + 1) rest)
+
+-- the time of each place
+abbrev pub times : Agenda → List ℕ
+times agenda = drop agenda.room agenda.nodes.items
+
+-- the time of this place
+abbrev pub time_of : List ℕ → ℕ → ℕ
+time_of times place = slice_index_or times place never
 
 -- when each is due, with its place
-abbrev pub entries : BinaryHeap (Reverse (ℕ × ℕ)) Global → List (ℕ × ℕ)
-entries heap = map (λ deadline. deadline.0) (heap_items heap)
+abbrev pub entries : Agenda → List (ℕ × ℕ)
+entries agenda = standing_from 0 (times agenda)
 
 -- the one at this place was due by now, nobody was due before it, and it stands there no more
 pub record IsDue (now place : ℕ) (old new : List (ℕ × ℕ)) : Type 0 where
@@ -30,6 +40,18 @@ abbrev pub Turns : ℕ → List (ℕ × ℕ) → List (ℕ × ℕ) → Turn → 
 Turns now old new (turn.Of place) = IsDue now place old new
 Turns now old new (turn.In rest) = All (λ other. now + rest ≤ other.0) old × (0 < rest) × (new ≡ old)
 Turns now old new turn.Nobodys = (old ≡ []) × (new ≡ old)
+
+-- whose time goes by a turn: that of the one whose turn it is
+abbrev pub TimeGoes : List ℕ → List ℕ → Turn → Type 0
+TimeGoes old new (turn.Of place) = new ≡ slice_set old place never
+TimeGoes old new (turn.In rest) = new ≡ old
+TimeGoes old new turn.Nobodys = new ≡ old
+
+-- the time of the one who is due next is one that a duration tells
+abbrev pub IsKnown : ℕ → Turn → Type 0
+IsKnown now (turn.Of place) = ⊤
+IsKnown now (turn.In rest) = now + rest < never
+IsKnown now turn.Nobodys = ⊤
 
 -- all stay but those at this place
 abbrev pub Stay : ℕ → List (ℕ × ℕ) → List (ℕ × ℕ) → Type 0

@@ -1,18 +1,20 @@
-ghost use Rattle.std.proofs.Props.{props};
-ghost use Rattle.std.specs.BinaryHeap.{IsHeap, heap_capacity, heap_items, heap_len};
-ghost use Rattle.std.specs.Prelude.{◌≡◌, ◌<◌, ◌≤◌, ◌∷◌, [], IfOk, IsOk, IsPermutation, OnErr, OnOk};
-ghost use Rattle.timer.specs.Order.{Stay, Turns, entries, later_first};
+ghost use Rattle.std.specs.Prelude.{◌≡◌, ◌<◌, ◌≤◌, ◌∷◌, [], IfOk, IsTrue, ◌↔◌, ℕ, slice_index, slice_set, length};
+ghost use Rattle.timer.specs.Tree.{IsTree};
 
+use crate::tree::{first_leaf, set_leaf};
 use std::alloc::{AllocError, Global};
-use std::cmp::Reverse;
-use std::collections::BinaryHeap;
 
-/// When each of those who sleep is due, in nanoseconds, and at which place it sleeps. After the making nothing here takes memory
-/// but `add`.
+/// The time of a place at which nobody sleeps: later than any that a duration tells.
+const NEVER: u128 = u128::MAX;
+
+/// When each of those who sleep is due, in nanoseconds, by the place at which it sleeps. A change takes a time that grows with
+/// the logarithm of the room. After the making nothing here takes memory.
 #[derive(Drop)]
 pub struct Agenda {
-    heap: BinaryHeap<Reverse<(u128, usize)>>,
-    ghost ordered: { IsHeap later_first (heap_items heap) } by { Prim.hlevel props },
+    room: usize,
+    nodes: Vec<u128>,
+    ghost some: { 0 < room },
+    ghost tree: { IsTree room nodes.items },
 }
 
 /// Whose turn it is.
@@ -26,54 +28,64 @@ pub enum Turn {
 }
 
 impl Agenda {
-    /// With room for so many.
-    pub fn with_room(alloc: Global, limit: usize) -> Result<Self, AllocError>
-        ensures nobody { IfOk result (λ agenda. entries agenda.heap ≡ []) }
-        ensures room { IfOk result (λ agenda. limit ≤ heap_capacity agenda.heap) }
+    ghost use Rattle.timer.specs.Order.{IsKnown, TimeGoes, Turns, entries, never, time_of, times};
+
+    /// With room for so many places, and for one at least.
+    pub fn with_room(alloc: Global, places: usize) -> Result<Self, AllocError>
+        ensures nobody { IfOk result (λ agenda. entries agenda ≡ []) }
+        ensures times { IfOk result (λ agenda. (place : ℕ) → never ≤ time_of (times agenda) place) }
+        ensures room { IfOk result (λ agenda. places ≤ agenda.room) }
     {
-        let heap = BinaryHeap::with_capacity(alloc, limit)?;
-        Ok(Agenda { heap })
+        let room = places.max(1);
+        let Some(len) = room.checked_mul(2) else {
+            return Err(AllocError);
+        };
+        let nodes = vec![in alloc; NEVER; len]?;
+        Ok(Agenda { room, nodes })
     }
 
-    pub fn len(&self) -> usize
-        ensures { result ≡ heap_len self.now.heap }
+    /// Who sleeps at this place is due at this time.
+    pub fn set(&mut self, place: usize, due: u128)
+        requires { place < self.old.room }
+        ensures times { times self.new ≡ slice_set (times self.old) place due }
+        ensures room { self.new.room ≡ self.old.room }
     {
-        self.heap.len()
+        set_leaf(self.nodes.as_mut_slice(), self.room, place, due);
     }
 
-    /// One more is due at this time.
-    pub fn add(&mut self, due: u128, place: usize) -> Result<(), AllocError>
-        ensures added { OnOk result (IsPermutation ((due, place) ∷ entries self.old.heap) (entries self.new.heap)) }
-        ensures refused { OnErr result (entries self.new.heap ≡ entries self.old.heap) }
-        ensures room { heap_len self.old.heap < heap_capacity self.old.heap → IsOk result }
+    /// Nobody sleeps at this place any more.
+    pub fn forget(&mut self, place: usize)
+        ensures times { times self.new ≡ slice_set (times self.old) place never }
+        ensures room { self.new.room ≡ self.old.room }
     {
-        match self.heap.push(Reverse((due, place))) {
-            Ok(()) => Ok(()),
-            Err(_) => Err(AllocError),
+        if place < self.room {
+            self.set(place, NEVER);
         }
+    }
+
+    /// Whether nobody sleeps.
+    pub fn is_empty(&self) -> bool
+        ensures { IsTrue result ↔ (entries self.now ≡ []) }
+    {
+        self.nodes[1] >= NEVER
     }
 
     /// Takes the first out, where it is due by now.
     pub fn turn(&mut self, now: u128) -> Turn
-        ensures { Turns now (entries self.old.heap) (entries self.new.heap) result }
+        ensures turns { Turns now (entries self.old) (entries self.new) result }
+        ensures times { TimeGoes (times self.old) (times self.new) result }
+        ensures known { IsKnown now result }
+        ensures room { self.new.room ≡ self.old.room }
     {
-        let due = match self.heap.peek() {
-            Some(Reverse((due, _))) => *due,
-            None => return Turn::Nobodys,
-        };
+        let due = self.nodes[1];
+        if due >= NEVER {
+            return Turn::Nobodys;
+        }
         if now < due {
             return Turn::In(due - now);
         }
-        match self.heap.pop() {
-            Some(Reverse((_, place))) => Turn::Of(place),
-            None => Turn::Nobodys,
-        }
-    }
-
-    /// Whoever sleeps at this place stands here no more.
-    pub fn forget(&mut self, place: usize)
-        ensures { Stay place (entries self.old.heap) (entries self.new.heap) }
-    {
-        self.heap.retain(|Reverse((_, other))| *other != place);
+        let place = first_leaf(self.nodes.as_slice(), self.room);
+        self.set(place, NEVER);
+        Turn::Of(place)
     }
 }

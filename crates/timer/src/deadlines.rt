@@ -1,10 +1,10 @@
 //! Those who sleep, and when each is due.
-ghost use Rattle.std.specs.Prelude.{◌≡◌, ◌≤◌, ◌∷◌, [], Err, IfOk, IsOk, IsPermutation, None, OnErr, Some, false, true};
-ghost use Rattle.std.specs.BinaryHeap.{heap_capacity};
+ghost use Rattle.std.specs.Prelude.{◌≡◌, ◌≤◌, ◌<◌, ◌↔◌, ◌∷◌, [], ℕ};
+ghost use Rattle.std.specs.Prelude.{Err, IfOk, IsOk, IsPermutation, IsTrue, None, OnErr, Some, false, min, nat_lt, true};
 ghost use Rattle.std.specs.Duration.{as_nanos};
 ghost use Rattle.slab.specs.Slab.{HasRoomFor, SameValues, Updates, get};
-ghost use Rattle.timer.specs.Order.{Stay};
-ghost use Rattle.timer.specs.Sleeping.{HasLooked, HasRoom, HasTold, IsDueAt, SameTerms, sleepers, waker_at};
+ghost use Rattle.timer.specs.Order.{Stay, never, time_of, times};
+ghost use Rattle.timer.specs.Places.{is_asleep, marked, waker_at};
 ghost use Rattle.timer.specs.declared.deadlines.Place.TheVariants.{Asleep};
 ghost use Rattle.timer.specs.declared.deadlines.Refused.TheVariants.{Closed};
 
@@ -14,6 +14,9 @@ use std::alloc::{AllocError, Global};
 use std::mem;
 use std::time::Duration;
 
+/// Later than any time that a duration tells.
+const NEVER: u128 = u128::MAX;
+
 /// Those who sleep, at most as many as the limit says: when each is due, and a place for each with the waker that it left last.
 /// Each call is one section of whoever locks it, and none but `with_room` takes memory. None calls or drops a waker: what comes
 /// out is to be called or dropped once the lock is given back.
@@ -21,8 +24,13 @@ use std::time::Duration;
 pub struct Deadlines<K> {
     limit: usize,
     is_closed: bool,
+    /// The time at which a driver looks again by itself, or of which it was told since: who is due earlier is news to it.
+    watched: u128,
     agenda: Agenda,
     places: Slab<Place<K>>,
+    ghost fits: { limit ≤ places.capacity },
+    ghost room: { places.capacity ≤ agenda.room },
+    ghost agreed: { (place : ℕ) → is_asleep (get places place) ≡ nat_lt (time_of (times agenda) place) never },
 }
 
 /// What stands at the place of one who sleeps.
@@ -32,11 +40,13 @@ pub enum Place<K> {
     Asleep(Option<K>),
     /// It is due.
     Due,
+    /// It was told that the timer is stopped.
+    Stopped,
 }
 
 /// The place of one who sleeps, as it has it. It has no drop: who has it looks or leaves.
 #[must_use]
-pub struct Bed {
+pub struct Entry {
     place: usize,
     /// When it is due, in nanoseconds.
     due: u128,
@@ -55,9 +65,11 @@ pub enum Refused {
 #[must_use]
 pub enum Looked<K> {
     /// It isn't due. The waker that it had left before, to be dropped once the lock is given back.
-    Sleeps(Bed, Option<K>),
+    Sleeps(Entry, Option<K>),
     /// It is due, and has left. The waker that it wanted to leave comes back.
     Due(Option<K>),
+    /// The timer was stopped before it was due, and it has left. The waker that it wanted to leave comes back.
+    Stopped(Option<K>),
 }
 
 /// Who is due next.
@@ -74,30 +86,32 @@ pub enum Next<K> {
 }
 
 impl<K: Drop> Deadlines<K> {
+    ghost use Rattle.timer.specs.Sleeping.{HasDismissed, HasLooked, HasRoom, HasTold, IsWatched, SameTerms, sleepers};
+
     /// Nobody sleeps. It takes memory for so many.
     pub fn with_room(alloc: Global, limit: usize) -> Result<Self, AllocError>
         ensures limit { IfOk result (λ s. s.limit ≡ limit) }
         ensures open { IfOk result (λ s. s.is_closed ≡ false) }
         ensures nobody { IfOk result (λ s. sleepers s ≡ []) }
-        ensures room { IfOk result (λ s. HasRoomFor s.places limit × (limit ≤ heap_capacity s.agenda.heap)) }
+        ensures room { IfOk result (λ s. HasRoomFor s.places limit) }
     {
-        let agenda = Agenda::with_room(alloc, limit)?;
-        let mut places = Slab::new(alloc);
-        places.reserve(limit)?;
+        let places = Slab::with_capacity(alloc, limit)?;
+        let agenda = Agenda::with_room(alloc, places.capacity())?;
         Ok(Deadlines {
             limit,
             is_closed: false,
+            watched: 0,
             agenda,
             places,
         })
     }
 
     /// One more sleeps, until it is due at this time.
-    pub fn enter(&mut self, due: Duration) -> Result<Bed, Refused>
-        ensures asleep { IfOk result (λ bed. Updates self.old.places self.new.places bed.place (Some (Asleep None))) }
-        ensures new_place { IfOk result (λ bed. get self.old.places bed.place ≡ None) }
-        ensures due { IfOk result (λ bed. IsPermutation ((as_nanos due, bed.place) ∷ sleepers self.old) (sleepers self.new)) }
-        ensures until { IfOk result (λ bed. bed.due ≡ as_nanos due) }
+    pub fn enter(&mut self, due: Duration) -> Result<Entry, Refused>
+        ensures asleep { IfOk result (λ entry. Updates self.old.places self.new.places entry.place (Some (Asleep None))) }
+        ensures new_place { IfOk result (λ entry. get self.old.places entry.place ≡ None) }
+        ensures due { IfOk result (λ entry. IsPermutation ((as_nanos due, entry.place) ∷ sleepers self.old) (sleepers self.new)) }
+        ensures until { IfOk result (λ entry. entry.due ≡ as_nanos due) }
         ensures enters { HasRoom self.old → IsOk result }
         ensures closed { self.old.is_closed ≡ true → result ≡ Err Closed }
         ensures open { result ≡ Err Closed → self.old.is_closed ≡ true }
@@ -108,77 +122,100 @@ impl<K: Drop> Deadlines<K> {
         if self.is_closed {
             return Err(Refused::Closed);
         }
-        if self.places.len() >= self.limit || self.agenda.len() >= self.limit {
+        if self.places.len() >= self.limit {
             return Err(Refused::Full);
         }
         let due = due.as_nanos();
-        match self.places.insert(Place::Asleep(None)) {
-            Ok(place) => match self.agenda.add(due, place) {
-                Ok(()) => Ok(Bed { place, due }),
-                Err(_) => {
-                    let _ = self.places.try_remove(place);
-                    Err(Refused::Full)
-                }
-            },
-            Err(_) => Err(Refused::Full),
+        let place = self.places.insert_reserved(Place::Asleep(None));
+        self.agenda.set(place, due);
+        Ok(Entry { place, due })
+    }
+
+    /// Whether this one is due before any driver looks again. Who is told so tells the drivers, and so they look in time from then
+    /// on.
+    pub fn is_news(&mut self, entry: &Entry) -> bool
+        ensures news { IsTrue result ↔ (entry.now.due < self.old.watched) }
+        ensures watched { self.new ≡ record self.old { watched = min entry.now.due self.old.watched } }
+    {
+        if entry.due < self.watched {
+            self.watched = entry.due;
+            return true;
         }
+        false
     }
 
     /// Whether it is due. Where it isn't, it leaves this waker in the place of the one before.
-    pub fn look(&mut self, bed: Bed, waker: Option<K>) -> Looked<K>
-        ensures looked { HasLooked bed.place bed.due waker self.old.places self.new.places result }
+    pub fn look(&mut self, entry: Entry, waker: Option<K>) -> Looked<K>
+        ensures looked { HasLooked entry.place entry.due waker self.old.places self.new.places result }
         ensures others { sleepers self.new ≡ sleepers self.old }
         ensures terms { SameTerms self.old self.new }
     {
-        let Bed { place, due } = bed;
+        let Entry { place, due } = entry;
         match self.places.try_remove(place) {
             Some(Place::Asleep(before)) => {
                 let place = self.places.insert_reserved(Place::Asleep(waker));
-                Looked::Sleeps(Bed { place, due }, before)
+                Looked::Sleeps(Entry { place, due }, before)
             }
+            Some(Place::Stopped) => Looked::Stopped(waker),
             Some(Place::Due) | None => Looked::Due(waker),
         }
     }
 
     /// Leaves, due or not: its waker, to be dropped once the lock is given back.
-    pub fn leave(&mut self, bed: Bed) -> Option<K>
-        ensures waker { result ≡ waker_at (get self.old.places bed.place) }
-        ensures left { Updates self.old.places self.new.places bed.place None }
-        ensures others { Stay bed.place (sleepers self.old) (sleepers self.new) }
+    pub fn leave(&mut self, entry: Entry) -> Option<K>
+        ensures waker { result ≡ waker_at (get self.old.places entry.place) }
+        ensures left { Updates self.old.places self.new.places entry.place None }
+        ensures others { Stay entry.place (sleepers self.old) (sleepers self.new) }
         ensures terms { SameTerms self.old self.new }
     {
-        let Bed { place, due: _ } = bed;
+        let Entry { place, due: _ } = entry;
         self.agenda.forget(place);
         match self.places.try_remove(place) {
             Some(Place::Asleep(waker)) => waker,
-            Some(Place::Due) | None => None,
+            Some(Place::Due | Place::Stopped) | None => None,
         }
     }
 
-    /// Tells the one who is due first, where its time has come: it is marked as due.
+    /// Tells the one who is due first, where its time has come: it is marked as due. Who is told that nobody is due yet, or sleeps,
+    /// looks again by then, or once it is told of news.
     pub fn tell(&mut self, now: Duration) -> Next<K>
         ensures told { HasTold (as_nanos now) self.old self.new result }
+        ensures watched { IsWatched (as_nanos now) self.new result }
         ensures terms { SameTerms self.old self.new }
     {
-        match self.agenda.turn(now.as_nanos()) {
-            Turn::Of(place) => Next::Told(self.wake_up(place)),
-            Turn::In(rest) => Next::In(rest),
+        let now = now.as_nanos();
+        match self.agenda.turn(now) {
+            Turn::Of(place) => Next::Told(mark(&mut self.places, place, Place::Due)),
+            Turn::In(rest) => {
+                self.watched = now + rest;
+                Next::In(rest)
+            }
             Turn::Nobodys if self.is_closed => Next::Closed,
-            Turn::Nobodys => Next::Nobody,
+            Turn::Nobodys => {
+                self.watched = NEVER;
+                Next::Nobody
+            }
         }
     }
 
-    /// Marks who sleeps at this place as due: its waker.
-    fn wake_up(&mut self, place: usize) -> Option<K>
-        ensures { IsDueAt place self.old self.new result }
+    /// Tells the one who is due first that the timer is stopped, before its time or not. The waker that it left, to be called once
+    /// the lock is given back. `None` where nobody sleeps.
+    pub fn dismiss(&mut self) -> Option<Option<K>>
+        ensures dismissed { HasDismissed self.old self.new result }
+        ensures terms { SameTerms self.old self.new }
     {
-        match self.places.get_mut(place) {
-            Some(place) => match mem::replace(place, Place::Due) {
-                Place::Asleep(waker) => waker,
-                Place::Due => None,
-            },
-            None => None,
+        match self.agenda.turn(NEVER) {
+            Turn::Of(place) => Some(mark(&mut self.places, place, Place::Stopped)),
+            Turn::In(_) => None,
+            Turn::Nobodys => None,
         }
+    }
+
+    /// Whether nobody sleeps, and nobody may any more.
+    pub fn is_over(&self) -> bool
+        ensures { IsTrue result ↔ ((self.now.is_closed ≡ true) × (sleepers self.now ≡ [])) }
+    {
+        self.is_closed && self.agenda.is_empty()
     }
 
     /// Nobody more may sleep.
@@ -186,5 +223,20 @@ impl<K: Drop> Deadlines<K> {
         ensures { self.new ≡ record self.old { is_closed = true } }
     {
         self.is_closed = true;
+    }
+}
+
+/// Marks who sleeps at this place: its waker.
+fn mark<K: Drop>(places: &mut Slab<Place<K>>, place: usize, mark: Place<K>) -> Option<K>
+    ensures places { Updates places.old places.new place (marked mark (get places.old place)) }
+    ensures waker { result ≡ waker_at (get places.old place) }
+    ensures capacity { places.new.capacity ≡ places.old.capacity }
+{
+    match places.get_mut(place) {
+        Some(place) => match mem::replace(place, mark) {
+            Place::Asleep(waker) => waker,
+            Place::Due | Place::Stopped => None,
+        },
+        None => None,
     }
 }

@@ -23,10 +23,19 @@ pub enum SleepError {
     Closed,
 }
 
-/// The time was up before the future was ready.
+/// The timer was stopped before the time had come.
 #[derive(Clone, Copy, Debug, PartialEq, Eq, Drop, Error)]
-#[error("the time is up")]
-pub struct Elapsed;
+#[error("the timer was stopped before the time had come")]
+pub struct Stopped;
+
+/// Why a future that has only so much time has no output.
+#[derive(Clone, Copy, Debug, PartialEq, Eq, Drop, Error)]
+pub enum TimeoutError {
+    #[error("the time is up")]
+    Elapsed,
+    #[error("the timer was stopped before the time was up")]
+    Stopped,
+}
 
 /// So that `?` takes it to an `io::Result`.
 impl From<TimerError> for io::Error {
@@ -57,13 +66,37 @@ impl From<SleepError> for io::Error {
 }
 
 /// So that `?` takes it to an `io::Result`.
-impl From<Elapsed> for io::Error {
-    ghost use Rattle.std.specs.declared.io.ErrorKind.TheVariants.{TimedOut};
+impl From<Stopped> for io::Error {
+    ghost use Rattle.std.specs.declared.io.ErrorKind.TheVariants.{BrokenPipe};
 
-    ghost from_gives = { λ _ error. error_kind error ≡ TimedOut };
+    ghost from_gives = { λ _ error. error_kind error ≡ BrokenPipe };
 
-    fn from(_elapsed: Elapsed) -> io::Error {
-        ErrorKind::TimedOut.into()
+    fn from(_stopped: Stopped) -> io::Error {
+        ErrorKind::BrokenPipe.into()
+    }
+}
+
+/// So that `?` takes it to an `io::Result`.
+impl From<TimeoutError> for io::Error {
+    ghost use Rattle.timer.specs.Errors.{of_timeout};
+
+    ghost from_gives = { λ why error. error_kind error ≡ of_timeout why };
+
+    fn from(error: TimeoutError) -> io::Error {
+        match error {
+            TimeoutError::Elapsed => ErrorKind::TimedOut.into(),
+            TimeoutError::Stopped => ErrorKind::BrokenPipe.into(),
+        }
+    }
+}
+
+impl From<Stopped> for TimeoutError {
+    ghost use Rattle.timer.specs.declared.errors.TimeoutError.TheVariants as timeout;
+
+    ghost from_gives = { λ _ error. error ≡ timeout.Stopped };
+
+    fn from(_stopped: Stopped) -> TimeoutError {
+        TimeoutError::Stopped
     }
 }
 

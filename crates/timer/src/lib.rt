@@ -4,15 +4,19 @@
 mod agenda;
 mod deadlines;
 mod errors;
+mod interval;
 mod making;
-mod nap;
+pub mod parts;
 mod shared;
+mod sleep;
 mod timed;
 mod timer;
+mod told;
+mod tree;
 
-pub use deadlines::{Bed, Deadlines, Looked, Next, Place, Refused};
-pub use errors::{Elapsed, SleepError, TimerError};
+pub use errors::{SleepError, Stopped, TimeoutError, TimerError};
+pub use interval::Interval;
 pub use making::timeout;
-pub use nap::Sleep;
+pub use sleep::Sleep;
 pub use timed::Timeout;
-pub use timer::Timer;
+pub use timer::{Timer, Turned};

@@ -1,15 +1,15 @@
 //! A future that has only so much time.
 ghost use Rattle.async_task.specs.declared.poll.Poll.TheVariants as poll;
 ghost use Rattle.std.specs.Prelude.{◌≡◌, Err, IsSome, None};
-ghost use Rattle.timer.specs.declared.errors.Elapsed.{Elapsed};
+ghost use Rattle.timer.specs.declared.errors.TimeoutError.{TimeoutError};
 
-use crate::errors::Elapsed;
-use crate::nap::Sleep;
+use crate::errors::TimeoutError;
+use crate::sleep::Sleep;
 use async_task::{Future, Poll, Wake};
 use std::sync::Wait;
 
-/// A future that is given so much time: its output, or that the time is up. Where both are so it answers the output. Dropped, it
-/// drops both.
+/// A future that is given so much time: its output, or that the time is up or the timer was stopped. Where both are so it answers
+/// the output. Dropped, it drops both.
 #[derive(Drop)]
 pub struct Timeout<F, K: Wake + Drop, R: Wait + Copy + Drop> {
     pub(crate) future: F,
@@ -17,17 +17,18 @@ pub struct Timeout<F, K: Wake + Drop, R: Wait + Copy + Drop> {
 }
 
 impl<F: Future<K>, K: Wake + Drop, R: Wait + Copy + Drop> Future<K> for Timeout<F, K, R> {
-    type Output = Result<F::Output, Elapsed>;
+    type Output = Result<F::Output, TimeoutError>;
 
-    fn poll(&mut self, waker: &K) -> Poll<Result<F::Output, Elapsed>>
-        ensures up { (why : Elapsed) → result ≡ poll.Ready (Err why) → self.new.sleep.bed ≡ None }
-        ensures in_time { result ≡ poll.Pending → IsSome self.new.sleep.bed }
+    fn poll(&mut self, waker: &K) -> Poll<Result<F::Output, TimeoutError>>
+        ensures up { (why : TimeoutError) → result ≡ poll.Ready (Err why) → self.new.sleep.entry ≡ None }
+        ensures in_time { result ≡ poll.Pending → IsSome self.new.sleep.entry }
     {
         if let Poll::Ready(output) = self.future.poll(waker) {
             return Poll::Ready(Ok(output));
         }
         match self.sleep.poll(waker) {
-            Poll::Ready(()) => Poll::Ready(Err(Elapsed)),
+            Poll::Ready(Ok(())) => Poll::Ready(Err(TimeoutError::Elapsed)),
+            Poll::Ready(Err(stopped)) => Poll::Ready(Err(TimeoutError::from(stopped))),
             Poll::Pending => Poll::Pending,
         }
     }

@@ -1,15 +1,31 @@
 ghost use Rattle.std.specs.Arc.{arc_value};
-ghost use Rattle.std.specs.Prelude.{◌≡◌, IfOk, IfSome, IsSome};
+ghost use Rattle.std.specs.Duration.{as_nanos};
+ghost use Rattle.std.specs.Prelude.{◌≡◌, ◌-◌, IfOk, IfSome, IsSome};
+ghost use Rattle.std.specs.Time.{instant_nanos};
 ghost use Rattle.timer.specs.Sleeping.{IsDueAfter};
 
-use crate::deadlines::{Deadlines, Next};
+use crate::deadlines::Deadlines;
 use crate::errors::{SleepError, TimerError};
-use crate::nap::Sleep;
+use crate::interval::Interval;
 use crate::shared::Shared;
-use async_task::Wake;
+use crate::sleep::Sleep;
+use crate::told::room_of;
+use async_task::{NoMemory, Wake};
+use blocking::Beside;
 use std::alloc::Global;
 use std::sync::{Arc, Wait};
 use std::time::{Clock, Duration, Instant};
+
+/// What a turn of the driver left.
+#[derive(Clone, Copy, Debug, PartialEq, Eq, Drop)]
+pub enum Turned {
+    /// The next is due once so much time has passed.
+    In(Duration),
+    /// Nobody sleeps.
+    Nobody,
+    /// Nobody sleeps, and nobody may any more.
+    Closed,
+}
 
 /// A timer for so many who sleep at a time. One thread drives it, which calls each once its time has come. The type of their
 /// wakers is `K`.
@@ -30,64 +46,150 @@ impl<K: Wake + Drop, R: Wait + Clock + Copy + Drop> Timer<K, R> {
         let Ok(deadlines) = Deadlines::with_room(alloc, sleepers) else {
             return Err(TimerError::NoMemory);
         };
-        match Arc::new(alloc, Shared::new(start, deadlines)) {
+        let Ok(room) = room_of(alloc, sleepers) else {
+            return Err(TimerError::NoMemory);
+        };
+        match Arc::new(alloc, Shared::new(start, deadlines, room)) {
             Ok(shared) => Ok(Timer { shared, rt }),
             Err(_) => Err(TimerError::NoMemory),
+        }
+    }
+
+    /// The same timer, for another who sleeps or drives; refused where it has too many already. It takes no memory.
+    pub fn clone(&self) -> Result<Self, NoMemory>
+        ensures same { IfOk result (λ timer. arc_value timer.shared ≡ arc_value self.now.shared) }
+    {
+        match Arc::try_clone(&self.shared) {
+            Ok(shared) => Ok(Timer {
+                shared,
+                rt: self.rt,
+            }),
+            Err(_) => Err(NoMemory),
         }
     }
 
     /// A future that is ready once so much time has passed from now on. It takes no memory.
     pub fn sleep(&self, duration: Duration) -> Result<Sleep<K, R>, SleepError>
         ensures here { IfOk result (λ sleep. arc_value sleep.shared ≡ arc_value self.now.shared) }
-        ensures waits { IfOk result (λ sleep. IsSome sleep.bed) }
-        ensures due { IfOk result (λ sleep. IfSome sleep.bed (λ bed. IsDueAfter duration bed.due)) }
+        ensures waits { IfOk result (λ sleep. IsSome sleep.entry) }
+        ensures due { IfOk result (λ sleep. IfSome sleep.entry (λ entry. IsDueAfter duration entry.due)) }
+    {
+        let passed = self.shared.passed(&self.rt);
+        let due = passed.saturating_add(duration);
+        self.sleep_till(due)
+    }
+
+    /// A future that is ready once this time has come; at once, where it has come before. It takes no memory.
+    pub fn sleep_until(&self, deadline: Instant) -> Result<Sleep<K, R>, SleepError>
+        ensures here { IfOk result (λ sleep. arc_value sleep.shared ≡ arc_value self.now.shared) }
+        ensures waits { IfOk result (λ sleep. IsSome sleep.entry) }
+        ensures due { IfOk result (λ sleep. IfSome sleep.entry
+            (λ entry. entry.due ≡ instant_nanos deadline - instant_nanos (arc_value self.now.shared).start)) }
+    {
+        let due = self.shared.until(deadline);
+        self.sleep_till(due)
+    }
+
+    /// Ticks once each period, the first time at once. It takes one place, and no memory. `Interval` says what becomes of a tick that
+    /// is missed.
+    pub fn interval(&self, period: Duration) -> Result<Interval<K, R>, SleepError>
+        ensures here { IfOk result (λ interval. arc_value interval.shared ≡ arc_value self.now.shared) }
+        ensures waits { IfOk result (λ interval. IsSome interval.entry) }
+        ensures due { IfOk result (λ interval. IfSome interval.entry (λ entry. entry.due ≡ as_nanos interval.due)) }
+        ensures period { IfOk result (λ interval. interval.period ≡ period) }
     {
         let Ok(shared) = Arc::try_clone(&self.shared) else {
             return Err(SleepError::Full);
         };
-        let passed = self.shared.passed(&self.rt);
-        let due = passed.saturating_add(duration);
-        let entered = self.shared.deadlines.lock(&self.rt).enter(due);
-        match entered {
-            Ok(bed) => {
-                self.shared.changed.notify_all();
-                Ok(Sleep::new(self.rt, shared, bed))
-            }
+        let due = self.shared.passed(&self.rt);
+        match self.shared.enter(&self.rt, due) {
+            Ok(entry) => Ok(Interval::new(self.rt, shared, period, due, entry)),
             Err(refused) => Err(SleepError::from(refused)),
         }
     }
 
-    /// Drives the timer on this thread, until it is closed and nobody sleeps any more. Where the clock can't be read, it takes
-    /// each for due.
-    ///
-    /// 1. Reads how often it was told of a change, so that one that comes later ends its wait.
-    /// 2. Marks the one that is due first, under the lock, and calls its waker with no lock held.
-    /// 3. Where none is due it waits, until the first is or something changed.
-    pub fn drive(&self) {
+    /// Sleeps until so much time has passed since the timer's start.
+    fn sleep_till(&self, due: Duration) -> Result<Sleep<K, R>, SleepError>
+        ensures here { IfOk result (λ sleep. arc_value sleep.shared ≡ arc_value self.now.shared) }
+        ensures waits { IfOk result (λ sleep. IsSome sleep.entry) }
+        ensures due { IfOk result (λ sleep. IfSome sleep.entry (λ entry. entry.due ≡ as_nanos due)) }
+    {
+        let Ok(shared) = Arc::try_clone(&self.shared) else {
+            return Err(SleepError::Full);
+        };
+        match self.shared.enter(&self.rt, due) {
+            Ok(entry) => Ok(Sleep::new(self.rt, shared, entry)),
+            Err(refused) => Err(SleepError::from(refused)),
+        }
+    }
+
+    /// One turn of the driver: tells all who are due by now, and waits for nobody. It says when the next is due. For a thread that
+    /// waits for several things, and for a clock of your own. Where the clock can't be read, it takes each for due.
+    pub fn turn(&self) -> Turned {
+        let passed = self.shared.passed(&self.rt);
         for _ in self.rt.forever() {
-            let seen = self.shared.changed.notifications();
-            let passed = self.shared.passed(&self.rt);
-            let next = self.shared.deadlines.lock(&self.rt).tell(passed);
-            let longest = match next {
-                Next::Told(Some(waker)) => {
-                    waker.wake();
-                    Duration::ZERO
-                }
-                Next::Told(None) => Duration::ZERO,
-                Next::In(rest) => Duration::from_nanos(u64::try_from(rest).unwrap_or(u64::MAX)),
-                Next::Nobody => Duration::MAX,
-                Next::Closed => return,
-            };
-            if !longest.is_zero() {
-                self.shared.changed.sleep(&self.rt, seen, longest);
+            match self.shared.tell_due(&self.rt, passed) {
+                Turned::In(rest) if rest.is_zero() => {}
+                turned => return turned,
             }
         }
         unreachable!()
     }
 
-    /// Nobody more may sleep; those who sleep are called in their time. It takes no memory.
+    /// A turn of a driver that waits for other things too: the waker is called once someone is due before that, or nobody may sleep
+    /// any more. It stands in the place of the one before, until it is called.
+    pub fn turn_for(&self, waker: &K) -> Turned {
+        self.shared.leave_driver(&self.rt, waker);
+        self.turn()
+    }
+
+    /// Drives the timer on this thread, until it is closed or stopped and nobody sleeps any more. Where the clock can't be read, it
+    /// takes each for due.
+    ///
+    /// 1. Reads how often it was told of a change, so that one that comes later ends its wait.
+    /// 2. Marks those that are due, under the lock, and calls their wakers with no lock held.
+    /// 3. Where none is left it waits, until the next is due or something changed.
+    pub fn drive(&self) {
+        for _ in self.rt.forever() {
+            let seen = self.shared.changed.notifications();
+            match self.turn() {
+                Turned::In(longest) => {
+                    self.shared.changed.sleep(&self.rt, seen, longest);
+                }
+                Turned::Nobody => {
+                    self.shared.changed.sleep(&self.rt, seen, Duration::MAX);
+                }
+                Turned::Closed => return,
+            }
+        }
+        unreachable!()
+    }
+
+    /// Nobody more may sleep; those who sleep are called in their time, and then a driver ends. It takes no memory.
     pub fn close(&self) {
-        self.shared.deadlines.lock(&self.rt).close();
-        self.shared.changed.notify_all();
+        self.shared.close(&self.rt);
+    }
+
+    /// Nobody more may sleep, and those who sleep are called now: they are ready with `Stopped`. A driver ends. Who was told before
+    /// that its time has come is ready as ever. It takes no memory.
+    pub fn stop(&self) {
+        self.shared.close(&self.rt);
+        for _ in self.rt.forever() {
+            if self.shared.dismiss_some(&self.rt) {
+                self.shared.notify(&self.rt);
+                return;
+            }
+        }
+        unreachable!()
+    }
+}
+
+/// A thread that blocks on a future drives the timer too: `block_on_beside` of `blocking`, `run_until_beside` of `workers`.
+impl<K: Wake + Drop, R: Wait + Clock + Copy + Drop> Beside<K> for Timer<K, R> {
+    fn turn(&self, waker: &K) -> Option<Duration> {
+        match self.turn_for(waker) {
+            Turned::In(rest) => Some(rest),
+            Turned::Nobody | Turned::Closed => None,
+        }
     }
 }

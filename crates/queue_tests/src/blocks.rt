@@ -111,3 +111,31 @@ fn a_thread_parks_until_another_wakes_it(rt: HostRuntime) {
         Err(_) => assert!(&rt; false),
     }
 }
+
+/// Leaves a copy of its waker in the box, and says whether that wakes whom the one before did.
+#[derive(Drop)]
+struct Compares<'a, R>(R, &'a Mutex<Option<ThreadWaker>>);
+
+impl<R: Wait> Future<ThreadWaker> for Compares<'_, R> {
+    type Output = bool;
+
+    fn poll(&mut self, waker: &ThreadWaker) -> Poll<bool> {
+        let before = self.1.lock(&self.0).take();
+        *self.1.lock(&self.0) = waker.clone();
+        match before {
+            Some(before) => Poll::Ready(waker.will_wake(&before)),
+            None => Poll::Ready(true),
+        }
+    }
+}
+
+/// Each wait has a parker of its own: so a future that was polled in one, and now is in another, has to leave its waker anew.
+#[test]
+fn the_wakers_of_two_waits_are_told_apart(rt: HostRuntime) {
+    let (alloc, left) = (rt.alloc(), Mutex::new(None));
+    let compared = [
+        block_on::<ThreadWaker, _, _>(&rt, alloc, Compares(rt, &left)).is_ok_and(|first| first),
+        block_on::<ThreadWaker, _, _>(&rt, alloc, Compares(rt, &left)).is_ok_and(|same| !same),
+    ];
+    assert!(&rt; compared == [true, true]);
+}

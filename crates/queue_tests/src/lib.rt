@@ -9,11 +9,15 @@ mod ended;
 #[cfg(test)]
 mod parties;
 #[cfg(test)]
+mod sections;
+#[cfg(test)]
 mod sleeps;
 #[cfg(test)]
 mod texts;
 #[cfg(test)]
 mod threads;
+#[cfg(test)]
+mod turns;
 #[cfg(test)]
 mod waits;
 #[cfg(test)]

@@ -1,7 +1,14 @@
 //! What waits, between threads: each loop is bounded, and each answer the same whatever the schedule.
 mod alone;
+mod at_random;
 mod bell;
 mod calls;
+mod giving_up;
+mod left_over;
+mod looks;
+mod permits;
+mod sections;
+mod semaphore;
 mod together;
 
 use blocking::{ThreadWaker, block_on};
@@ -23,9 +30,9 @@ fn total(ends: Result<Vec<u64>, AllocError>) -> u64 {
 #[test]
 fn each_message_is_received_once(rt: HostRuntime) -> io::Result<()> {
     let alloc = rt.alloc();
-    let (sender, receiver) = channel::bounded::<u64, ThreadWaker, _>(rt, alloc, 2)?;
+    let (sender, receiver) = channel::bounded::<u64, ThreadWaker, ThreadWaker, _>(rt, alloc, 2)?;
     let sends = |_| {
-        let Ok(mut mine) = sender.clone() else {
+        let Ok(mine) = sender.clone() else {
             return 0;
         };
         let mut sent = 0u64;
@@ -42,7 +49,7 @@ fn each_message_is_received_once(rt: HostRuntime) -> io::Result<()> {
         total(ends)
     };
     let receives = |_| {
-        let Ok(mut mine) = receiver.clone() else {
+        let Ok(mine) = receiver.clone() else {
             return 0;
         };
         let mut sum = 0u64;

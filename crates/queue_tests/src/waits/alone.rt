@@ -1,4 +1,5 @@
 //! The examples of the doc comments of `waiting`, line by line, and what follows them.
+use crate::waits::bell::Bell;
 use async_task::{Future, Nobody, Poll};
 use std::io;
 use waiting::channel::{self, RecvError, TryRecvError, TrySendError};
@@ -38,8 +39,44 @@ fn a_dropped_listener_that_was_told_tells_the_next(rt: HostRuntime) -> io::Resul
 }
 
 #[test]
+fn a_channel_without_a_bound_is_never_full(rt: HostRuntime) -> io::Result<()> {
+    let (sender, receiver) = channel::unbounded::<u64, Nobody, Nobody, _>(rt, rt.alloc())?;
+    assert!(rt; sender.try_send(1).is_ok() & sender.try_send(2).is_ok());
+    assert!(rt; (sender.len() == 2) & sender.capacity().is_none() & !sender.is_full());
+    assert!(rt; matches!(receiver.recv().poll(&Nobody), Poll::Ready(Ok(1))));
+    for number in 3..=100 {
+        assert!(rt; matches!(sender.send(number).poll(&Nobody), Poll::Ready(Ok(()))));
+    }
+    drop(sender);
+    for number in 2..=100 {
+        assert!(rt; matches!(receiver.recv().poll(&Nobody), Poll::Ready(Ok(one)) if one == number));
+    }
+    assert!(rt;
+        matches!(
+            receiver.recv().poll(&Nobody),
+            Poll::Ready(Err(RecvError::Closed))
+        )
+    );
+    Ok(())
+}
+
+/// A sender and a receiver wait each with a waker of its own type.
+#[test]
+fn the_ends_have_wakers_of_two_kinds(rt: HostRuntime) -> io::Result<()> {
+    let (bell, mute) = (Bell::new(rt.alloc(), false)?, Nobody);
+    let (sender, receiver) = channel::bounded::<u64, Bell, Nobody, _>(rt, rt.alloc(), 1)?;
+    assert!(rt; matches!(receiver.recv().poll(&mute), Poll::Pending));
+    assert!(rt; sender.try_send(1).is_ok());
+    let mut second = sender.send(2);
+    assert!(rt; matches!(second.poll(&bell), Poll::Pending));
+    assert!(rt; matches!(receiver.try_recv(), Ok(1)) & (bell.calls() == 1));
+    assert!(rt; matches!(second.poll(&bell), Poll::Ready(Ok(()))));
+    Ok(())
+}
+
+#[test]
 fn a_channel_is_full_emptied_and_closed(rt: HostRuntime) -> io::Result<()> {
-    let (mut sender, mut receiver) = channel::bounded::<u64, Nobody, _>(rt, rt.alloc(), 1)?;
+    let (mut sender, mut receiver) = channel::bounded::<u64, Nobody, Nobody, _>(rt, rt.alloc(), 1)?;
     assert!(rt; matches!(receiver.poll_recv(&Nobody), Poll::Pending));
     assert!(rt; sender.try_send(1).is_ok());
     assert!(rt; matches!(sender.try_send(2), Err(TrySendError::Full(2))));

@@ -48,7 +48,7 @@ fn notify_all_answers_how_many_it_told(rt: HostRuntime) -> io::Result<()> {
 
 #[test]
 fn a_channel_counts_its_messages(rt: HostRuntime) -> io::Result<()> {
-    let (sender, receiver) = channel::bounded::<u64, Nobody, _>(rt, rt.alloc(), 3)?;
+    let (sender, receiver) = channel::bounded::<u64, Nobody, Nobody, _>(rt, rt.alloc(), 3)?;
     assert!(rt; receiver.len() == 0);
     assert!(rt; sender.try_send(1).is_ok() & sender.try_send(2).is_ok());
     assert!(rt; receiver.len() == 2);

@@ -10,6 +10,8 @@ mod crew;
 #[cfg(test)]
 mod gates;
 #[cfg(test)]
+mod joins;
+#[cfg(test)]
 mod program;
 #[cfg(test)]
 mod rows;

@@ -17,6 +17,8 @@ use Rattle.timer.specs.declared.errors.TimerError.{TimerError}
 use Rattle.timer.specs.declared.errors.TimerError.TheVariants as timer
 use Rattle.timer.specs.declared.errors.SleepError.{SleepError}
 use Rattle.timer.specs.declared.errors.SleepError.TheVariants as sleep
+use Rattle.timer.specs.declared.errors.TimeoutError.{TimeoutError}
+use Rattle.timer.specs.declared.errors.TimeoutError.TheVariants as timeout
 use Rattle.workers.specs.declared.fault.Fault.TheVariants.{Full, NoMemory, TaskClosed, Finished, NoRandom, Closed, Empty, Elapsed, NoClock}
 
 abbrev pub of_spawn : {F : Type 0} → SpawnError F → Fault
@@ -47,6 +49,10 @@ of_timer timer.NoClock = NoClock
 abbrev pub of_sleep : SleepError → Fault
 of_sleep sleep.Full = Full
 of_sleep sleep.Closed = Closed
+
+abbrev pub of_timeout : TimeoutError → Fault
+of_timeout timeout.Elapsed = Elapsed
+of_timeout timeout.Stopped = Closed
 
 -- the one answer of three: a parker that couldn't be had is want of memory
 abbrev pub answered : {T G : Type 0} → Result (Result (Result T TaskError) RunError) G → Result T Fault

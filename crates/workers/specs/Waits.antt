@@ -1,4 +1,4 @@
--- Which fault each error of a channel is.
+-- Which fault each error of a channel or a semaphore is.
 use Rattle.waiting.specs.declared.channel.errors.TrySendError.{TrySendError}
 use Rattle.waiting.specs.declared.channel.errors.TrySendError.TheVariants as tried
 use Rattle.waiting.specs.declared.channel.errors.SendError.{SendError}
@@ -7,6 +7,10 @@ use Rattle.waiting.specs.declared.channel.errors.TryRecvError.{TryRecvError}
 use Rattle.waiting.specs.declared.channel.errors.TryRecvError.TheVariants as looked
 use Rattle.waiting.specs.declared.channel.errors.RecvError.{RecvError}
 use Rattle.waiting.specs.declared.channel.errors.RecvError.TheVariants as received
+use Rattle.waiting.specs.declared.semaphore.errors.TryAcquireError.{TryAcquireError}
+use Rattle.waiting.specs.declared.semaphore.errors.TryAcquireError.TheVariants as wanted
+use Rattle.waiting.specs.declared.semaphore.errors.AcquireError.{AcquireError}
+use Rattle.waiting.specs.declared.semaphore.errors.AcquireError.TheVariants as acquired
 use Rattle.workers.specs.declared.fault.Fault.{Fault}
 use Rattle.workers.specs.declared.fault.Fault.TheVariants.{Full, NoMemory, Closed, Empty}
 
@@ -14,6 +18,7 @@ module _ {T : Type 0} where
   abbrev pub of_try_send : TrySendError T → Fault
   of_try_send (tried.Full _) = Full
   of_try_send (tried.Closed _) = Closed
+  of_try_send (tried.NoMemory _) = NoMemory
 
   abbrev pub of_send : SendError T → Fault
   of_send (sent.Closed _) = Closed
@@ -26,3 +31,12 @@ of_try_recv looked.Closed = Closed
 abbrev pub of_recv : RecvError → Fault
 of_recv received.Closed = Closed
 of_recv received.NoMemory = NoMemory
+
+abbrev pub of_try_acquire : TryAcquireError → Fault
+of_try_acquire wanted.NoPermits = Full
+of_try_acquire wanted.Closed = Closed
+of_try_acquire wanted.NoMemory = NoMemory
+
+abbrev pub of_acquire : AcquireError → Fault
+of_acquire acquired.Closed = Closed
+of_acquire acquired.NoMemory = NoMemory

@@ -7,7 +7,7 @@ use thiserror::Error;
 /// Why something was refused, or has no output to give: the one error of what a program calls.
 #[derive(Clone, Copy, Debug, PartialEq, Eq, Drop, Error)]
 pub enum Fault {
-    /// Each place is taken: of an executor, a queue, a channel or a timer.
+    /// Each place is taken, of an executor, a queue, a channel or a timer, or each permit of a semaphore.
     #[error("full: each place is taken")]
     Full,
     /// There was no memory for what was wanted, or no copy of a waker could be had.
@@ -22,7 +22,7 @@ pub enum Fault {
     /// The system gave no random number, of which a realm has its own.
     #[error("no random number")]
     NoRandom,
-    /// A queue, a channel or a timer is closed, or the sender of a value went without sending.
+    /// A queue, a channel, a semaphore or a timer is closed, a timer was stopped, or the sender of a value went without sending.
     #[error("closed: nothing more is taken, or comes")]
     Closed,
     /// A channel has no message yet, or a queue no item.

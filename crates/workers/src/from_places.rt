@@ -1,11 +1,11 @@
 //! What `?` takes to a `Fault`: the errors of timers, and of queues of tasks.
 ghost use Rattle.std.specs.Prelude.{◌≡◌};
-ghost use Rattle.workers.specs.Faults.{of_queue_spawn, of_sleep, of_timer};
+ghost use Rattle.workers.specs.Faults.{of_queue_spawn, of_sleep, of_timeout, of_timer};
 ghost use Rattle.workers.specs.declared.fault.Fault.TheVariants as fault;
 
 use crate::fault::Fault;
 use ready_queue::SpawnError;
-use timer::{Elapsed, SleepError, TimerError};
+use timer::{SleepError, Stopped, TimeoutError, TimerError};
 
 impl<F: Drop> From<SpawnError<F>> for Fault {
     ghost from_gives = { λ refused given. given ≡ of_queue_spawn refused };
@@ -41,10 +41,21 @@ impl From<SleepError> for Fault {
     }
 }
 
-impl From<Elapsed> for Fault {
-    ghost from_gives = { λ _ given. given ≡ fault.Elapsed };
+impl From<Stopped> for Fault {
+    ghost from_gives = { λ _ given. given ≡ fault.Closed };
 
-    fn from(_elapsed: Elapsed) -> Fault {
-        Fault::Elapsed
+    fn from(_stopped: Stopped) -> Fault {
+        Fault::Closed
+    }
+}
+
+impl From<TimeoutError> for Fault {
+    ghost from_gives = { λ error given. given ≡ of_timeout error };
+
+    fn from(error: TimeoutError) -> Fault {
+        match error {
+            TimeoutError::Elapsed => Fault::Elapsed,
+            TimeoutError::Stopped => Fault::Closed,
+        }
     }
 }

@@ -1,11 +1,12 @@
 //! What `?` takes to a `Fault`: the errors of what waits. A message that wasn't sent is dropped.
 ghost use Rattle.std.specs.Prelude.{◌≡◌};
-ghost use Rattle.workers.specs.Waits.{of_recv, of_send, of_try_recv, of_try_send};
+ghost use Rattle.workers.specs.Waits.{of_acquire, of_recv, of_send, of_try_acquire, of_try_recv, of_try_send};
 ghost use Rattle.workers.specs.declared.fault.Fault.TheVariants as fault;
 
 use crate::fault::Fault;
 use waiting::channel::{RecvError, SendError, TryRecvError, TrySendError};
 use waiting::oneshot::Canceled;
+use waiting::semaphore::{AcquireError, TryAcquireError};
 
 impl<T: Drop> From<TrySendError<T>> for Fault {
     ghost from_gives = { λ error given. given ≡ of_try_send error };
@@ -14,6 +15,7 @@ impl<T: Drop> From<TrySendError<T>> for Fault {
         match error {
             TrySendError::Full(_) => Fault::Full,
             TrySendError::Closed(_) => Fault::Closed,
+            TrySendError::NoMemory(_) => Fault::NoMemory,
         }
     }
 }
@@ -47,6 +49,29 @@ impl From<RecvError> for Fault {
         match error {
             RecvError::Closed => Fault::Closed,
             RecvError::NoMemory => Fault::NoMemory,
+        }
+    }
+}
+
+impl From<TryAcquireError> for Fault {
+    ghost from_gives = { λ error given. given ≡ of_try_acquire error };
+
+    fn from(error: TryAcquireError) -> Fault {
+        match error {
+            TryAcquireError::NoPermits => Fault::Full,
+            TryAcquireError::Closed => Fault::Closed,
+            TryAcquireError::NoMemory => Fault::NoMemory,
+        }
+    }
+}
+
+impl From<AcquireError> for Fault {
+    ghost from_gives = { λ error given. given ≡ of_acquire error };
+
+    fn from(error: AcquireError) -> Fault {
+        match error {
+            AcquireError::Closed => Fault::Closed,
+            AcquireError::NoMemory => Fault::NoMemory,
         }
     }
 }

@@ -13,5 +13,5 @@ mod until;
 
 pub use fault::Fault;
 pub use join_all::JoinAll;
-pub use running::{answer, complete, run_until};
+pub use running::{answer, complete, complete_from, run_until, run_until_beside};
 pub use threads::run_workers;

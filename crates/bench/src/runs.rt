@@ -8,7 +8,7 @@ use workloads::executor::{self, Chain, Futures, Waker, Worker};
 use workloads::job::{self, JobRealm, JobSite, Open};
 use workloads::task::{self, Tasks};
 use workloads::work::Work;
-use workloads::{Fault, Timing, base, on_queue_of_one, on_shared_queue};
+use workloads::{Fault, Timing, base, on_queue_of_one, on_shared_queue, wait};
 
 /// The realms in which the tasks lie.
 #[derive(Drop)]
@@ -37,6 +37,7 @@ where
         Work::Task(work) => task::time(work, *rt, rt.alloc(), realms.tasks, ops),
         Work::Executor(work) => executor::time::<L, P, R>(work, rt, realms.futures, ops),
         Work::Local(work) => local::time(work, rt, ops),
+        Work::Wait(work) => wait::time(work, rt, ops),
         Work::Jobs(work) => job::time::<J, R>(work, rt, realms.jobs, ops),
     }
 }

@@ -65,6 +65,12 @@ impl From<RealmError> for Fault {
     }
 }
 
+impl From<async_task::NoMemory> for Fault {
+    fn from(_error: async_task::NoMemory) -> Fault {
+        Fault::NoMemory
+    }
+}
+
 impl From<NoMemory> for Fault {
     fn from(_error: NoMemory) -> Fault {
         Fault::NoMemory

@@ -11,6 +11,7 @@ mod queue;
 mod sharing;
 pub mod task;
 mod timing;
+pub mod wait;
 pub mod work;
 mod workload;
 

@@ -22,6 +22,8 @@ pub enum Work {
     Executor(ExecutorWork),
     /// Something on an executor of one thread, or of one owner.
     Local(LocalWork),
+    /// Something on what waits.
+    Wait(WaitWork),
     /// Something on a list of jobs.
     Jobs(JobWork),
 }
@@ -146,6 +148,36 @@ pub enum LocalWork {
     Storm,
     /// As `Ping`, on an executor of one owner.
     PingSolo,
+}
+
+/// What is done on what waits.
+#[derive(Clone, Copy)]
+pub enum WaitWork {
+    /// One of many who listen is told, and listens anew.
+    Tell(Crowd),
+    /// One of many who listen is dropped, and another listens.
+    Leave(Crowd),
+    /// One of many who sleep is dropped, and another sleeps.
+    DropSleep(Crowd),
+}
+
+/// How many wait at a time.
+#[derive(Clone, Copy)]
+pub enum Crowd {
+    Few,
+    Many,
+}
+
+impl Crowd {
+    /// Their number.
+    pub fn count(self) -> u64
+        ensures { 0 < result }
+    {
+        match self {
+            Crowd::Few => 500,
+            Crowd::Many => 4000,
+        }
+    }
 }
 
 /// What is done on a list of jobs.

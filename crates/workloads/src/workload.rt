@@ -11,9 +11,10 @@ use crate::work::TaskWork::{
 use crate::work::Way::{Burst, Len, OneToOne, PushAndPop, TwoToTwo};
 use crate::work::Work::{
     self, Exclusive, Executor, FetchAdd, Jobs, Local, MachineStep, MutexLock, Queue, Script, Task,
+    Wait,
 };
 use crate::work::Workers::{Four, One, Two};
-use crate::work::{JobWork, LocalWork};
+use crate::work::{Crowd, JobWork, LocalWork, WaitWork};
 
 /// What `bench` times: its name, its usual number of operations, and what is done.
 ///
@@ -84,6 +85,32 @@ const ALL: &[Workload] = &[
     Workload("local/drop-full", 1_000_000, Local(LocalWork::DropFull)),
     Workload("local/run", 500_000, Local(LocalWork::Run)),
     Workload("local/storm", 2_000_000, Local(LocalWork::Storm)),
+    Workload("wait/tell-500", 2_000_000, Wait(WaitWork::Tell(Crowd::Few))),
+    Workload(
+        "wait/tell-4000",
+        2_000_000,
+        Wait(WaitWork::Tell(Crowd::Many)),
+    ),
+    Workload(
+        "wait/leave-500",
+        2_000_000,
+        Wait(WaitWork::Leave(Crowd::Few)),
+    ),
+    Workload(
+        "wait/leave-4000",
+        2_000_000,
+        Wait(WaitWork::Leave(Crowd::Many)),
+    ),
+    Workload(
+        "timer/drop-500",
+        2_000_000,
+        Wait(WaitWork::DropSleep(Crowd::Few)),
+    ),
+    Workload(
+        "timer/drop-4000",
+        2_000_000,
+        Wait(WaitWork::DropSleep(Crowd::Many)),
+    ),
     Workload("jobs/parse", 2_000_000, Jobs(JobWork::Parse)),
     Workload("jobs/run-1", 200_000, Jobs(JobWork::Run(One))),
     Workload("jobs/run-2", 200_000, Jobs(JobWork::Run(Two))),

@@ -1,4 +1,5 @@
-//! An actor: an account with a mailbox of four places. Three clients, each on a thread, send it deposits.
+//! An actor: an account with a mailbox of four places. Three clients, each on a thread, send it deposits: they wait with the waker
+//! of a thread, and the account with that of its executor.
 use async_executor::{ExWaker, Executor};
 use async_task::{Future, Poll, Realm, Runtime};
 use blocking::{ThreadWaker, block_on};
@@ -10,7 +11,7 @@ type Waker<R> = ExWaker<u64, ThreadWaker, R>;
 
 /// Its mailbox, and its balance.
 #[derive(Drop)]
-struct Account<R: Runtime>(R, Receiver<u64, Waker<R>, R>, u64);
+struct Account<R: Runtime>(R, Receiver<u64, ThreadWaker, Waker<R>, R>, u64);
 
 impl<R: Runtime> Future<Waker<R>> for Account<R> {
     type Output = u64;
@@ -35,11 +36,11 @@ fn three_clients_deposit(rt: HostRuntime) -> io::Result<()> {
     let (mailbox, deposits) = channel::bounded(rt, alloc, 4)?;
     let account = bank.spawn(Account(rt, deposits, 0))?;
     let deposit = |_| {
-        let Ok(mut mailbox) = mailbox.clone() else {
+        let Ok(mailbox) = mailbox.clone() else {
             return;
         };
         for amount in 1..=100 {
-            let _ = block_on::<Waker<_>, _, _>(&rt, alloc, mailbox.send(amount));
+            let _ = block_on::<ThreadWaker, _, _>(&rt, alloc, mailbox.send(amount));
         }
     };
     let clients = || {

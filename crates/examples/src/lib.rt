@@ -5,8 +5,6 @@
 #[cfg(test)]
 mod actor;
 #[cfg(test)]
-mod echo;
-#[cfg(test)]
 mod first_task;
 #[cfg(test)]
 mod hello;

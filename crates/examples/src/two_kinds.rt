@@ -2,7 +2,7 @@
 //! doorkeeper opens it and wakes them.
 use async_task::{Awaiter, Future, Nobody, Poll, Realm, Returning, Runtime, StoredWaker, Wake};
 use concurrent_queue::ConcurrentQueue;
-use ready_queue::{Places, QueueWaker, ReadyQueue};
+use ready_queue::{Places, QueueRealm, QueueWaker, ReadyQueue};
 use std::io::{self, ErrorKind};
 
 /// The wakers of those who wait, as a list keeps them, until it is closed: the door is open then.
@@ -60,18 +60,36 @@ fn open<R: Runtime>(door: &Door, rt: &R, waker: &JobWaker<R>) -> Poll<Said> {
     Poll::Ready(Said::Opened)
 }
 
+/// Runs two visitors and a doorkeeper, and says whether both visitors came in.
+fn come_in<R: Runtime>(
+    rt: R,
+    realm: &'static QueueRealm<Job<R>, Said, Nobody, R>,
+    places: &'static Places,
+    door: &'static Door,
+) -> bool {
+    let queue = ReadyQueue::new(rt, realm, places);
+    let Ok(mut first) = queue.spawn(Job::Visit(door, rt)) else {
+        return false;
+    };
+    let Ok(mut second) = queue.spawn(Job::Visit(door, rt)) else {
+        return false;
+    };
+    let Ok(opening) = queue.spawn(Job::Open(door, rt)) else {
+        return false;
+    };
+    opening.detach();
+    queue.run();
+    let nobody = Awaiter::Outside(Nobody);
+    let one_is_in = matches!(first.poll(&nobody), Poll::Ready(Ok(Said::CameIn)));
+    one_is_in & matches!(second.poll(&nobody), Poll::Ready(Ok(Said::CameIn)))
+}
+
 #[test]
 fn visitors_come_in_once_the_door_is_open(rt: HostRuntime) -> io::Result<()> {
     let alloc = rt.alloc();
     let door = ConcurrentQueue::bounded(alloc, 2).map_err(|_| ErrorKind::OutOfMemory)?;
     let door: &'static Door = Box::leak(Box::new(alloc, door)?);
-    let queue = ReadyQueue::new(rt, Realm::leak(rt, alloc)?, Places::leak(alloc, 8)?);
-    let mut first = queue.spawn(Job::Visit(door, rt))?;
-    let mut second = queue.spawn(Job::Visit(door, rt))?;
-    queue.spawn(Job::Open(door, rt))?.detach();
-    queue.run();
-    let nobody = Awaiter::Outside(Nobody);
-    assert!(rt; matches!(first.poll(&nobody), Poll::Ready(Ok(Said::CameIn))));
-    assert!(rt; matches!(second.poll(&nobody), Poll::Ready(Ok(Said::CameIn))));
+    let (realm, places) = (Realm::leak(rt, alloc)?, Places::leak(alloc, 8)?);
+    assert!(rt; come_in(rt, realm, places, door));
     Ok(())
 }

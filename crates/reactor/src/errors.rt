@@ -1,0 +1,54 @@
+ghost use Rattle.std.specs.IoError.{error_kind};
+ghost use Rattle.std.specs.Prelude.{◌≡◌};
+
+use crate::parts::Over;
+use std::io::{self, ErrorKind};
+use thiserror::Error;
+
+/// Why there is no new source.
+#[derive(Clone, Copy, Debug, PartialEq, Eq, Drop, Error)]
+pub enum SourceError {
+    /// Memory was wanted, and there was none. So too after 2^64 - 1 sources.
+    #[error("out of memory")]
+    NoMemory,
+    #[error("the reactor is closed")]
+    Closed,
+}
+
+/// The reactor is closed: nobody hears of the source any more.
+#[derive(Debug, Drop, Error)]
+#[error("the reactor is closed")]
+pub struct ReactorClosed {
+    over: Over,
+}
+
+impl ReactorClosed {
+    pub(crate) fn new(over: Over) -> Self {
+        ReactorClosed { over }
+    }
+}
+
+/// So that `?` takes it to an `io::Result`.
+impl From<SourceError> for io::Error {
+    ghost use Rattle.reactor.specs.Errors.{of_source};
+
+    ghost from_gives = { λ why error. error_kind error ≡ of_source why };
+
+    fn from(error: SourceError) -> io::Error {
+        match error {
+            SourceError::NoMemory => ErrorKind::OutOfMemory.into(),
+            SourceError::Closed => ErrorKind::BrokenPipe.into(),
+        }
+    }
+}
+
+/// So that `?` takes it to an `io::Result`.
+impl From<ReactorClosed> for io::Error {
+    ghost use Rattle.std.specs.declared.io.ErrorKind.TheVariants.{BrokenPipe};
+
+    ghost from_gives = { λ _ error. error_kind error ≡ BrokenPipe };
+
+    fn from(_error: ReactorClosed) -> io::Error {
+        ErrorKind::BrokenPipe.into()
+    }
+}

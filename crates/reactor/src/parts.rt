@@ -1,0 +1,8 @@
+//! What stands under the locks of a reactor, for one of your own.
+mod attempt;
+mod side;
+mod sources;
+
+pub use attempt::{Attempt, Ready, Stale};
+pub use side::{Checked, Looked, Over, Owed, Parked, Readiness, Side, WouldBlock};
+pub use sources::{Key, Refused, Sources};

@@ -1,0 +1,60 @@
+//! One read or write, between reading the tick and clearing the way.
+ghost use Rattle.std.specs.Prelude.{◌≡◌};
+ghost use Rattle.reactor.specs.Attempts.{IsAttemptOf};
+
+use std::io::{self, ErrorKind};
+
+/// A way was ready at this tick. It has no drop: an attempt takes it, or who has it gives it back.
+#[must_use]
+pub struct Ready {
+    tick: u64,
+}
+
+/// An attempt at this tick would have blocked. It has no drop: it ends in `Side::clear`.
+#[must_use]
+pub struct Stale {
+    tick: u64,
+}
+
+/// What came of a read or a write.
+#[must_use]
+pub enum Attempt<T> {
+    /// It was done, well or not.
+    Done(io::Result<T>),
+    /// It would have blocked.
+    Blocked(Stale),
+}
+
+impl Ready {
+    pub(super) fn at(tick: u64) -> Self
+        ensures { result.tick ≡ tick }
+    {
+        Ready { tick }
+    }
+
+    /// Reads or writes. With no lock held.
+    pub fn try_io<T: Drop, F: FnOnce() -> io::Result<T>>(self, call: F) -> Attempt<T>
+        requires { F.pre call }
+        ensures { IsAttemptOf (F.post call) self.tick result }
+    {
+        let Ready { tick } = self;
+        match call() {
+            Err(error) if error.kind() == ErrorKind::WouldBlock => Attempt::Blocked(Stale { tick }),
+            done => Attempt::Done(done),
+        }
+    }
+
+    /// Gives it back: the way stays ready.
+    pub fn give_back(self) {
+        let Ready { tick: _ } = self;
+    }
+}
+
+impl Stale {
+    pub(super) fn into_tick(self) -> u64
+        ensures { result ≡ self.tick }
+    {
+        let Stale { tick } = self;
+        tick
+    }
+}

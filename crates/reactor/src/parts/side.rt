@@ -1,0 +1,177 @@
+//! One way of a source: whether it is ready, and who waits for it.
+ghost use Rattle.std.specs.Prelude.{◌≡◌, ◌≢◌, ◌+◌, ◌%◌, ◌^◌, None};
+ghost use Rattle.reactor.specs.declared.parts.side.Readiness.TheVariants as way;
+ghost use Rattle.reactor.specs.Sides.{HasChecked, HasLooked, closed, emptied, rung, waker_left};
+
+use crate::parts::attempt::{Ready, Stale};
+use async_task::Wake;
+use std::mem;
+
+/// Whether a way is ready. A way that is ready holds no waker, nor does a closed one.
+#[derive(Drop)]
+pub enum Readiness<K> {
+    /// A read or a write is worth a try.
+    Ready,
+    /// The last one would have blocked, and nobody has left a waker.
+    Blocked,
+    /// The last one would have blocked, and this is to be called at the next event.
+    Waited(K),
+    /// Nobody hears of it any more.
+    Closed,
+}
+
+/// One way of a source, with a tick that moves at each event. Each call is one section of whoever locks it. None takes memory,
+/// and none calls or drops a waker: what comes out is to be called or dropped once the lock is given back.
+#[derive(Drop)]
+pub struct Side<K> {
+    tick: u64,
+    readiness: Readiness<K>,
+}
+
+/// The call that is owed to who waited. It has no drop: it ends in `call`.
+#[must_use]
+pub struct Owed<K> {
+    waker: Option<K>,
+}
+
+/// What one who looks without a waker finds.
+#[must_use]
+pub enum Checked {
+    /// It is ready, at this tick.
+    Ready(Ready),
+    /// It isn't.
+    Blocked,
+    /// It is closed.
+    Closed(Over),
+}
+
+/// What one who wants to wait found.
+#[must_use]
+pub enum Looked<K> {
+    /// It is ready, at this tick. The waker that wasn't left.
+    Ready(Ready, K),
+    /// It isn't, and the waker was left. The one that was left before, to be dropped once the lock is given back.
+    Waits(Parked, Option<K>),
+    /// It is closed. The waker that wasn't left.
+    Closed(Over, K),
+}
+
+/// That a waker was left.
+#[derive(Drop)]
+pub struct Parked {
+    // None is made elsewhere.
+    own: (),
+}
+
+/// That the way was found closed: so it stays.
+#[derive(Debug, Drop)]
+pub struct Over {
+    // None is made elsewhere.
+    own: (),
+}
+
+/// A read or a write would have blocked, and its way was told so.
+#[derive(Debug, Drop)]
+pub struct WouldBlock {
+    // None is made elsewhere.
+    own: (),
+}
+
+impl<K: Wake> Owed<K> {
+    /// Calls who waited. With no lock held.
+    pub fn call(self) {
+        let Owed { waker } = self;
+        if let Some(waker) = waker {
+            waker.wake();
+        }
+    }
+}
+
+impl<K: Drop> Readiness<K> {
+    /// The call that is owed to who waited.
+    fn into_owed(self) -> Owed<K>
+        ensures { result.waker ≡ waker_left self }
+    {
+        match self {
+            Readiness::Waited(waker) => Owed { waker: Some(waker) },
+            Readiness::Ready | Readiness::Blocked | Readiness::Closed => Owed { waker: None },
+        }
+    }
+}
+
+impl<K: Drop> Side<K> {
+    /// It is ready, so that the first read or write is tried at once.
+    pub fn new() -> Self
+        ensures { result ≡ record { tick = 0; readiness = way.Ready } }
+    {
+        Side {
+            tick: 0,
+            readiness: Readiness::Ready,
+        }
+    }
+
+    /// Whether it is ready.
+    pub fn check(&self) -> Checked
+        ensures { HasChecked self.now result }
+    {
+        match &self.readiness {
+            Readiness::Ready => Checked::Ready(Ready::at(self.tick)),
+            Readiness::Closed => Checked::Closed(Over { own: () }),
+            Readiness::Blocked | Readiness::Waited(_) => Checked::Blocked,
+        }
+    }
+
+    /// Whether it is ready. Where it isn't, leaves this waker in the place of the one before.
+    pub fn look(&mut self, waker: K) -> Looked<K>
+        ensures { HasLooked waker self.old self.new result }
+    {
+        match mem::replace(&mut self.readiness, Readiness::Closed) {
+            Readiness::Ready => {
+                self.readiness = Readiness::Ready;
+                Looked::Ready(Ready::at(self.tick), waker)
+            }
+            Readiness::Blocked => {
+                self.readiness = Readiness::Waited(waker);
+                Looked::Waits(Parked { own: () }, None)
+            }
+            Readiness::Waited(before) => {
+                self.readiness = Readiness::Waited(waker);
+                Looked::Waits(Parked { own: () }, Some(before))
+            }
+            Readiness::Closed => Looked::Closed(Over { own: () }, waker),
+        }
+    }
+
+    /// An event came: it is ready, unless it is closed, and the tick moves. Answers the call that is owed.
+    pub fn ring(&mut self) -> Owed<K>
+        ensures rung { self.new ≡ rung self.old }
+        ensures waker { result.waker ≡ waker_left self.old.readiness }
+    {
+        self.tick = self.tick.wrapping_add(1);
+        let after = match &self.readiness {
+            Readiness::Closed => Readiness::Closed,
+            Readiness::Ready | Readiness::Blocked | Readiness::Waited(_) => Readiness::Ready,
+        };
+        mem::replace(&mut self.readiness, after).into_owed()
+    }
+
+    /// A read or a write at this tick would have blocked. So it is ready no more, unless an event came since.
+    pub fn clear(&mut self, stale: Stale) -> WouldBlock
+        ensures same_tick { stale.tick ≡ self.old.tick → self.new ≡ emptied self.old }
+        ensures event_came { stale.tick ≢ self.old.tick → self.new ≡ self.old }
+    {
+        if stale.into_tick() == self.tick && matches!(self.readiness, Readiness::Ready) {
+            self.readiness = Readiness::Blocked;
+        }
+        WouldBlock { own: () }
+    }
+
+    /// Nobody hears of it any more. Answers the call that is owed.
+    pub fn close(&mut self) -> Owed<K>
+        ensures closed { self.new ≡ closed self.old }
+        ensures waker { result.waker ≡ waker_left self.old.readiness }
+    {
+        let before = mem::replace(&mut self.readiness, Readiness::Closed);
+        before.into_owed()
+    }
+}

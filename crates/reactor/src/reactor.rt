@@ -1,0 +1,152 @@
+ghost use Rattle.std.specs.Arc.{arc_value};
+ghost use Rattle.std.specs.Prelude.{◌≡◌, IfOk};
+
+use crate::errors::SourceError;
+use crate::lane::Lanes;
+use crate::parts::{Owed, Refused};
+use crate::poller::{Heard, Poller, Way};
+use crate::source::Source;
+use crate::table::Table;
+use async_task::{NoMemory, Wake};
+use std::alloc::Global;
+use std::io::{self, ErrorKind};
+use std::sync::{Arc, Wait};
+use std::time::Duration;
+
+/// Sources, and who waits for them. One thread drives it, with a poller. The type of the wakers is `K`.
+///
+/// Wakers are called and dropped with no lock held.
+#[derive(Drop)]
+pub struct Reactor<K: Wake + Drop, R: Wait + Copy + Drop> {
+    rt: R,
+    alloc: Global,
+    table: Arc<Table<K>>,
+}
+
+impl<K: Wake + Drop, R: Wait + Copy + Drop> Reactor<K, R> {
+    /// A reactor without sources.
+    pub fn new(rt: R, alloc: Global) -> Result<Self, NoMemory> {
+        match Arc::new(alloc, Table::new(alloc)) {
+            Ok(table) => Ok(Reactor { rt, alloc, table }),
+            Err(_) => Err(NoMemory),
+        }
+    }
+
+    /// The same reactor, for another who asks for sources; refused where too many have it already. Takes no memory.
+    pub fn clone(&self) -> Result<Self, NoMemory>
+        ensures same { IfOk result (λ reactor. arc_value reactor.table ≡ arc_value self.now.table) }
+    {
+        match Arc::try_clone(&self.table) {
+            Ok(table) => Ok(Reactor {
+                rt: self.rt,
+                alloc: self.alloc,
+                table,
+            }),
+            Err(_) => Err(NoMemory),
+        }
+    }
+
+    /// A new source, which is ready each way until a read or a write would block. Make it known to the poller under its key. It
+    /// takes memory for its ways and its place.
+    pub fn source(&self) -> Result<Source<K, R>, SourceError>
+        ensures here { IfOk result (λ source. arc_value source.table ≡ arc_value self.now.table) }
+    {
+        let Ok(lanes) = Arc::new(self.alloc, Lanes::new()) else {
+            return Err(SourceError::NoMemory);
+        };
+        let (Ok(same), Ok(table)) = (Arc::try_clone(&lanes), Arc::try_clone(&self.table)) else {
+            return Err(SourceError::NoMemory);
+        };
+        let entered = self.table.lock(&self.rt).enter(same);
+        match entered {
+            Ok(key) => Ok(Source::new(self.rt, table, lanes, key)),
+            Err(Refused::Closed(_same)) => Err(SourceError::Closed),
+            Err(Refused::NoMemory(_same)) => Err(SourceError::NoMemory),
+        }
+    }
+
+    /// Waits once for the poller, at most so long, and calls who waits for what it heard of. None is without end. Answers whether
+    /// the reactor is open: closed, it doesn't wait. It takes no memory.
+    ///
+    /// A wait that was interrupted counts as one that heard nothing. Of what was heard before an error all are told.
+    pub fn turn<P: Poller>(&self, poller: &mut P, longest: Option<Duration>) -> io::Result<bool> {
+        if self.table.lock(&self.rt).is_closed() {
+            return Ok(false);
+        }
+        let waited = poller.wait(longest);
+        for _ in 0..u64::MAX {
+            match poller.heard() {
+                Some(heard) => self.tell(heard),
+                None => break,
+            }
+        }
+        match waited {
+            Err(error) if error.kind() != ErrorKind::Interrupted => Err(error),
+            _ => Ok(true),
+        }
+    }
+
+    /// Drives the reactor on this thread, until it is closed and its poller rung, or the poller fails. Before each wait it asks
+    /// how long that may take: as long as a timer's `turn` says, so that one thread has both. Where it fails close the reactor,
+    /// so that who waits is told.
+    pub fn drive<P: Poller, F: FnMut() -> Option<Duration>>(
+        &self,
+        poller: &mut P,
+        mut longest: F,
+    ) -> io::Result<()>
+        requires { F.IsAlwaysCallable longest }
+    {
+        for _ in self.rt.forever() {
+            if !self.turn(poller, longest())? {
+                return Ok(());
+            }
+        }
+        unreachable!()
+    }
+
+    /// Sets the flags of what was heard, under the locks, and then calls who waits, with no lock held.
+    fn tell(&self, heard: Heard) {
+        let table = self.table.lock(&self.rt);
+        let (readers, writers) = match table.get(heard.key) {
+            Some(lanes) => (
+                ring(&self.rt, &**lanes, Way::Read, heard.is_readable),
+                ring(&self.rt, &**lanes, Way::Write, heard.is_writable),
+            ),
+            None => (None, None),
+        };
+        drop(table);
+        call(readers);
+        call(writers);
+    }
+
+    /// Closes the reactor: all who wait are called, and their next poll says so; no source is to be had any more. Ring the poller
+    /// then, so that `drive` returns. It takes no memory.
+    pub fn close(&self) {
+        let entries = self.table.lock(&self.rt).close(self.alloc);
+        for lanes in entries.values() {
+            let reader = lanes.of(Way::Read).lock(&self.rt).close();
+            reader.call();
+            let writer = lanes.of(Way::Write).lock(&self.rt).close();
+            writer.call();
+        }
+    }
+}
+
+fn ring<K: Wake + Drop, R: Wait>(
+    rt: &R,
+    lanes: &Lanes<K>,
+    way: Way,
+    is_ready: bool,
+) -> Option<Owed<K>> {
+    if is_ready {
+        Some(lanes.of(way).lock(rt).ring())
+    } else {
+        None
+    }
+}
+
+fn call<K: Wake>(owed: Option<Owed<K>>) {
+    if let Some(owed) = owed {
+        owed.call();
+    }
+}

@@ -1,0 +1,54 @@
+use async_task::Wake;
+use std::alloc::AllocGlobal;
+use std::process::Abort;
+use std::sync::Arc;
+use std::sync::atomic::AtomicU64;
+use std::sync::atomic::Ordering::SeqCst;
+
+/// A waker whose calls are counted. A mute one has no copy to give.
+#[derive(Drop)]
+pub struct Bell {
+    calls: Arc<AtomicU64>,
+    is_mute: bool,
+}
+
+impl Bell {
+    pub fn new<R: AllocGlobal + Abort>(rt: &R, is_mute: bool) -> Bell {
+        let calls = Arc::new(rt.alloc(), AtomicU64::new(0)).expect(rt, "memory");
+        Bell { calls, is_mute }
+    }
+
+    /// How often it and its copies were called.
+    pub fn calls(&self) -> u64 {
+        self.calls.load(SeqCst)
+    }
+}
+
+impl Wake for Bell {
+    ghost is_same = { λ a b. Unit {0} };
+
+    fn wake(self) {
+        self.wake_by_ref();
+    }
+
+    fn wake_by_ref(&self) {
+        self.calls.fetch_add(1, SeqCst);
+    }
+
+    fn clone(&self) -> Option<Self> {
+        if self.is_mute {
+            return None;
+        }
+        match Arc::try_clone(&self.calls) {
+            Ok(calls) => Some(Bell {
+                calls,
+                is_mute: false,
+            }),
+            Err(_) => None,
+        }
+    }
+
+    fn will_wake(&self, _other: &Self) -> bool {
+        false
+    }
+}

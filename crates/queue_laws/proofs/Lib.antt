@@ -18,3 +18,7 @@ pub mod BoundedState
 pub mod SingleLone
 pub mod SingleLooks
 pub mod SingleRuns
+pub mod Order
+pub mod Later
+pub mod Closing
+pub mod ClosesOnce

@@ -408,7 +408,7 @@ module _ {T : Type 0} where
   run_append a b c [] ns first second = subst (λ (x : Scene T). Run x ns c) first second
   run_append a b c (m ∷ ms) ns first second = (first.0, first.1, run_append first.0 b c ms ns first.2 second)
 
-  runs : (steps : List (Step T)) (w : SingleWorld T) (s : Scene T) → Tied w s → Goes w s (trace steps w) (run steps w)
+  pub runs : (steps : List (Step T)) (w : SingleWorld T) (s : Scene T) → Tied w s → Goes w s (trace steps w) (run steps w)
   runs [] w s tied = (s, refl, tied)
   runs (step ∷ steps) w s tied =
       let one = step_by w s step tied in

@@ -4,3 +4,6 @@ pub mod Moments
 pub mod BoundedSteps
 pub mod FreePlaces
 pub mod SingleSteps
+pub mod Traces
+pub mod Order
+pub mod Closing

@@ -6,6 +6,9 @@ ghost use Rattle.queue_laws.specs.BoundedSteps.{IsClosableQueue as IsClosableRin
 ghost use Rattle.queue_laws.specs.FreePlaces.{IsWithinPlaces, FreePlacesStay, SeenPlacesStay, FreePlacesAreFilled};
 ghost use Rattle.queue_laws.specs.FreePlaces.{SeenPlacesAreFilled};
 ghost use Rattle.queue_laws.specs.SingleSteps.{Step as WordStep, IsClosableQueue as IsClosableSlot};
+ghost use Rattle.queue_laws.specs.Traces.{on_slot, on_ring, on_chain, length_on_slot, length_on_ring, length_on_chain};
+ghost use Rattle.queue_laws.specs.Order.{LeaveInOrder};
+ghost use Rattle.queue_laws.specs.Closing.{StaysClosed, GivesNoMore, ClosesOnce};
 ghost use Rattle.std.specs.Prelude.{ℕ, List};
 
 /// Whatever parties call on a chain, and however their steps come between one another, what they see is a run of the
@@ -56,4 +59,34 @@ pub fn free_places_stay_free<T>()
 pub fn free_places_are_not_refused<T>()
     ensures state { (n m : ℕ) → IsShape n m → (steps more : List (WordStep T)) → FreePlacesAreFilled n m steps more }
     ensures look { (n m : ℕ) → IsShape n m → (steps : List (WordStep T)) → SeenPlacesAreFilled n m steps }
+{}
+
+/// Items leave slot, ring and chain in the order in which they were appended: those that left, in order, are the first of
+/// those that were appended, in order. One that a forced push displaces leaves too, to that push; it is the first one.
+pub fn items_leave_in_order<T>()
+    ensures slot { (steps : List (WordStep T)) → LeaveInOrder (on_slot steps) (length_on_slot steps) }
+    ensures ring { (n m : ℕ) → IsShape n m → (steps : List (WordStep T)) → LeaveInOrder (on_ring n m steps) (length_on_ring n m steps) }
+    ensures chain { (steps : List (Step T)) → LeaveInOrder (on_chain steps) (length_on_chain steps) }
+{}
+
+/// Once closed always closed. After a close, or an answer that the queue is closed, no call that begins later finds it open:
+/// no item is accepted, no pop is told `Empty`, no close answers true, and `is_closed` doesn't say no.
+pub fn a_closed_queue_stays_closed<T>()
+    ensures slot { (steps : List (WordStep T)) → StaysClosed (on_slot steps) }
+    ensures ring { (n m : ℕ) → IsShape n m → (steps : List (WordStep T)) → StaysClosed (on_ring n m steps) }
+    ensures chain { (steps : List (Step T)) → StaysClosed (on_chain steps) }
+{}
+
+/// After a pop that answered `Closed` no item leaves, whoever was at it then, and no pop that begins later gives an item.
+pub fn nothing_leaves_after_closed<T>()
+    ensures slot { (steps : List (WordStep T)) → GivesNoMore (on_slot steps) }
+    ensures ring { (n m : ℕ) → IsShape n m → (steps : List (WordStep T)) → GivesNoMore (on_ring n m steps) }
+    ensures chain { (steps : List (Step T)) → GivesNoMore (on_chain steps) }
+{}
+
+/// At most one close answers true, and none that begins after another close has ended.
+pub fn at_most_one_close_is_true<T>()
+    ensures slot { (steps : List (WordStep T)) → ClosesOnce (on_slot steps) }
+    ensures ring { (n m : ℕ) → IsShape n m → (steps : List (WordStep T)) → ClosesOnce (on_ring n m steps) }
+    ensures chain { (steps : List (Step T)) → ClosesOnce (on_chain steps) }
 {}

@@ -1,0 +1,58 @@
+-- What stays so once a queue is closed.
+use Rattle.std.specs.Prelude.{◌≡◌, ℕ, ◌+◌, ◌≤◌, List, [], ◌∷◌, ◌++◌, Bool, true, false, Ok, Err}
+use Rattle.queue_steps.specs.declared.errors.PushError.TheVariants.{Full, Closed, NoMemory}
+use Rattle.queue_steps.specs.declared.errors.ForcePushError.TheVariants.{Closed as ClosedToForce, NoMemory as NoMemoryToForce}
+use Rattle.queue_steps.specs.declared.errors.PopError.TheVariants.{Empty, Closed as ClosedToPop}
+use Rattle.queue_steps.specs.Calls.{Answer, Pushed, ForcePushed, Popped, WasClosed, ClosedIs}
+use Rattle.queue_laws.specs.Moments.{Moment, Does, Ends}
+use Rattle.queue_laws.specs.Traces.{AnswersLater}
+use Rattle.queue_laws.specs.Order.{left_in}
+
+module _ {T : Type 0} where
+  -- an answer that only a closed queue gives, or a close, after which it is closed
+  abbrev pub TellsClosed : Answer T → Type 0
+  TellsClosed (Pushed (Err (Closed x))) = Unit {0}
+  TellsClosed (ForcePushed (Err (ClosedToForce x))) = Unit {0}
+  TellsClosed (Popped (Err ClosedToPop)) = Unit {0}
+  TellsClosed (WasClosed b) = Unit {0}
+  TellsClosed (ClosedIs true) = Unit {0}
+  TellsClosed _ = ⊥
+
+  -- an answer that only an open queue gives: an item is accepted, or refused for another reason; a pop finds it empty and
+  -- not closed; a close is the one that closes it; it isn't closed
+  abbrev pub TellsOpen : Answer T → Type 0
+  TellsOpen (Pushed (Ok u)) = Unit {0}
+  TellsOpen (Pushed (Err (Full x))) = Unit {0}
+  TellsOpen (Pushed (Err (NoMemory x))) = Unit {0}
+  TellsOpen (ForcePushed (Ok o)) = Unit {0}
+  TellsOpen (ForcePushed (Err (NoMemoryToForce x))) = Unit {0}
+  TellsOpen (Popped (Err Empty)) = Unit {0}
+  TellsOpen (WasClosed true) = Unit {0}
+  TellsOpen (ClosedIs false) = Unit {0}
+  TellsOpen _ = ⊥
+
+  -- Once closed always closed: later no call acts as on an open queue, and none that begins later is told that it is open.
+  -- A forced push that found the queue open and full before may still displace an item, and append its own in that place.
+  pub record StaysClosed (ms : List (Moment T)) : Type 0 where
+    pub moments : (p q : ℕ) (a b : Answer T) (before since after : List (Moment T))
+        → ms ≡ before ++ (Ends p a ∷ (since ++ (Does q b ∷ after))) → TellsClosed a → TellsOpen b → ⊥
+    pub calls : (a b : Answer T) → AnswersLater ms a b → TellsClosed a → TellsOpen b → ⊥
+
+  -- After a pop that answered `Closed` no item leaves, and no pop that begins later gives one.
+  pub record GivesNoMore (ms : List (Moment T)) : Type 0 where
+    pub moments : (p : ℕ) (before after : List (Moment T)) → ms ≡ before ++ (Ends p (Popped (Err ClosedToPop)) ∷ after)
+        → left_in after ≡ []
+    pub calls : (x : T) → AnswersLater ms (Popped (Err ClosedToPop)) (Popped (Ok x)) → ⊥
+
+  -- how many closes answered true
+  abbrev pub closings_in : List (Moment T) → ℕ
+  closings_in [] = 0
+  closings_in (Ends p (WasClosed true) ∷ ms) = 1 + closings_in ms
+  closings_in (m ∷ ms) = closings_in ms
+
+  -- At most one close answers true: the first that acts, and none that begins after a close has ended.
+  pub record ClosesOnce (ms : List (Moment T)) : Type 0 where
+    pub once : closings_in ms ≤ 1
+    pub moments : (p q : ℕ) (b : Bool) (before between after : List (Moment T))
+        → ms ≡ before ++ (Does p (WasClosed b) ∷ (between ++ (Does q (WasClosed true) ∷ after))) → ⊥
+    pub calls : (b : Bool) → AnswersLater ms (WasClosed b) (WasClosed true) → ⊥

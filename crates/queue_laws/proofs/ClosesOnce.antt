@@ -34,7 +34,7 @@ module _ {T : Type 0} where
   tells_open _ h = elim h [ ]
 
   -- a close that changes nothing doesn't answer true
-  unchanged : (q : ClosableQueue T) (call : Call T) → Acts q call (WasClosed true) q → ⊥
+  pub unchanged : (q : ClosableQueue T) (call : Call T) → Acts q call (WasClosed true) q → ⊥
   unchanged q Close (f, e) = let z = f ∙ ap not (ap (λ (q : ClosableQueue T). q.closed) e) in cc
   unchanged q _ d = elim d [ ]
 

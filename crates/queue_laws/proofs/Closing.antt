@@ -13,7 +13,7 @@ use Rattle.queue_laws.specs.Moments.{MayBeside}
 use Rattle.queue_laws.specs.Traces.{AnswersLater}
 use Rattle.queue_laws.specs.Order.{left_at, left_in}
 use Rattle.queue_laws.specs.Closing.{TellsClosed, TellsOpen, StaysClosed, GivesNoMore}
-use Rattle.queue_laws.proofs.Later.{Lasts, not_later, stays_so, is_so_after}
+use Rattle.queue_laws.proofs.Later.{Lasts, not_later, not_displaced, stays_so, is_so_after}
 use Rattle.queue_laws.proofs.FreePlaces.{cut}
 
 module _ {T : Type 0} where
@@ -122,6 +122,11 @@ module _ {T : Type 0} where
         let k = is_so_after is_shut s s' before (since ++ (Does q b ∷ after)) p a away
         (subst (λ (ms : List (Moment T)). Run s ms s') is run) tells in
         open_no_more k.0 s' q b since after k.1 k.2 isnt;
+    displaced = λ p q a call y before since during after is tells.
+        let later : List (Moment T) = Begins q call ∷ (during ++ (Displaces q y ∷ after)) in
+        let k = is_so_after is_shut s s' before (since ++ later) p a away (subst (λ (ms : List (Moment T)). Run s ms s') is run) tells in
+        let parts = cut k.0 s' since later k.2 in
+        not_displaced is_shut q call parts.0 s' during after y (stays_so is_shut k.0 parts.0 since parts.1 k.1) parts.2;
     calls = λ a b at tells isnt. apart is_shut s s' ms away run a b at tells isnt;
   }
 

@@ -178,6 +178,16 @@ module _ {T : Type 0} (l : Lasts T) where
       let h = later p s begun (Begins p call) begins so (subst BegunSo (sym begins.0) tt) in
       ends_not p parts.0 parts.2.0 a isnt (runs_later p begun parts.0 during parts.1 now h) parts.2.1
 
+  -- Nor does it displace an item.
+  pub not_displaced : (p : ℕ) (call : Call T) (s s' : Scene T) (during after : List (Moment T)) (y : T) → l.Is s.sight
+      → Run s (Begins p call ∷ during ++ Displaces p y ∷ after) s' → ⊥
+  not_displaced p call s s' during after y so (begun, begins, rest) =
+      let parts = cut begun s' during (Displaces p y ∷ after) rest in
+      let now = l.lasts s begun (Begins p call) begins so in
+      let h = later p s begun (Begins p call) begins so (subst BegunSo (sym begins.0) tt) in
+      let did = parts.2.1 in
+      let k = subst BegunSo did.2 (runs_later p begun parts.0 during parts.1 now h) in none_open did.0.seen k.0 did.8
+
   -- From a queue on which nobody calls: after an answer that tells so it is so.
   pub is_so_after : (s s' : Scene T) (before after : List (Moment T)) (p : ℕ) (a : Answer T) → ((p : ℕ) → s.calls p ≡ None)
       → Run s (before ++ Ends p a ∷ after) s' → l.Tells a → (mid : Scene T) × l.Is mid.sight × Run mid after s'

@@ -22,3 +22,6 @@ pub mod Order
 pub mod Later
 pub mod Closing
 pub mod ClosesOnce
+pub mod Told
+pub mod Counted
+pub mod ToldOnSlot

@@ -3,8 +3,8 @@ use Rattle.std.specs.Prelude.{◌≡◌, ℕ, ◌+◌, ◌≤◌, List, [], ◌�
 use Rattle.queue_steps.specs.declared.errors.PushError.TheVariants.{Full, Closed, NoMemory}
 use Rattle.queue_steps.specs.declared.errors.ForcePushError.TheVariants.{Closed as ClosedToForce, NoMemory as NoMemoryToForce}
 use Rattle.queue_steps.specs.declared.errors.PopError.TheVariants.{Empty, Closed as ClosedToPop}
-use Rattle.queue_steps.specs.Calls.{Answer, Pushed, ForcePushed, Popped, WasClosed, ClosedIs}
-use Rattle.queue_laws.specs.Moments.{Moment, Does, Ends}
+use Rattle.queue_steps.specs.Calls.{Call, Answer, Pushed, ForcePushed, Popped, WasClosed, ClosedIs}
+use Rattle.queue_laws.specs.Moments.{Moment, Begins, Does, Displaces, Ends}
 use Rattle.queue_laws.specs.Traces.{AnswersLater}
 use Rattle.queue_laws.specs.Order.{left_in}
 
@@ -32,10 +32,13 @@ module _ {T : Type 0} where
   TellsOpen _ = ⊥
 
   -- Once closed always closed: later no call acts as on an open queue, and none that begins later is told that it is open.
-  -- A forced push that found the queue open and full before may still displace an item, and append its own in that place.
+  -- A forced push that began before, and found the queue open and full, may still displace the first item for its own; one
+  -- that begins later does not.
   pub record StaysClosed (ms : List (Moment T)) : Type 0 where
     pub moments : (p q : ℕ) (a b : Answer T) (before since after : List (Moment T))
         → ms ≡ before ++ (Ends p a ∷ (since ++ (Does q b ∷ after))) → TellsClosed a → TellsOpen b → ⊥
+    pub displaced : (p q : ℕ) (a : Answer T) (call : Call T) (y : T) (before since during after : List (Moment T))
+        → ms ≡ before ++ (Ends p a ∷ (since ++ (Begins q call ∷ (during ++ (Displaces q y ∷ after))))) → TellsClosed a → ⊥
     pub calls : (a b : Answer T) → AnswersLater ms a b → TellsClosed a → TellsOpen b → ⊥
 
   -- After a pop that answered `Closed` no item leaves, and no pop that begins later gives one.

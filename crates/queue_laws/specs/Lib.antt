@@ -7,3 +7,5 @@ pub mod SingleSteps
 pub mod Traces
 pub mod Order
 pub mod Closing
+pub mod Shown
+pub mod Told

@@ -9,6 +9,8 @@ ghost use Rattle.queue_laws.specs.SingleSteps.{Step as WordStep, IsClosableQueue
 ghost use Rattle.queue_laws.specs.Traces.{on_slot, on_ring, on_chain, length_on_slot, length_on_ring, length_on_chain};
 ghost use Rattle.queue_laws.specs.Order.{LeaveInOrder};
 ghost use Rattle.queue_laws.specs.Closing.{StaysClosed, GivesNoMore, ClosesOnce};
+ghost use Rattle.queue_laws.specs.Told.{AnswerWhatTheyDid};
+ghost use Rattle.queue_laws.specs.Shown.{ShownOnSlot, ShownOnRing, ShownOnChain, ShownBeside};
 ghost use Rattle.std.specs.Prelude.{ℕ, List};
 
 /// Whatever parties call on a chain, and however their steps come between one another, what they see is a run of the
@@ -89,4 +91,21 @@ pub fn at_most_one_close_is_true<T>()
     ensures slot { (steps : List (WordStep T)) → ClosesOnce (on_slot steps) }
     ensures ring { (n m : ℕ) → IsShape n m → (steps : List (WordStep T)) → ClosesOnce (on_ring n m steps) }
     ensures chain { (steps : List (Step T)) → ClosesOnce (on_chain steps) }
+{}
+
+/// Each call acts at one moment at most, between its beginning and its end, and answers what it did then. One that did
+/// nothing took in no item, gave none and closed nothing. So what leaves or comes in at a moment is what its caller is told.
+pub fn calls_answer_what_they_did<T>()
+    ensures slot { (steps : List (WordStep T)) → AnswerWhatTheyDid (on_slot steps) }
+    ensures ring { (n m : ℕ) → IsShape n m → (steps : List (WordStep T)) → AnswerWhatTheyDid (on_ring n m steps) }
+    ensures chain { (steps : List (Step T)) → AnswerWhatTheyDid (on_chain steps) }
+{}
+
+/// What these laws speak of happens. One party alone pushes, closes and pops, and meets each of them, on a slot, a ring of two
+/// places and a chain. A forced push that found that ring full before a close appends its item after it.
+pub fn what_these_laws_speak_of_happens<T>()
+    ensures slot { (x y z : T) → ShownOnSlot x y z }
+    ensures ring { (x y z : T) → ShownOnRing x y z }
+    ensures chain { (x y z : T) → ShownOnChain x y z }
+    ensures beside { (x y z : T) → ShownBeside x y z }
 {}

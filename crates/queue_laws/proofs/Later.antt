@@ -129,32 +129,32 @@ module _ {T : Type 0} (l : Lasts T) where
   none_open (x ∷ xs) h (inr later) = none_open xs h.1 later
 
   -- of one party p
-  later : (p : ℕ) (s s' : Scene T) (m : Moment T) → Happens s m s' → l.Is s.sight → BegunSo (s.calls p) → BegunSo (s'.calls p)
-  later p s s' (Begins r call) (none, e) so h = subst (λ (s : Scene T). BegunSo (s.calls p)) (sym e)
+  goes_on : (p : ℕ) (s s' : Scene T) (m : Moment T) → Happens s m s' → l.Is s.sight → BegunSo (s.calls p) → BegunSo (s'.calls p)
+  goes_on p s s' (Begins r call) (none, e) so h = subst (λ (s : Scene T). BegunSo (s.calls p)) (sym e)
       (at_party (λ q d. BegunSo d) s.calls r p _ ((so, tt), tt) h)
-  later p s s' (Does r a) (c, is, none, (q, did, beside, e)) so h =
+  goes_on p s s' (Does r a) (c, is, none, (q, did, beside, e)) so h =
       let x : Sight T = record s.sight { queue = q } in
       let next : l.Is x = l.lasts s _ (Does r a) (c, is, none, (q, did, beside, refl)) so in
       subst (λ (s : Scene T). BegunSo (s.calls p)) (sym e)
       (at_party (λ q d. BegunSo (s.calls q) → BegunSo (sees x d)) s.calls r p (Some (record c { answer = Some a }))
       (λ h. ((next, (subst BegunSo is h).0), (λ isnt. l.never s.sight q c.call a did so isnt))) (λ h. begun_more x next (s.calls p) h) h)
-  later p s s' (Displaces r y) (c, x, is, none, of, inc, full, unspent, at, first, e) so h =
+  goes_on p s s' (Displaces r y) (c, x, is, none, of, inc, full, unspent, at, first, e) so h =
       let z : Sight T = record { queue = taken s.sight.queue; incoming = Some (r, x) } in
       let next : l.Is z = l.lasts s _ (Displaces r y) (c, x, is, none, of, inc, full, unspent, at, first, refl) so in
       subst (λ (s : Scene T). BegunSo (s.calls p)) (sym e)
       (at_party (λ q d. BegunSo (s.calls q) → BegunSo (sees z d)) s.calls r p (Some (record c { answer = Some (ForcePushed (Ok (Some y))) }))
       (λ h. elim (none_open c.seen (subst BegunSo is h).0 at) [ ]) (λ h. begun_more z next (s.calls p) h) h)
-  later p s s' (Arrives r) (x, inc, e) so h =
+  goes_on p s s' (Arrives r) (x, inc, e) so h =
       let z : Sight T = record { queue = appended s.sight.queue x; incoming = None } in
       let next : l.Is z = l.lasts s _ (Arrives r) (x, inc, refl) so in
       subst (λ (s : Scene T). BegunSo (s.calls p)) (sym e) (begun_more z next (s.calls p) h)
-  later p s s' (Ends r a) (c, is, may, from, e) so h = subst (λ (s : Scene T). BegunSo (s.calls p)) (sym e)
+  goes_on p s s' (Ends r a) (c, is, may, from, e) so h = subst (λ (s : Scene T). BegunSo (s.calls p)) (sym e)
       (at_party (λ q d. BegunSo d) s.calls r p None tt h)
 
   runs_later : (p : ℕ) (s s' : Scene T) (ms : List (Moment T)) → Run s ms s' → l.Is s.sight → BegunSo (s.calls p) → BegunSo (s'.calls p)
   runs_later p s s' [] e so h = subst (λ (s : Scene T). BegunSo (s.calls p)) (sym e) h
   runs_later p s s' (m ∷ ms) (mid, first, rest) so h =
-      runs_later p mid s' ms rest (l.lasts s mid m first so) (later p s mid m first so h)
+      runs_later p mid s' ms rest (l.lasts s mid m first so) (goes_on p s mid m first so h)
 
   saw_it : (call : Call T) (a : Answer T) (xs : List (Sight T)) → l.Never a → SawSo xs → AtSome (MayAnswer call a) xs → ⊥
   saw_it call a [] isnt h at = at
@@ -175,7 +175,7 @@ module _ {T : Type 0} (l : Lasts T) where
   not_later p call s s' during after a isnt so (begun, begins, rest) =
       let parts = cut begun s' during (Ends p a ∷ after) rest in
       let now = l.lasts s begun (Begins p call) begins so in
-      let h = later p s begun (Begins p call) begins so (subst BegunSo (sym begins.0) tt) in
+      let h = goes_on p s begun (Begins p call) begins so (subst BegunSo (sym begins.0) tt) in
       ends_not p parts.0 parts.2.0 a isnt (runs_later p begun parts.0 during parts.1 now h) parts.2.1
 
   -- Nor does it displace an item.
@@ -184,7 +184,7 @@ module _ {T : Type 0} (l : Lasts T) where
   not_displaced p call s s' during after y so (begun, begins, rest) =
       let parts = cut begun s' during (Displaces p y ∷ after) rest in
       let now = l.lasts s begun (Begins p call) begins so in
-      let h = later p s begun (Begins p call) begins so (subst BegunSo (sym begins.0) tt) in
+      let h = goes_on p s begun (Begins p call) begins so (subst BegunSo (sym begins.0) tt) in
       let did = parts.2.1 in
       let k = subst BegunSo did.2 (runs_later p begun parts.0 during parts.1 now h) in none_open did.0.seen k.0 did.8
 

@@ -63,46 +63,48 @@ pub fn free_places_are_not_refused<T>()
     ensures look { (n m : ℕ) → IsShape n m → (steps : List (WordStep T)) → SeenPlacesAreFilled n m steps }
 {}
 
-/// Items leave slot, ring and chain in the order in which they were appended: those that left, in order, are the first of
-/// those that were appended, in order. One that a forced push displaces leaves too, to that push; it is the first one.
+/// Items leave slot, ring and chain in the order in which they were appended. Those that left are the first of those that
+/// were appended, and the others are as many as are still there. An item that a forced push displaces leaves too, to that
+/// push: it is the first one, and the item of the push is appended after it has left.
 pub fn items_leave_in_order<T>()
     ensures slot { (steps : List (WordStep T)) → LeaveInOrder (on_slot steps) (length_on_slot steps) }
     ensures ring { (n m : ℕ) → IsShape n m → (steps : List (WordStep T)) → LeaveInOrder (on_ring n m steps) (length_on_ring n m steps) }
     ensures chain { (steps : List (Step T)) → LeaveInOrder (on_chain steps) (length_on_chain steps) }
 {}
 
-/// Once closed always closed. After a close, or an answer that the queue is closed, no call that begins later finds it open:
-/// no item is accepted, no pop is told `Empty`, no close answers true, and `is_closed` doesn't say no.
+/// Once closed always closed: after a close, or an answer that the queue is closed, no later call finds it open. No item is
+/// accepted, no pop is told `Empty`, no close answers true, and `is_closed` doesn't say no. A call is later that begins
+/// after the other has ended. Of calls that began before, only a forced push that found the queue full may still append.
 pub fn a_closed_queue_stays_closed<T>()
     ensures slot { (steps : List (WordStep T)) → StaysClosed (on_slot steps) }
     ensures ring { (n m : ℕ) → IsShape n m → (steps : List (WordStep T)) → StaysClosed (on_ring n m steps) }
     ensures chain { (steps : List (Step T)) → StaysClosed (on_chain steps) }
 {}
 
-/// After a pop that answered `Closed` no item leaves, whoever was at it then, and no pop that begins later gives an item.
+/// After a pop that answered `Closed` no item leaves, also to calls that began before, and no later pop gives an item.
 pub fn nothing_leaves_after_closed<T>()
     ensures slot { (steps : List (WordStep T)) → GivesNoMore (on_slot steps) }
     ensures ring { (n m : ℕ) → IsShape n m → (steps : List (WordStep T)) → GivesNoMore (on_ring n m steps) }
     ensures chain { (steps : List (Step T)) → GivesNoMore (on_chain steps) }
 {}
 
-/// At most one close answers true, and none that begins after another close has ended.
+/// At most one close answers true: the first that acts. None does that begins after another close has ended.
 pub fn at_most_one_close_is_true<T>()
     ensures slot { (steps : List (WordStep T)) → ClosesOnce (on_slot steps) }
     ensures ring { (n m : ℕ) → IsShape n m → (steps : List (WordStep T)) → ClosesOnce (on_ring n m steps) }
     ensures chain { (steps : List (Step T)) → ClosesOnce (on_chain steps) }
 {}
 
-/// Each call acts at one moment at most, between its beginning and its end, and answers what it did then. One that did
-/// nothing took in no item, gave none and closed nothing. So what leaves or comes in at a moment is what its caller is told.
+/// Each call acts at one moment at most, between its beginning and its end, and answers what it did then. A call that did
+/// not act took in no item, gave none and closed nothing. So the items of these moments are those that callers are told of.
 pub fn calls_answer_what_they_did<T>()
     ensures slot { (steps : List (WordStep T)) → AnswerWhatTheyDid (on_slot steps) }
     ensures ring { (n m : ℕ) → IsShape n m → (steps : List (WordStep T)) → AnswerWhatTheyDid (on_ring n m steps) }
     ensures chain { (steps : List (Step T)) → AnswerWhatTheyDid (on_chain steps) }
 {}
 
-/// What these laws speak of happens. One party alone pushes, closes and pops, and meets each of them, on a slot, a ring of two
-/// places and a chain. A forced push that found that ring full before a close appends its item after it.
+/// What these laws speak of happens. One party alone pushes, displaces, closes and pops until `Closed`, on a slot, a ring of
+/// two places and a chain. And a forced push that found that ring full before a close appends its item after it.
 pub fn what_these_laws_speak_of_happens<T>()
     ensures slot { (x y z : T) → ShownOnSlot x y z }
     ensures ring { (x y z : T) → ShownOnRing x y z }

@@ -42,10 +42,6 @@ module _ {T : Type 0} (l : Lasts T) where
   told_on now next on None h = tt
   told_on now next on (Some a) h = λ tells. on (h tells)
 
-  known_on : (now next : Type 0) → (now → next) → (o : Option (Progress T)) → KnownSo now o → KnownSo next o
-  known_on now next on None h = tt
-  known_on now next on (Some c) h = (seen_on now next on c.seen h.0, told_on now next on c.answer h.1)
-
   -- one more sight, of the queue as it is then
   known_more : (now : Type 0) (x : Sight T) → (now → l.Is x) → (o : Option (Progress T)) → KnownSo now o → KnownSo (l.Is x) (sees x o)
   known_more now x on None h = tt

@@ -31,20 +31,23 @@ module _ {T : Type 0} where
   TellsOpen (ClosedIs false) = Unit {0}
   TellsOpen _ = ⊥
 
-  -- Once closed always closed: later no call acts as on an open queue, and none that begins later is told that it is open.
-  -- A forced push that began before, and found the queue open and full, may still displace the first item for its own; one
-  -- that begins later does not.
+  -- Once closed always closed, after an answer that tells so.
   pub record StaysClosed (ms : List (Moment T)) : Type 0 where
+    -- no call acts later as on an open queue
     pub moments : (p q : ℕ) (a b : Answer T) (before since after : List (Moment T))
         → ms ≡ before ++ (Ends p a ∷ (since ++ (Does q b ∷ after))) → TellsClosed a → TellsOpen b → ⊥
+    -- no forced push that begins later displaces an item, as one may that found the queue open and full before
     pub displaced : (p q : ℕ) (a : Answer T) (call : Call T) (y : T) (before since during after : List (Moment T))
         → ms ≡ before ++ (Ends p a ∷ (since ++ (Begins q call ∷ (during ++ (Displaces q y ∷ after))))) → TellsClosed a → ⊥
+    -- no call that begins later is told that the queue is open
     pub calls : (a b : Answer T) → AnswersLater ms a b → TellsClosed a → TellsOpen b → ⊥
 
-  -- After a pop that answered `Closed` no item leaves, and no pop that begins later gives one.
+  -- Nothing comes after a pop that answered `Closed`.
   pub record GivesNoMore (ms : List (Moment T)) : Type 0 where
+    -- no item leaves later
     pub moments : (p : ℕ) (before after : List (Moment T)) → ms ≡ before ++ (Ends p (Popped (Err ClosedToPop)) ∷ after)
         → left_in after ≡ []
+    -- no pop that begins later gives an item
     pub calls : (x : T) → AnswersLater ms (Popped (Err ClosedToPop)) (Popped (Ok x)) → ⊥
 
   -- how many closes answered true
@@ -53,9 +56,11 @@ module _ {T : Type 0} where
   closings_in (Ends p (WasClosed true) ∷ ms) = 1 + closings_in ms
   closings_in (m ∷ ms) = closings_in ms
 
-  -- At most one close answers true: the first that acts, and none that begins after a close has ended.
+  -- At most one close answers true.
   pub record ClosesOnce (ms : List (Moment T)) : Type 0 where
     pub once : closings_in ms ≤ 1
+    -- it is the first that acts
     pub moments : (p q : ℕ) (b : Bool) (before between after : List (Moment T))
         → ms ≡ before ++ (Does p (WasClosed b) ∷ (between ++ (Does q (WasClosed true) ∷ after))) → ⊥
+    -- and not one that begins after a close has ended
     pub calls : (b : Bool) → AnswersLater ms (WasClosed b) (WasClosed true) → ⊥

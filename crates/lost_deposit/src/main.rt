@@ -1,5 +1,5 @@
-//! A test of one's own futures in the orders that seeds draw. `orders` plays the seeds 0 to 99 and writes the first order that
-//! loses a deposit as a script, which `taskrun sim` plays; `orders SEED` that of one seed.
+//! A test of one's own futures in the orders that seeds draw. `lost_deposit` plays the seeds 0 to 99 and writes the first order that
+//! loses a deposit as a script, which `taskrun sim` plays; `lost_deposit SEED` that of one seed.
 #![tactic(auto)]
 
 mod scheduler;

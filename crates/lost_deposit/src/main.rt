@@ -1,16 +1,13 @@
-//! A test of one's own futures in the orders that seeds draw. `lost_deposit` plays the seeds 0 to 99 and writes the first order that
-//! loses a deposit as a script, which `taskrun sim` plays; `lost_deposit SEED` that of one seed.
+//! A test of one's own futures in the orders that seeds draw, a program to start from. It plays the seeds 0 to 99 and writes the
+//! first order that loses a deposit as a script, which `taskrun sim` plays; `lost_deposit SEED` that of one seed.
 #![tactic(auto)]
 
-mod scheduler;
-mod script;
-
 use async_task::{Future, Poll, Wake};
-use scheduler::Scheduler;
-use script::script;
+use orders::{Beside, first_failure};
 use std::alloc::{AllocGlobal, Global};
 use std::cell::Cell;
 use std::collections::VecDeque;
+use std::ops::Range;
 use std::rc::Rc;
 use std::rt::Env;
 use std::{env, io};
@@ -41,34 +38,39 @@ impl<K: Wake> Future<K> for Deposit {
     }
 }
 
+/// The account that they share.
+#[derive(Drop)]
+struct Account(Rc<Cell<u64>, Global>);
+
+/// It makes no steps of its own.
+impl Beside for Account {
+    fn may_step(&self) -> bool {
+        false
+    }
+
+    fn step(&mut self) {}
+}
+
 const DEPOSITS: u64 = 2;
 
-/// The deposits in the order of this seed: the balance then, and the script.
-fn play(alloc: Global, seed: u64) -> io::Result<(u64, String)> {
+/// An account, and those who will deposit.
+fn make(alloc: Global) -> io::Result<(VecDeque<Deposit>, Account)> {
     let account = Rc::new(alloc, Cell::new(0))?;
-    let mut futures = VecDeque::new(alloc);
+    let mut deposits = VecDeque::new(alloc);
     for _ in 0..DEPOSITS {
-        let account = Rc::clone(&account)?;
-        futures.push_back(Deposit {
-            account,
+        deposits.push_back(Deposit {
+            account: Rc::clone(&account)?,
             read: None,
         })?;
     }
-    let made = Scheduler::new(alloc, futures)?.play(seed)?;
-    Ok((account.get(), script(alloc, made.as_slice())?))
+    Ok((deposits, Account(account)))
 }
 
 fn main(rt: HostRuntime) -> io::Result<()> {
-    if let Some(seed) = asked_seed(&rt)? {
-        return show(&rt, seed);
+    match asked_seed(&rt)? {
+        Some(seed) => show(&rt, seed..seed.saturating_add(1), true),
+        None => show(&rt, 0..100, false),
     }
-    for seed in 0..100 {
-        let (balance, _) = play(rt.alloc(), seed)?;
-        if balance != DEPOSITS {
-            return show(&rt, seed);
-        }
-    }
-    Ok(())
 }
 
 fn asked_seed<R: AllocGlobal + Env>(rt: &R) -> io::Result<Option<u64>> {
@@ -78,8 +80,32 @@ fn asked_seed<R: AllocGlobal + Env>(rt: &R) -> io::Result<Option<u64>> {
     }
 }
 
-fn show<R: AllocGlobal + Eprint + Print>(rt: &R, seed: u64) -> io::Result<()> {
-    let (balance, script) = play(rt.alloc(), seed)?;
-    eprintln!(rt; "seed {seed}: the balance is {balance}")?;
-    print!(rt; "{script}")
+/// Shows the first order that loses a deposit, or the first of all.
+fn show<R: AllocGlobal + Eprint + Print>(
+    rt: &R,
+    seeds: Range<u64>,
+    is_any: bool,
+) -> io::Result<()> {
+    let alloc = rt.alloc();
+    // The balance at the first end that is refused.
+    let balance = Cell::new(None);
+    let check = |account: &Account| {
+        let is_right = account.0.get() == DEPOSITS && !is_any;
+        if !is_right && balance.get().is_none() {
+            balance.set(Some(account.0.get()));
+        }
+        is_right
+    };
+    let Some(failure) = first_failure(alloc, seeds, || make(alloc), check)? else {
+        return eprintln!(rt; "no deposit is lost");
+    };
+    let seed = failure.number;
+    eprintln!(rt;
+        "seed {seed}: the balance is {}",
+        balance.get().unwrap_or(0)
+    )?;
+    match failure.script(alloc)? {
+        Some(script) => print!(rt; "{script}"),
+        None => eprintln!(rt; "{failure}"),
+    }
 }

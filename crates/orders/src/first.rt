@@ -1,0 +1,75 @@
+//! The first order that fails, by seeds.
+ghost use Rattle.std.specs.Prelude.{◌<◌, ◌≤◌, IfOk, IfSome};
+
+use crate::asking::Asking;
+use crate::beside::Beside;
+use crate::calls::Extra;
+use crate::driver::drive;
+use crate::failure::Failure;
+use crate::plan::{Plan, Terms};
+use async_task::Future;
+use std::alloc::Global;
+use std::collections::VecDeque;
+use std::fmt::Debug;
+use std::io;
+use std::ops::Range;
+
+/// How many calls an order of a seed may have: one that could go on then is a failure, `End::Cut`.
+pub const MOST_CALLS: usize = 1_000;
+
+/// Plays the futures that `make` makes in the order of each seed, until the end of one is wrong: `check` looks at what stands
+/// beside them, and says whether it is right. The order that failed comes back, with a short form that fails too.
+///
+/// An order ends where no future waits for a wake that it asked for, or is queued, or is still to be spawned, and nothing beside may
+/// step. The futures and outputs that are left are dropped behind the check. Equal seeds give equal orders, as long as `make` makes
+/// the same and the futures do the same.
+///
+/// It takes memory, and answers an error where that is refused, or `make` answers one: a None says that no order of these seeds
+/// failed.
+pub fn first_failure<F, T, X, M, C>(
+    alloc: Global,
+    seeds: Range<u64>,
+    make: M,
+    check: C,
+) -> io::Result<Option<Failure>>
+where
+    T: Debug + Drop,
+    F: Future<Asking, Output = T> + Drop,
+    X: Beside + Drop,
+    M: FnMut() -> io::Result<(VecDeque<F>, X)>,
+    C: FnMut(&X) -> bool,
+    requires make { M.IsAlwaysCallable make }
+    requires check { C.IsAlwaysCallable check }
+    ensures seed { IfOk result (λ found. IfSome found (λ failure. (seeds.start ≤ failure.number) × (failure.number < seeds.end))) }
+{
+    first_failure_among(alloc, seeds, Extra::default(), make, check)
+}
+
+/// The same, where an order may also have so many calls that no executor makes by itself: futures are cancelled or woken unasked,
+/// handles are dropped, copies of wakers refused.
+pub fn first_failure_among<F, T, X, M, C>(
+    alloc: Global,
+    seeds: Range<u64>,
+    extra: Extra,
+    make: M,
+    check: C,
+) -> io::Result<Option<Failure>>
+where
+    T: Debug + Drop,
+    F: Future<Asking, Output = T> + Drop,
+    X: Beside + Drop,
+    M: FnMut() -> io::Result<(VecDeque<F>, X)>,
+    C: FnMut(&X) -> bool,
+    requires make { M.IsAlwaysCallable make }
+    requires check { C.IsAlwaysCallable check }
+    ensures seed { IfOk result (λ found. IfSome found (λ failure. (seeds.start ≤ failure.number) × (failure.number < seeds.end))) }
+{
+    let terms = Terms {
+        first: seeds.start,
+        behind: seeds.end,
+        most: MOST_CALLS,
+        extra,
+    };
+    let plan = drive(alloc, Plan::drawn(alloc, terms), make, check)?;
+    Ok(plan.into_failure())
+}

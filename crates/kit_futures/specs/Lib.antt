@@ -1,0 +1,4 @@
+pub mod Awaits
+pub mod Errors
+pub mod Seats
+pub mod Turns

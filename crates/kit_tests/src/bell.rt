@@ -1,0 +1,64 @@
+use async_task::Wake;
+use std::alloc::{AllocError, Global};
+use std::sync::Arc;
+use std::sync::atomic::AtomicU64;
+use std::sync::atomic::Ordering::SeqCst;
+
+/// A waker whose calls are counted. A mute one has no copy to give.
+#[derive(Drop)]
+pub struct Bell {
+    calls: Arc<AtomicU64>,
+    is_mute: bool,
+}
+
+impl Bell {
+    pub fn new(alloc: Global) -> Result<Bell, AllocError> {
+        let calls = Arc::new(alloc, AtomicU64::new(0))?;
+        Ok(Bell {
+            calls,
+            is_mute: false,
+        })
+    }
+
+    pub fn mute(self) -> Bell {
+        let Bell { calls, is_mute: _ } = self;
+        Bell {
+            calls,
+            is_mute: true,
+        }
+    }
+
+    /// Whether it and its copies were called so often.
+    pub fn was_called(&self, times: u64) -> bool {
+        self.calls.load(SeqCst) == times
+    }
+}
+
+impl Wake for Bell {
+    ghost is_same = { λ a b. Unit {0} };
+
+    fn wake(self) {
+        self.wake_by_ref();
+    }
+
+    fn wake_by_ref(&self) {
+        self.calls.fetch_add(1, SeqCst);
+    }
+
+    fn clone(&self) -> Option<Self> {
+        if self.is_mute {
+            return None;
+        }
+        match Arc::try_clone(&self.calls) {
+            Ok(calls) => Some(Bell {
+                calls,
+                is_mute: false,
+            }),
+            Err(_) => None,
+        }
+    }
+
+    fn will_wake(&self, _other: &Self) -> bool {
+        false
+    }
+}

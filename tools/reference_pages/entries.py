@@ -154,7 +154,8 @@ def block_of(item):
     """Returns an item as it stands, without what isn't public."""
     before = attributes_of(item)
     if item.kind == "enum":
-        return before + opened(item.head).rstrip("\n") + "\n" + textwrap.indent(textwrap.dedent(item.body.strip("\n")).strip(), "    ") + "\n}"
+        body = textwrap.indent(textwrap.dedent(item.body.strip("\n")).strip(), "    ")
+        return before + opened(item.head).rstrip("\n") + "\n" + body + "\n}"
     if item.kind == "struct":
         return before + struct_of(item)
     if item.kind == "trait":

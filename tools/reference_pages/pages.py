@@ -162,7 +162,8 @@ class Reference:
         parts = [f"## `{section.path}`"]
         parts += [rest_of(section.doc) if section is page.sections[0] else said_of(section.doc)]
         for entry in section.entries:
-            parts += [f"### {entry.title}", fenced(entry.block), said_of(entry.item.doc), *map(said_of, entry.remarks), self.alias(entry, page)]
+            parts += [f"### {entry.title}", fenced(entry.block), said_of(entry.item.doc)]
+            parts += [*map(said_of, entry.remarks), self.alias(entry, page)]
             parts += ["\n".join([*self.traits(entry, page), self.source(entry)])]
             for it in entry.members:
                 parts += [f"#### {it.title}", fenced(it.block), said_of(it.item.doc)]

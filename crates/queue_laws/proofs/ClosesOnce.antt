@@ -78,7 +78,10 @@ module _ {T : Type 0} where
     shut = λ p hp. h.shut p (fewer s.calls r p _ (λ z. z) hp);
     one = λ p q hp hq. h.one p q (fewer s.calls r p _ (λ z. z) hp) (fewer s.calls r q _ (λ z. z) hq);
   })
-  before s s' (Does r a) (c, is, none, (q, did, beside, e)) h = subst Before (sym e) (record { shut = λ p hp. shut p (who s r p c a x hp); one = λ p p' hp hp'. one p p' (who s r p c a x hp) (who s r p' c a x hp') })
+  before s s' (Does r a) (c, is, none, (q, did, beside, e)) h = subst Before (sym e) (record {
+    shut = λ p hp. shut p (who s r p c a x hp);
+    one = λ p p' hp hp'. one p p' (who s r p c a x hp) (who s r p' c a x hp');
+  })
     where
       x : Sight T
       x = record s.sight { queue = q }
@@ -90,14 +93,16 @@ module _ {T : Type 0} where
       two : (p : ℕ) → IsTrue (Some a) → HasClosed (s.calls p) → ⊥
       two p true_one hp = never_open s.sight.queue q c.call a did (h.shut p hp) (tells_open a true_one)
 
-      one : (p p' : ℕ) → ((p ≡ r) × IsTrue (Some a)) ⊎ HasClosed (s.calls p) → ((p' ≡ r) × IsTrue (Some a)) ⊎ HasClosed (s.calls p') → p ≡ p'
+      one : (p p' : ℕ) → ((p ≡ r) × IsTrue (Some a)) ⊎ HasClosed (s.calls p) → ((p' ≡ r) × IsTrue (Some a)) ⊎ HasClosed (s.calls p')
+          → p ≡ p'
       one p p' (inl (same, t)) (inl (same', t')) = same ∙ sym same'
       one p p' (inl (same, t)) (inr hp') = elim (two p' t hp') [ ]
       one p p' (inr hp) (inl (same', t')) = elim (two p t' hp) [ ]
       one p p' (inr hp) (inr hp') = h.one p p' hp hp'
   before s s' (Displaces r y) (c, x, is, none, of, inc, full, unspent, at, first, e) h = subst Before (sym e) (record {
     shut = λ p hp. h.shut p (old p (who s r p c (ForcePushed (Ok (Some y))) z hp));
-    one = λ p q hp hq. h.one p q (old p (who s r p c (ForcePushed (Ok (Some y))) z hp)) (old q (who s r q c (ForcePushed (Ok (Some y))) z hq));
+    one = λ p q hp hq. h.one p q (old p (who s r p c (ForcePushed (Ok (Some y))) z hp))
+        (old q (who s r q c (ForcePushed (Ok (Some y))) z hq));
   })
     where
       z : Sight T

@@ -111,7 +111,8 @@ module _ {T : Type 0} where
       → AnswersLater ms a b → l.Tells a → l.Never b → ⊥
   apart l s s' ms away run a b at tells isnt =
       let later : List (Moment T) = Begins at.second at.call ∷ (at.during ++ (Ends at.second b ∷ at.after)) in
-      let k = is_so_after l s s' at.before (at.since ++ later) at.first a away (subst (λ (ms : List (Moment T)). Run s ms s') at.is run) tells in
+      let k = is_so_after l s s' at.before (at.since ++ later) at.first a away
+      (subst (λ (ms : List (Moment T)). Run s ms s') at.is run) tells in
       let parts = cut k.0 s' at.since later k.2 in
       not_later l at.second at.call parts.0 s' at.during at.after b isnt (stays_so l k.0 parts.0 at.since parts.1 k.1) parts.2
 

@@ -138,7 +138,9 @@ module _ {T : Type 0} (l : Lasts T) where
       let z : Sight T = record { queue = taken s.sight.queue; incoming = Some (r, x) } in
       let next : l.Is z = l.lasts s _ (Displaces r y) (c, x, is, none, of, inc, full, unspent, at, first, refl) so in
       subst (λ (s : Scene T). BegunSo (s.calls p)) (sym e)
-      (at_party (λ q d. BegunSo (s.calls q) → BegunSo (sees z d)) s.calls r p (Some (record c { answer = Some (ForcePushed (Ok (Some y))) }))
+      (at_party (λ q d. BegunSo (s.calls q) → BegunSo (sees z d)) s.calls r p (Some (record c {
+        answer = Some (ForcePushed (Ok (Some y)));
+      }))
       (λ h. elim (none_open c.seen (subst BegunSo is h).0 at) [ ]) (λ h. begun_more z next (s.calls p) h) h)
   goes_on p s s' (Arrives r) (x, inc, e) so h =
       let z : Sight T = record { queue = appended s.sight.queue x; incoming = None } in

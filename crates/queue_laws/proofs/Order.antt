@@ -125,7 +125,10 @@ module _ {T : Type 0} where
 
   begins : (brought : ℕ → List T) (s s' : Scene T) (r : ℕ) (call : Call T) → Happens s (Begins r call) s' → Brings brought s
       → Brings (with_at brought r (brought_by call)) s'
-  begins brought s s' r call (none, e) h = subst (Brings brought') (sym e) (record { calls = calls; coming = coming s.sight.incoming h.coming })
+  begins brought s s' r call (none, e) h = subst (Brings brought') (sym e) (record {
+    calls = calls;
+    coming = coming s.sight.incoming h.coming;
+  })
     where
       brought' : ℕ → List T
       brought' = with_at brought r (brought_by call)
@@ -143,7 +146,8 @@ module _ {T : Type 0} where
       coming : (o : Option (ℕ × T)) → ComesFrom s.calls o → ComesFrom (with_call s.calls r (Some c)) o
       coming None from = tt
       coming (Some i) from =
-          at_party (λ q d. IsOf i.1 (s.calls q) → IsOf i.1 d) s.calls r i.0 (Some c) (λ is. elim (subst (IsOf i.1) none is) [ ]) (λ is. is) from
+          at_party (λ q d. IsOf i.1 (s.calls q) → IsOf i.1 d) s.calls r i.0 (Some c) (λ is. elim (subst (IsOf i.1) none is) [ ])
+          (λ is. is) from
 
   acted : (brought : ℕ → List T) (s : Scene T) (x : Sight T) (r : ℕ) (c c' : Progress T) → s.calls r ≡ Some c → c'.call ≡ c.call
       → Brings brought s → (p : ℕ) → HasBrought (brought p) (sees x (with_call s.calls r (Some c') p))
@@ -229,7 +233,8 @@ module _ {T : Type 0} where
   on_a_chain steps =
       let r = a_chain_is_a_queue steps in
       let long = ap (λ (q : ClosableQueue T). length q.items) r.queue in let held = r.rest.held in
-      leave_in_order new_chain_scene r.last (on_chain steps) (length_on_chain steps) refl refl (λ p. refl) r.is_run (omega (arith, long, held))
+      leave_in_order new_chain_scene r.last (on_chain steps) (length_on_chain steps) refl refl (λ p. refl)
+      r.is_run (omega (arith, long, held))
 
   pub on_a_ring : (n m : ℕ) → IsShape n m → (steps : List (Step T)) → LeaveInOrder (on_ring n m steps) (length_on_ring n m steps)
   on_a_ring n m shape steps =

@@ -151,7 +151,8 @@ module _ {T : Type 0} where
   fits : (at : ℕ → Stage T) (s s' : Scene T) (m : Moment T) → Happens s m s' → Gift at m → Staged at s → Fits at m
   fits at s s' (Begins r call) (none, e) g h = h.calls r ∙ ap stage_in none
   fits at s s' (Does r a) (c, is, none, did) g h = h.calls r ∙ ap stage_in is ∙ ap stage_of none
-  fits at s s' (Displaces r y) (c, x, is, none, of, inc, full, unspent, open_then, first, e) g h = h.calls r ∙ ap stage_in is ∙ ap stage_of none
+  fits at s s' (Displaces r y) (c, x, is, none, of, inc, full, unspent, open_then, first, e) g h = h.calls r ∙ ap stage_in is
+      ∙ ap stage_of none
   fits at s s' (Arrives r) (x, inc, e) g h = subst HasDisplaced (sym (h.calls r)) (subst (ComesLate s.calls) inc h.coming)
   fits at s s' (Ends r a) (c, is, may, from, e) g h =
       let now : at r ≡ stage_of c.answer = h.calls r ∙ ap stage_in is in

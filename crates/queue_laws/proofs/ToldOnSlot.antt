@@ -6,7 +6,19 @@ use Rattle.queue_steps.specs.Reply.{Reply, Done, Displaced, Full, Closed}
 use Rattle.queue_steps.specs.Calls.{Call, Push, ForcePush, Pop, Close, Len, IsEmptyCall, IsFullCall, IsClosedCall, Answer, ForcePushed}
 use Rattle.queue_steps.specs.Calls.{WasClosed}
 use Rattle.queue_laws.specs.Moments.{Moment}
-use Rattle.queue_laws.specs.SingleSteps.{Place, Away as AwayPlace, Stands, Inside, Leaving, SingleWorld, Step, Begin, Go, turn_of, first_turn}
+use Rattle.queue_laws.specs.SingleSteps.{
+  Place,
+  Away as AwayPlace,
+  Stands,
+  Inside,
+  Leaving,
+  SingleWorld,
+  Step,
+  Begin,
+  Go,
+  turn_of,
+  first_turn,
+}
 use Rattle.queue_laws.specs.SingleSteps.{answer_of, word_after, placed, with_place, begun, gone, stepped, begin_moments}
 use Rattle.queue_laws.specs.SingleSteps.{turn_moments, go_moments, moments, trace, new_slot, new_scene}
 use Rattle.queue_laws.specs.BoundedSteps.{with_at}

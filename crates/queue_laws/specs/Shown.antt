@@ -3,7 +3,20 @@
 use Rattle.std.specs.Prelude.{◌≡◌, List, [], ◌∷◌, ◌++◌, true, false, Some, None, Ok, Err}
 use Rattle.queue_steps.specs.declared.errors.PushError.TheVariants.{Full, Closed}
 use Rattle.queue_steps.specs.declared.errors.PopError.TheVariants.{Closed as ClosedToPop}
-use Rattle.queue_steps.specs.Calls.{Call, Push, ForcePush, Pop, Close, IsClosedCall, Answer, Pushed, ForcePushed, Popped, WasClosed, ClosedIs}
+use Rattle.queue_steps.specs.Calls.{
+  Call,
+  Push,
+  ForcePush,
+  Pop,
+  Close,
+  IsClosedCall,
+  Answer,
+  Pushed,
+  ForcePushed,
+  Popped,
+  WasClosed,
+  ClosedIs,
+}
 use Rattle.queue_laws.specs.Moments.{Moment}
 use Rattle.queue_laws.specs.SingleSteps.{Step, Begin}
 use Rattle.queue_laws.specs.UnboundedSteps.{Step as ChainStep, Begin as BeginOnChain}

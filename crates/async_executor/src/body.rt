@@ -1,4 +1,4 @@
-//! What executors of both kinds have and do.
+//! What executors of both kinds have, and what `new`, `is_empty`, `spawn` and `try_tick` do.
 ghost use Rattle.std.specs.Prelude.{◌≡◌, ◌<◌, [], ◌∷◌, true, Some, IfOk, IfErr};
 ghost use Rattle.std.specs.Arc.{arc_value};
 ghost use Rattle.async_executor.specs.Errors.{refused};

@@ -1,4 +1,5 @@
 //! What calls do, each deed with its record: a call sees that a thing was done by doing it here, and not else.
+//! The files are by what a deed is done to.
 ghost use Rattle.std.specs.Prelude.{◌≡◌, ◌∷◌, []};
 ghost use Rattle.call_steps.specs.Begins.{begins, part_begins};
 ghost use Rattle.call_steps.specs.Fitting.{Fits};

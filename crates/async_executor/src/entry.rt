@@ -68,7 +68,24 @@ fn begun(asked: Asked<TaskName, ()>) -> Steps
     Steps::begin(asked, Entered { own: () })
 }
 
-/// An executor of futures `F`, whose outputs are `T`.
+/// An executor of futures `F`, whose outputs are `T`, on any number of threads: `Executor` of the Rust crate `async-executor`.
+///
+/// Threads share it by `&`. They run it by a `run`, a `tick` or `try_tick`, which may move futures and outputs from one thread to
+/// another. A future is polled with an `ExWaker<T, W, R>`: `W` is the type of wakers from outside, `R` that of the runtime value.
+///
+/// It asks for a runtime value, the allocator, a realm where its tasks lie, and a limit of accepted futures that aren't dropped yet.
+/// A spawn beyond that is `Full`, and one without memory for its task `NoMemory`; both give the future back. `new` takes all places
+/// of the queues and the table. `spawn`, `tick` and `run` take memory too.
+///
+/// In `hello` of `examples` the future gives 42, and `complete` of `workers` runs the executor until its task is over:
+///
+/// ```
+/// let (alloc, realm) = (rt.alloc(), Realm::leak(rt, rt.alloc())?);
+/// let executor = Executor::new(rt, alloc, realm, 1)?;
+/// let task = executor.spawn(Hello)?;
+/// let answer = complete(&rt, alloc, &executor, task)?;
+/// assert!(rt; answer == 42);
+/// ```
 pub struct Executor<F: Drop, T: Output, W: OutsideWaker, R: Runtime> {
     pub(crate) body: Body<F, T, W, R>,
     /// Empty: room for the wakers that the executor's drop takes out of the table.

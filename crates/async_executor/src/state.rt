@@ -1,4 +1,5 @@
-//! What the threads of an executor share, but for its futures.
+//! What the threads of an executor share, but for its futures: the two queues, the flag and the
+//! sleepers. And how a sleeper is notified.
 ghost use Rattle.std.specs.Prelude.{◌≡◌, ◌<◌, ◌∷◌, [], Some, None, IfOk, IfSome};
 ghost use Rattle.call_steps.specs.Seeing.{due};
 ghost use Rattle.call_steps.specs.Todo.{below, top};

@@ -1,4 +1,4 @@
-//! How ticks and runs fall asleep among the sleepers, and wake up.
+//! A place among the sleepers: how ticks and runs fall asleep there, and wake up.
 ghost use Rattle.std.specs.Prelude.{◌≡◌, ◌∷◌, [], true, false, Some, None, IfSome};
 ghost use Rattle.call_steps.specs.declared.step.CallStep.TheVariants as step;
 ghost use Rattle.call_steps.specs.declared.step.tick.TickStep.TheVariants as tick_step;

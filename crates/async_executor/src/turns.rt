@@ -1,4 +1,4 @@
-//! The turns of searches.
+//! The turns of searches: which queue a search looks at first.
 ghost use Rattle.std.specs.Prelude.{◌≡◌};
 ghost use Rattle.async_executor.specs.Turns as turns;
 

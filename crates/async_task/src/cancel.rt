@@ -15,6 +15,25 @@ use std::sync::Wait;
 
 /// The end of a task that its handle closes. The first poll cancels it. It is ready once the future
 /// is dropped, with the output where that was there before. Its drop cancels the task too.
+///
+/// In the Rust crate `async-task` `Task::cancel` is an `async fn`, whose future has no name. This one gives a
+/// `Result<Option<T>, NoMemory>`: None where there was no output to give. Where no copy of its waker can be had a poll is ready with
+/// `NoMemory`; it has cancelled then, and can be made again. The cancel itself takes no memory. The task's cell is kept until this is
+/// dropped, also after its answer. Its types are those of a `Task`.
+///
+/// In `cancelled` of `examples`, over any `R: Runtime`, the run of the queue drops the future unpolled:
+///
+/// ```
+/// let queue = ReadyQueue::new(rt, realm, places);
+/// let Ok(task) = queue.spawn(Sum { left: 4, sum: 0 }) else {
+///     return false;
+/// };
+/// let nobody = Awaiter::Outside(Nobody);
+/// let mut cancel = task.cancel();
+/// let is_waiting = matches!(cancel.poll(&nobody), Poll::Pending);
+/// queue.run();
+/// is_waiting & matches!(cancel.poll(&nobody), Poll::Ready(Ok(None)))
+/// ```
 #[must_use]
 pub struct Cancel<F, T: Output, S, M, W: OutsideWaker, R>
 where

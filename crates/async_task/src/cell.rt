@@ -52,7 +52,7 @@ pub struct Cell<F, T, S, M, W> {
     fixed: Slot<S, M>,
 }
 
-/// Written out, so that crates above call it, and prove the drops of all its parts no second time.
+// Written out, so that crates above call it, and prove the drops of all its parts no second time.
 impl<F: Drop, T: Drop, S: Drop, M: Drop, W: Drop> Drop for Cell<F, T, S, M, W> {
     fn drop(self) {
         let Cell {

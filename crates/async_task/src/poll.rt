@@ -1,3 +1,4 @@
+//! The trait `Future`, and what a poll answers.
 ghost use Rattle.std.specs.Prelude.{◌≡◌};
 ghost use Rattle.async_task.specs.Ready.{is_pending, is_ready};
 

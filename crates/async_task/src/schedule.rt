@@ -3,6 +3,7 @@ pub use task_moves::ScheduleInfo;
 /// What is done with a task that is to be run: most often it is put into a queue. It is called while
 /// no lock of a task is held.
 pub trait Schedule<R> {
+    /// Does so with this task, and is told whether it was woken while it was polled.
     fn schedule(&self, runnable: R, info: ScheduleInfo);
 }
 

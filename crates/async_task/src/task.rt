@@ -1,3 +1,4 @@
+//! The handle of a task.
 ghost use Rattle.std.specs.Prelude.{◌≡◌, ◌||◌, false};
 ghost use Rattle.async_task.specs.Handles.{task_of};
 ghost use Rattle.async_task.specs.Polls.{FoundAt, found_in, gives};
@@ -25,7 +26,30 @@ pub enum TaskError {
     NoMemory,
 }
 
-/// The handle of a task. It is polled for the output. Its drop cancels the task.
+/// The handle of a task. It is polled for the output. Its drop cancels the task. It is `Task` of the Rust crate `async-task`.
+///
+/// It is a future with `Result<T, TaskError>`. A poll without an answer keeps a copy of its waker, in place of the one before; a waker
+/// of another realm's task is called at once instead. Where no copy can be had it is ready with `NoMemory`, and can be made again. A
+/// task that was cancelled, or whose output was given, answers `TaskClosed`. A poll that has an answer takes no memory, nor does a
+/// cancel.
+///
+/// Its calls ask for nothing: it keeps the runtime value `R` of its spawn. `F` is what lies in the task's cell, `S` its schedule
+/// value, `M` its metadata, `W` the type of wakers from outside; `ExTask` and `QueueTask` name those of an executor and of a queue.
+/// `store` makes it what a list or another future can keep.
+///
+/// In `first_task` of `examples`, over any `R: Runtime`, the future adds the numbers from 4 down to 1:
+///
+/// ```
+/// let queue = ReadyQueue::new(rt, realm, places);
+/// let Ok(mut task) = queue.spawn(Sum { left: 4, sum: 0 }) else {
+///     return None;
+/// };
+/// queue.run();
+/// match task.poll(&Awaiter::Outside(Nobody)) {
+///     Poll::Ready(Ok(sum)) => Some(sum),
+///     _ => None,
+/// }
+/// ```
 #[must_use]
 pub struct Task<F, T: Output, S, M, W: OutsideWaker, R>
 where

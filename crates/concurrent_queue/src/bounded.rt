@@ -1,4 +1,6 @@
 //! The ring that threads share without a lock: its words and its places stand in a table of atomic steps.
+
+// Each call takes a seat, makes the running call and gives the seat back.
 ghost use Rattle.std.specs.Prelude.{◌≡◌, ◌<◌, ◌≤◌, ◌+◌, ◌^◌, Some, IfOk, IfSome, OnOk, length, slice_index_or};
 ghost use Rattle.concurrent_queue.specs.BoundedRule.{AreNewWords};
 ghost use Rattle.concurrent_queue.specs.SharedQueue.{MayPush, MayForcePush};

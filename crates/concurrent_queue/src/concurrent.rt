@@ -18,11 +18,29 @@ use std::sync::Wait;
 ///
 /// It moves between threads, and is shared by them, where `T` moves. A contract sees its capacity alone, since other
 /// threads may change the rest at any moment. Its drop drops each item that is left, once.
+///
+/// `bounded` asks for the allocator and a capacity from 1 to 2^60 - 1, and takes all places. `unbounded` takes memory at pushes. Most
+/// calls ask for a runtime value, `R: Wait`, since they may wait for another thread. A push is refused by a full queue, by a closed
+/// one and for want of memory, and gives its item back. A ring or a chain accepts 2^61 items in its life: the push of one more closes
+/// it.
+///
+/// From `queue` of `examples`:
+///
+/// ```
+/// let queue = ConcurrentQueue::<u64>::bounded(rt.alloc(), 2)?;
+/// assert!(rt; queue.push(&rt, 1).is_ok() & queue.push(&rt, 2).is_ok());
+/// assert!(rt; matches!(queue.push(&rt, 3), Err(PushError::Full(3))));
+/// assert!(rt; matches!(queue.force_push(&rt, 3), Ok(Some(1))));
+/// assert!(rt; queue.close(&rt));
+/// assert!(rt; matches!(queue.push(&rt, 4), Err(PushError::Closed(4))));
+/// assert!(rt; matches!(queue.pop(&rt), Ok(2)) & matches!(queue.pop(&rt), Ok(3)));
+/// assert!(rt; matches!(queue.pop(&rt), Err(PopError::Closed)));
+/// ```
 pub struct ConcurrentQueue<T> {
     kept: Kept<T>,
 }
 
-/// Written out, so that crates above call it, and prove the drops of all its parts no second time.
+// Written out, so that crates above call it, and prove the drops of all its parts no second time.
 impl<T: Drop> Drop for ConcurrentQueue<T> {
     fn drop(self) {
         let ConcurrentQueue { kept } = self;

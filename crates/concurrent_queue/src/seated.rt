@@ -3,15 +3,15 @@
 //! A seat's view keeps the words that the steps of its call found, and each call answers what `steps` gives for them. It
 //! keeps too what its calls found closed or closed: that stays closed, and nothing is accepted by such a seat.
 //!
-//! A `Single` or a `Bounded` has the table, its field `board`, and gives seats:
+//! A `Single` or a `Bounded` has the table, its field `board`, and gives seats, as in `queue` of `examples`:
 //!
 //! ```
-//! let slot = Single::new(rt.alloc())?;
+//! let slot = Single::<u64>::new(rt.alloc())?;
 //! let mut seat = slot.seat();
-//! seated::single::push(&rt, &slot, &mut seat, 5)?;
-//! let ring = Bounded::new(rt.alloc(), 4)?;
+//! assert!(rt; seated::single::push(&rt, &slot, &mut seat, 5).is_ok());
+//! let ring = Bounded::<u64>::new(rt.alloc(), 4)?;
 //! let mut seat = ring.seat();
-//! seated::bounded::close(&ring, &mut seat);
+//! assert!(rt; seated::bounded::close(&ring, &mut seat));
 //! ```
 
 /// The calls on a ring.

@@ -1,4 +1,6 @@
 //! The single slot that threads share without a lock: its word and its slot stand in a table of atomic steps.
+
+// Each call takes a seat, makes the running call and gives the seat back.
 ghost use Rattle.std.specs.Prelude.{◌≡◌, ◌≤◌, Some};
 ghost use Rattle.concurrent_queue.specs.SharedQueue.{MayPush, MayForcePush};
 ghost use Rattle.concurrent_queue.specs.SingleSeat.{IsSeatOf};

@@ -5,15 +5,23 @@
 #[cfg(test)]
 mod actor;
 #[cfg(test)]
+mod cancelled;
+#[cfg(test)]
 mod first_task;
 #[cfg(test)]
 mod hello;
+#[cfg(test)]
+mod never_ended;
+#[cfg(test)]
+mod one_owner;
 #[cfg(test)]
 mod one_thread;
 #[cfg(test)]
 mod own_executor;
 #[cfg(test)]
 mod pipeline;
+#[cfg(test)]
+mod queue;
 #[cfg(test)]
 mod sleepers;
 #[cfg(test)]

@@ -1,4 +1,5 @@
-//! One thing that a party has to do is done.
+//! One thing that a party has to do is done, in the file of its group. `tick` also has what ticks
+//! and runs both do, `run` what a run alone does.
 ghost use Rattle.std.specs.Prelude.{◌≡◌, ◌≢◌, ℕ, ◌+◌, ◌-◌, ◌^◌, ◌<◌, ◌≤◌, true, false, not, Some, None};
 ghost use Rattle.std.specs.Prelude.{List, [], ◌∷◌, ◌++◌, length};
 ghost use Rattle.std.specs.Prelude.{reverse, vec_len, vec_capacity};

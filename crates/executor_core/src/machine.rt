@@ -1,4 +1,4 @@
-//! The machine.
+//! The machine, whose parties take one step at a time.
 ghost use Rattle.std.specs.Prelude.{◌≡◌, ◌⊎◌, ℕ, ◌+◌, ◌<◌, ◌≤◌, Some, None, Ok, Err, vec_len, vec_capacity};
 ghost use Rattle.std.specs.Prelude.{OnOk, IfOk, IfErr, IfSome, true};
 ghost use Rattle.std.specs.VecDeque.{deque_len, deque_capacity};

@@ -1,3 +1,4 @@
+//! The state without what parties have still to do: tasks, table, ticks, runs and queues.
 use crate::queues::Queues;
 use crate::runs::TicksAndRuns;
 use crate::table::Entries;

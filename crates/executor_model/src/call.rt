@@ -1,3 +1,4 @@
+//! What parties call, and what they are answered.
 use executor_parts::Mark;
 
 /// A call that a party makes. Futures, ticks, runs and wakers are numbered from 0, in the order in which they were made.

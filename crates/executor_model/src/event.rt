@@ -1,3 +1,4 @@
+//! The events of which a trace is a list.
 use crate::call::{Call, Reply};
 use crate::op::{Polled, Waker};
 use executor_parts::Mark;

@@ -1,3 +1,4 @@
+//! What a party has still to do, as data.
 use crate::call::Reply;
 use executor_parts::Mark;
 use task_moves::moves::Move;

@@ -1,3 +1,4 @@
+//! The steps of the machine as data, and why one isn't possible.
 use crate::call::Call;
 use crate::event::Answer;
 

@@ -1,3 +1,4 @@
+//! A job, its answer, and both together.
 ghost use Rattle.std.specs.Prelude.{◌≡◌, ◌≤◌, ℕ};
 ghost use Rattle.jobs.specs.Answers.{answer_of};
 

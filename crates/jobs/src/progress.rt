@@ -1,3 +1,4 @@
+//! How far a job is worked out.
 ghost use Rattle.std.specs.Prelude.{◌≡◌, ◌+◌, ◌*◌, ◌≤◌, ◌<◌, max, min, IfNone, IfSome};
 ghost use Rattle.jobs.specs.Answers.{IsInRange, answer_of, sum_below, terms_of};
 

@@ -1,3 +1,4 @@
+//! What came back of one list of jobs.
 ghost use Rattle.std.specs.Prelude.{◌≡◌, ◌≢◌, ◌<◌, ℕ, Some, IfOk, IfErr, length, map, slice_get};
 ghost use Rattle.jobs.specs.Answers.{answer_of};
 ghost use Rattle.jobs.specs.Results.{AreRight, IsBack, IsFirstMissing, once_more};

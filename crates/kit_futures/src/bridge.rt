@@ -16,11 +16,20 @@ use std::sync::{Arc, Wait};
 ///
 /// Wakers are called and dropped with no lock held.
 ///
+/// In `threads` of `kit_tests` one thread awaits 125 futures and lets each fifth go, another sends each of them a 3, and a third hears
+/// of the wakes:
+///
 /// ```
-/// let bridge = Bridge::<Nobody, _>::leak(rt, alloc)?;
-/// assert!(rt; !bridge.turn());                                    // nothing is awaited yet
-/// bridge.close();
-/// assert!(rt; bridge.hear().is_ok());
+/// let bridge = Bridge::leak(rt, alloc)?;
+/// let (senders, all) = channels(&*bridge, alloc, 125)?;
+/// let awaits = || {
+///     let sum = sum(rt, alloc, all);
+///     bridge.close();
+///     sum
+/// };
+/// let works = || thread::join(&rt, awaits, || send(senders));
+/// let ((sum, ()), heard) = thread::join(&rt, works, || bridge.hear());
+/// assert!(rt; (sum == 300) & heard.is_ok());
 /// ```
 #[derive(Drop)]
 pub struct Bridge<K: Wake + Drop, R: Wait + Copy + Drop> {

@@ -12,12 +12,22 @@ use std::sync::Wait;
 
 /// A future of the library's as one of `async_task`, polled where this is polled. Dropped while it waits, it leaves the bridge.
 ///
+/// In `threads` of `kit_tests` the receiver of a channel of the library's is awaited at a bridge:
+///
 /// ```
-/// let (sender, receiver) = oneshot::channel(alloc)?;              // of futures::channel
-/// let mut awaited = Compat::new(bridge, receiver)?;
-/// assert!(rt; sender.send(1).is_ok());
-/// assert!(rt; bridge.turn());
-/// assert!(rt; matches!(awaited.poll(&Nobody), Poll::Ready(Ok(Ok(1)))));
+/// let (sender, receiver) = oneshot::channel(alloc)?;
+/// let Ok(awaited) = Compat::new(bridge, receiver) else {
+///     return Err(io::ErrorKind::OutOfMemory.into());
+/// };
+/// ```
+///
+/// A thread blocks on it, and has its number:
+///
+/// ```
+/// match block_on::<ThreadWaker, _, _>(&rt, alloc, awaited) {
+///     Ok(Ok(Ok(number))) => number,
+///     _ => 0,
+/// }
 /// ```
 #[derive(Drop)]
 pub struct Compat<F: futures::Future, K: Wake + Drop, R: Wait + Copy + Drop> {

@@ -44,7 +44,31 @@ impl Unlocked {
     }
 }
 
-/// An executor of futures `F`, whose outputs are `T`, on one thread. Its wakers may be called from any.
+/// An executor of futures `F`, whose outputs are `T`, on one thread. Its wakers may be called from any. It is `LocalExecutor` of the
+/// Rust crate `async-executor`.
+///
+/// Futures and outputs stay on its thread, and so do handles, ticks and runs: they may have an `Rc`, or a borrow of what outlives the
+/// executor. It needs no realm. `W` is the type of wakers from outside, and `R` that of the runtime value.
+///
+/// It asks for a runtime value that may wait and draws random numbers, the allocator, and a limit of accepted futures that aren't
+/// dropped yet. `new` takes all places of the queue and the futures, and is refused without memory or a random number. `spawn`,
+/// `tick` and `run` take memory too. A spawn beyond the limit is `Full`, and one without memory `NoMemory`; both give the future
+/// back.
+///
+/// In `one_thread` of `examples` the future gives twice its number:
+///
+/// ```
+/// let executor = LocalExecutor::<Double, u64, Nobody, HostRuntime>::new(rt, rt.alloc(), 10)?;
+/// let Ok(mut handle) = executor.spawn(Double(21)) else {
+///     panic!(rt; "refused");
+/// };
+/// for _ in rt.forever() {
+///     if !executor.try_tick() {
+///         break;
+///     }
+/// }
+/// assert!(rt; handle.poll(&LocalExWaker::Outside(Nobody)) == Poll::Ready(Ok(42)));
+/// ```
 pub struct LocalExecutor<F: Drop, T: Drop, W: Wake + Drop, R: Wait + Copy + Drop> {
     pub(crate) body: Body<F, T, W, R>,
 }

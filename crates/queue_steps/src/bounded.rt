@@ -1,4 +1,4 @@
-//! A ring of places.
+//! A ring of places for one owner.
 ghost use Rattle.std.specs.Prelude.{◌≡◌, ◌<◌, ◌+◌, ◌*◌, ◌%◌, ◌^◌, [], None, Some, IsSome, OnOk, IfOk, vec_len, All};
 ghost use Rattle.queue_steps.specs.ClosableQueue.{new_queue};
 ghost use Rattle.queue_steps.specs.Bounded.{IsPlaceWord, next_at};

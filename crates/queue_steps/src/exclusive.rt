@@ -1,3 +1,4 @@
+//! The closable queue of one owner, proved once over `Representation`.
 ghost use Rattle.std.specs.Prelude.{◌≡◌, ◌≢◌, ◌<◌, ◌↔◌, [], length, IsTrue, None, Some, IfOk, IfErr, OnOk, IsOk};
 ghost use Rattle.queue_steps.specs.ClosableQueue.{IsFull, new_queue, count_of_new};
 ghost use Rattle.queue_steps.specs.Replies.{Pushes, ForcePushes, Pops, Closes};

@@ -1,3 +1,4 @@
+//! What the three queues for one owner have in common, with the closable queue as its meaning.
 ghost use Rattle.std.specs.Prelude.{◌≡◌, ◌↔◌, [], length, IsTrue};
 ghost use Rattle.queue_steps.specs.ClosableQueue.{ClosableQueue, IsFull};
 ghost use Rattle.queue_steps.specs.Replies.{Pushes, ForcePushes, Pops, Closes};

@@ -1,4 +1,5 @@
-//! A queue of one place.
+//! A queue of one place for one owner. Each of the three representations has the same functions,
+//! in the same order.
 ghost use Rattle.std.specs.Prelude.{◌≡◌, None, Some, [], false};
 ghost use Rattle.queue_steps.specs.ClosableQueue.{new_queue};
 

@@ -1,4 +1,4 @@
-//! A chain of blocks.
+//! A chain of blocks for one owner.
 ghost use Rattle.std.specs.Prelude.{◌≡◌, ◌<◌, List, [], ◌∷◌, ◌++◌, length, false, Some, None, IfOk, OnOk, IfErr};
 ghost use Rattle.std.specs.Option.{ForSome};
 ghost use Rattle.queue_steps.specs.Unbounded.{onto_last, LastHasRoom, FirstHasItem, FirstHasOneItem, TakesFirst};

@@ -1,3 +1,4 @@
+//! The events of a play, and how each command ended.
 use executor_model::{Event, Reply};
 use script::Word;
 

@@ -20,6 +20,26 @@ use task_moves::local_task::{Back, Cancel, Detach, Polled};
 /// An executor of one owner. It polls, drops and calls nothing itself: each call hands out what its owner has to.
 ///
 /// Its tasks are numbered from 0 in the order in which their futures were accepted. `spawn`, `tick` and `run` alone take memory.
+///
+/// No Rust crate has one. Its calls are made by `&mut`, so they wait for nobody and ask for no runtime value. Futures `F`, outputs
+/// `T` and wakers from outside `X` may be of any type, also of one without a drop. `new` asks for the allocator, a limit of accepted
+/// futures that aren't dropped yet and the kind, and takes the places of the queues. A spawn beyond the limit is `Full`, and one
+/// without memory `NoMemory`; both give the future back. A name that is used up finds nothing and changes nothing.
+///
+/// In `one_owner` of `examples` a future is a number, and gives twice that. `nobody` and `pay` take apart what is handed out:
+///
+/// ```
+/// let mut solo = Solo::<u64, u64, Nobody>::new(rt.alloc(), 2, Kind::Owned)?;
+/// let Spawned { task, told } = solo.spawn(21, Mark::Plain)?;
+/// nobody(told);
+/// let Taken { found, sleeper: _ } = solo.take();
+/// let owed = match found {
+///     Found::Poll(lent, number) => solo.settle(lent, Back::Ready(number.saturating_mul(2))),
+///     Found::Drop(lent, _) => solo.finish(lent),
+///     Found::Nothing | Found::Gone => panic!(rt; "nothing is queued"),
+/// };
+/// pay(&mut solo, owed);
+/// ```
 pub struct Solo<F, T, X> {
     pub(crate) cells: Cells<T, X>,
     // The futures that aren't dropped.

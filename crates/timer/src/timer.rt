@@ -31,6 +31,26 @@ pub enum Turned {
 /// wakers is `K`.
 ///
 /// Wakers are called and dropped with no lock held.
+///
+/// `sleep`, `sleep_until`, `interval` and `timeout` have their names from `tokio::time`. A timer asks for a runtime value that may
+/// wait and reads the clock, the allocator, and the number of sleepers. `new` takes the memory for all of them; to sleep, close or
+/// stop takes none. One sleeper more is `Full`, and a closed timer answers `Closed`. Who sleeps is ready with `Stopped` where the
+/// timer is stopped before its time. This is a handle of one timer, and `clone` makes others.
+///
+/// In `sleepers` of `examples` the thread that runs the executor drives the timer too:
+///
+/// ```
+/// let timer = Timer::new(rt, alloc, 10)?;
+/// let executor = Executor::new(rt, alloc, realm, 10)?;
+/// let mut sleepers = Vec::with_capacity(alloc, 10)?;
+/// for number in 0..10u64 {
+///     let sleep = timer.sleep(Duration::from_millis(9u64.saturating_sub(number)))?;
+///     sleepers.push(Sleeper(sleep, number))?;
+/// }
+/// let (handles, _) = executor.spawn_many(&mut sleepers.into_iter());
+/// let all = JoinAll::new(rt, alloc, realm, handles);
+/// let woken = run_until_beside(&rt, alloc, &executor, &timer, all)??;
+/// ```
 #[derive(Drop)]
 pub struct Timer<K: Wake + Drop, R: Wait + Copy + Drop> {
     shared: Arc<Shared<K>>,

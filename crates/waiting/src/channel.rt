@@ -68,7 +68,7 @@ pub fn bounded<T: Drop, A: Wake + Drop, B: Wake + Drop, R: Wait + Copy + Drop>(
 /// ```
 /// let (sender, receiver) = channel::unbounded::<u64, Nobody, Nobody, _>(rt, rt.alloc())?;
 /// assert!(rt; sender.try_send(1).is_ok() & sender.try_send(2).is_ok());
-/// assert!(rt; (sender.len() == 2) & sender.capacity().is_none());
+/// assert!(rt; (sender.len() == 2) & sender.capacity().is_none() & !sender.is_full());
 /// assert!(rt; matches!(receiver.recv().poll(&Nobody), Poll::Ready(Ok(1))));
 /// ```
 pub fn unbounded<T: Drop, A: Wake + Drop, B: Wake + Drop, R: Wait + Copy + Drop>(

@@ -19,6 +19,23 @@ use std::fmt;
 
 /// An executor of futures `F`, whose outputs are `T`, which never ends: what it still holds when it goes is leaked. Its table
 /// keeps no wakers: a detached future that nobody can wake any more is dropped by the executor.
+///
+/// It is `StaticExecutor` of the Rust crate `async-executor`, where it stands behind a feature. It asks for what an `Executor` asks
+/// for, has the same limit and errors, and takes memory in the same calls; it has no `spawn_many` and no `is_empty`. `Executor::leak`
+/// makes one of an executor.
+///
+/// In `never_ended` of `examples`, over any `R: Runtime`, the future gives twice its number:
+///
+/// ```
+/// let Ok(executor) = StaticExecutor::new(rt, alloc, realm, 10) else {
+///     return false;
+/// };
+/// let Ok(mut task) = executor.spawn(Double(21)) else {
+///     return false;
+/// };
+/// let is_run = executor.try_tick();
+/// is_run & matches!(task.poll(&Awaiter::Outside(Nobody)), Poll::Ready(Ok(42)))
+/// ```
 pub struct StaticExecutor<F: Drop, T: Output, W: OutsideWaker, R: Runtime> {
     pub(crate) body: Body<F, T, W, R>,
 }

@@ -1,3 +1,4 @@
+//! What a schedule value is given, and what a queue or a list keeps of a task.
 ghost use Rattle.std.specs.Prelude.{◌≡◌, ◌↔◌, IfErr, IfOk, IfSome, IsTrue};
 ghost use Rattle.async_task.specs.Due.{WasIdle};
 

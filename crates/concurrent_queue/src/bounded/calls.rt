@@ -76,6 +76,7 @@ pub(crate) fn try_len<T>(ring: &Bounded<T>, pass: &mut Pass<T>, tries: u32) -> O
     None
 }
 
+/// Whether the ring was empty when the tail was loaded, after the head.
 pub fn is_empty<T>(ring: &Bounded<T>, pass: &mut Pass<T>) -> bool
     requires { IsFreeSeatOf ring.now.board.shared ring.now.shape pass.old }
     ensures same { StaysFree pass.old pass.new }
@@ -86,6 +87,7 @@ pub fn is_empty<T>(ring: &Bounded<T>, pass: &mut Pass<T>) -> bool
     steps::is_empty(ring.shape, head, tail)
 }
 
+/// Whether the ring was full when the head was loaded, after the tail.
 pub fn is_full<T>(ring: &Bounded<T>, pass: &mut Pass<T>) -> bool
     requires { IsFreeSeatOf ring.now.board.shared ring.now.shape pass.old }
     ensures same { StaysFree pass.old pass.new }
@@ -96,6 +98,7 @@ pub fn is_full<T>(ring: &Bounded<T>, pass: &mut Pass<T>) -> bool
     steps::is_full(ring.shape, tail, head)
 }
 
+/// Whether the ring was closed when the tail was loaded.
 pub fn is_closed<T>(ring: &Bounded<T>, pass: &mut Pass<T>) -> bool
     requires { IsFreeSeatOf ring.now.board.shared ring.now.shape pass.old }
     ensures same { StaysFree pass.old pass.new }

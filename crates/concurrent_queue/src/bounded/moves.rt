@@ -12,19 +12,25 @@ use crate::bounded::rule::{BoundedRule, Doing};
 use atomic_table::{Seat, Shared};
 use queue_steps::steps::bounded::Shape;
 
+/// The table of a ring: its tail, its head, a stamp for each place, and the places.
 pub type Board<T> = Shared<Option<T>, Doing, Shape, BoundedRule>;
 
+/// A seat at that table, by which one call steps.
 pub type Pass<T> = Seat<Option<T>, Doing>;
 
 // Which word of the table is which. The tail, the head and the first stamp lie 128 bytes apart, so that they share no
 // cache line.
+/// The word of the tail.
 pub const TAIL: usize = 0;
 
+/// The word of the head.
 pub const HEAD: usize = 16;
 
 // Between the tail and the head, on a cache line of neither.
+/// A word that no step changes: a new seat is made by a load of it.
 pub const UNUSED: usize = 8;
 
+/// The word of the first place's stamp; those of the others follow.
 pub const STAMPS: usize = 32;
 
 /// The first load of a call.
@@ -45,6 +51,7 @@ pub fn begin_head<T>(board: &Board<T>, pass: &mut Pass<T>) -> u64
     board.load::<plays::BeginHead>(pass, HEAD)
 }
 
+/// Loads the tail, as it stands.
 #[inline(always)]
 pub fn tail<T>(board: &Board<T>, pass: &mut Pass<T>) -> u64
     requires { IsSeatOf board.now pass.old }
@@ -53,6 +60,7 @@ pub fn tail<T>(board: &Board<T>, pass: &mut Pass<T>) -> u64
     board.load::<plays::SeeTail>(pass, TAIL)
 }
 
+/// Loads the head, as it stands.
 pub fn head<T>(board: &Board<T>, pass: &mut Pass<T>) -> u64
     requires { IsSeatOf board.now pass.old }
     ensures { IsSameSeat pass.old pass.new × saw_head pass.old.me.0.found pass.old.me result pass.new.me }

@@ -20,18 +20,21 @@ impl<T> Play<Option<T>, Doing> for BeginHead {
     ghost then = { λ s m r m'. saw_head [] m r m' };
 }
 
+/// A later load of the tail, as it stands.
 pub struct SeeTail;
 
 impl<T> Play<Option<T>, Doing> for SeeTail {
     ghost then = { λ s m r m'. saw_tail m.0.found m r m' };
 }
 
+/// A later load of the head, as it stands.
 pub struct SeeHead;
 
 impl<T> Play<Option<T>, Doing> for SeeHead {
     ghost then = { λ s m r m'. saw_head m.0.found m r m' };
 }
 
+/// A load of the stamp of the place that the seat looks at.
 pub struct SeeStamp;
 
 impl<T> Play<Option<T>, Doing> for SeeStamp {
@@ -59,12 +62,14 @@ impl<T> Play<Option<T>, Doing> for LookAtTail {
     ghost then = { λ s m r m'. looked_at_tail m r m' };
 }
 
+/// The exchange of the tail, which gives the seat the place to write to; or a look at the tail, where another one was found.
 pub struct Append;
 
 impl<T> Play<Option<T>, Doing> for Append {
     ghost then = { λ s m r m'. appended s.first m r m' };
 }
 
+/// The exchange of the head, which gives the seat the place to read; or a look at the head, where another one was found.
 pub struct Take;
 
 impl<T> Play<Option<T>, Doing> for Take {

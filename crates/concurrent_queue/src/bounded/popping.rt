@@ -1,4 +1,6 @@
 //! `pop` on a ring.
+//! It takes its turns from `queue_steps::steps`, and makes the first ones before the loop, where a
+//! compiler sees which comes next.
 ghost use Rattle.std.specs.Prelude.{◌≡◌, ℕ, ◌+◌, [], ◌∷◌, ◌++◌, MatchResult};
 ghost use Rattle.concurrent_queue.specs.Answered.{PopSays};
 ghost use Rattle.concurrent_queue.specs.BoundedSeat.{IsFreeSeatOf, StaysFree, pop_at};

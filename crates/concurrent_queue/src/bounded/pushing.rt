@@ -1,4 +1,6 @@
 //! `push` and `force_push` on a ring. Until they have a place they take the same turns, but for what they do on a full ring.
+//! The turns are those of `queue_steps::steps`. A push makes the first ones before the loop, where
+//! a compiler sees which comes next.
 ghost use Rattle.std.specs.Prelude.{◌≡◌, ◌≢◌, ℕ, ◌+◌, ◌*◌, Option, Some, None, [], ◌∷◌, ◌++◌, true, if◌then◌else◌, MatchResult, IsErr};
 ghost use Rattle.concurrent_queue.specs.Answered.{PushSays, ForcePushSays};
 ghost use Rattle.concurrent_queue.specs.BoundedSeat.{IsFreeSeatOf, StaysFree, push_at, force_push_at};

@@ -30,6 +30,7 @@ pub fn len<T>(slot: &Single<T>, pass: &mut Pass<T>) -> usize
     steps::len(moves::begin(&slot.board.shared, pass)) as usize
 }
 
+/// Whether no item was there, or on its way in, when the word was loaded.
 pub fn is_empty<T>(slot: &Single<T>, pass: &mut Pass<T>) -> bool
     requires { IsSeatOf slot.now.board.shared pass.old }
     ensures same { IsSameSeat pass.old pass.new }
@@ -38,6 +39,7 @@ pub fn is_empty<T>(slot: &Single<T>, pass: &mut Pass<T>) -> bool
     steps::is_empty(moves::begin(&slot.board.shared, pass))
 }
 
+/// Whether an item was there, or on its way in, when the word was loaded.
 pub fn is_full<T>(slot: &Single<T>, pass: &mut Pass<T>) -> bool
     requires { IsSeatOf slot.now.board.shared pass.old }
     ensures same { IsSameSeat pass.old pass.new }
@@ -46,6 +48,7 @@ pub fn is_full<T>(slot: &Single<T>, pass: &mut Pass<T>) -> bool
     steps::is_full(moves::begin(&slot.board.shared, pass))
 }
 
+/// Whether the slot was closed when the word was loaded.
 pub fn is_closed<T>(slot: &Single<T>, pass: &mut Pass<T>) -> bool
     requires { IsSeatOf slot.now.board.shared pass.old }
     ensures same { IsSameSeat pass.old pass.new }

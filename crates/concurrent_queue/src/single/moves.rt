@@ -10,8 +10,10 @@ use crate::single::rule::{Doing, SingleRule};
 use atomic_table::{Seat, Shared};
 use queue_steps::steps::single as steps;
 
+/// The table of a slot: one word, and the place of one item.
 pub type Board<T> = Shared<Option<T>, Doing, (), SingleRule>;
 
+/// A seat at that table, by which one call steps.
 pub type Pass<T> = Seat<Option<T>, Doing>;
 
 // The first look of a call.

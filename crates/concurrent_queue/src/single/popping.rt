@@ -1,4 +1,6 @@
 //! `pop` on a single slot.
+//! It takes its turns from `queue_steps::steps`, and makes the first ones before the loop, where a
+//! compiler sees which comes next.
 ghost use Rattle.std.specs.Prelude.{◌≡◌, MatchResult};
 ghost use Rattle.queue_steps.specs.Reply.{Reply, Done};
 ghost use Rattle.queue_steps.specs.SingleTurns.{End};

@@ -1,4 +1,6 @@
 //! `push` and `force_push` on a single slot.
+//! They take their turns from `queue_steps::steps`. A push makes the first ones before the loop,
+//! where a compiler sees which comes next.
 ghost use Rattle.std.specs.Prelude.{◌≡◌, ◌≢◌, true, MatchResult, IsErr};
 ghost use Rattle.queue_steps.specs.Reply.{Reply, Done};
 ghost use Rattle.queue_steps.specs.SingleTurns.{End};

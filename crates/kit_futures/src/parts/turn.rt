@@ -30,6 +30,7 @@ pub struct Ended {
 }
 
 impl Turn {
+    /// The turn of the future that this context is of.
     pub fn new(cx: Context<'static>) -> Self
         ensures { result.carried.cx.turn.task ≡ cx.entry.turn.task }
     {

@@ -8,10 +8,13 @@ ghost use Rattle.std.specs.Prelude.{◌≡◌, ◌%◌, true, false, nat_lt, if�
 ghost use Rattle.queue_steps.specs.SingleTurns.{Look, push_turn, force_push_turn, pop_turn};
 ghost use Rattle.queue_steps.specs.SingleCallTurns.{of_push, of_force_push, of_pop};
 
+/// Somebody has the slot alone, to write or to read.
 pub const LOCKED: u64 = 1;
 
+/// An item is there, or is on its way in.
 pub const PUSHED: u64 = 2;
 
+/// The slot is closed.
 pub const CLOSED: u64 = 4;
 
 /// What a push does next.
@@ -113,18 +116,21 @@ pub fn len(word: u64) -> u64
     if word % CLOSED >= PUSHED { 1 } else { 0 }
 }
 
+/// Whether no item is there, or on its way in.
 pub fn is_empty(word: u64) -> bool
     ensures { result ≡ nat_lt (word % 4) 2 }
 {
     word % CLOSED < PUSHED
 }
 
+/// Whether an item is there, or on its way in.
 pub fn is_full(word: u64) -> bool
     ensures { result ≡ if nat_lt (word % 4) 2 then false else true }
 {
     word % CLOSED >= PUSHED
 }
 
+/// Whether the slot is closed.
 pub fn is_closed(word: u64) -> bool
     ensures { result ≡ if nat_lt word 4 then false else true }
 {

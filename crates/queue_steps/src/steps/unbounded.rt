@@ -99,6 +99,7 @@ pub enum PopTurn {
     Closed,
 }
 
+/// A pop takes the first item; an empty chain says whether it is closed.
 pub fn pop(ends: Ends) -> PopTurn
     ensures { of_pop result ≡ pop_turn ends }
 {
@@ -129,6 +130,7 @@ pub fn len(ends: Ends) -> u64
     ends.tail.saturating_sub(ends.head)
 }
 
+/// Whether no item is in the chain.
 pub fn is_empty(ends: Ends) -> bool
     ensures { result ≡ nat_le ends.tail ends.head }
 {

@@ -1,3 +1,4 @@
+//! Where a task's future is, and what the calls on a task of one owner answer.
 use crate::schedule_info::ScheduleInfo;
 
 /// Where the future of a task is.

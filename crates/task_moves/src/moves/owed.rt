@@ -1,3 +1,4 @@
+//! The kinds of move, and what a move leaves to be done.
 use crate::moves::state::State;
 use crate::schedule_info::ScheduleInfo;
 

@@ -1,4 +1,4 @@
-//! The moves of a task's handle.
+//! The moves of a task's handle: its detach, and the looks of its polls.
 ghost use Rattle.task_moves.specs.Moves as moves;
 ghost use Rattle.task_word.specs.Steps.{Makes, Has, HasPlace, HasOutput, LetGo, IsSeatOf, IsSameSeat};
 ghost use Rattle.task_word.specs.declared.rule.Hold.TheVariants.{Handle, Spending};

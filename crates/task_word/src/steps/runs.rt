@@ -1,4 +1,5 @@
-//! The moves of a run, and of a call that drops a closed task's future.
+//! The moves of a run, from its take-up to the ends of its poll, and of a call that drops a closed
+//! task's future.
 ghost use Rattle.std.specs.Prelude.{◌≡◌, [], ◌∷◌, true, is_some, Some, IfSome};
 ghost use Rattle.task_moves.specs.Moves as moves;
 ghost use Rattle.task_word.specs.Steps.{Makes, Has, HasFuture, HasPlace, TakenUp, Paused, IsHandedBack, IsSeatOf, IsSameSeat};

@@ -1,4 +1,4 @@
-//! The moves of wakers.
+//! The moves of wakers: wake, copy, release, and give up what is left of a run.
 ghost use Rattle.std.specs.Prelude.{◌≡◌};
 ghost use Rattle.task_moves.specs.Moves as moves;
 ghost use Rattle.task_word.specs.Steps as steps;

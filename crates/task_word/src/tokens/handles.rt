@@ -1,4 +1,5 @@
-//! What is done with a task's handle beside its polls.
+//! What is done with a task's handle beside its polls: make, park, unpark, cancel, detach,
+//! `is_finished`.
 ghost use Rattle.std.specs.Prelude.{◌≡◌, false, is_some, is_ok, not, IfOk, IfErr, IfSome, IsFalse, IsNone, MatchOption, MatchResult};
 ghost use Rattle.task_moves.specs.Moves as moves;
 ghost use Rattle.task_moves.specs.Moves.{is_over};

@@ -1,4 +1,4 @@
-//! What is done with a Runnable, and with a cell whose word one rests in.
+//! What is done with a Runnable, and with a cell whose word one rests in: wake, resume, rest.
 ghost use Rattle.std.specs.Prelude.{◌≡◌, is_some, is_ok, IfErr, MatchResult};
 ghost use Rattle.task_moves.specs.Moves as moves;
 ghost use Rattle.task_word.specs.Tokens.{Shows, Owes, FindsNoRunnable};

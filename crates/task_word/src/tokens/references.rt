@@ -1,4 +1,4 @@
-//! What is done with a waker that is a reference.
+//! What is done with a waker that is a reference: copy, redeem, store, release.
 ghost use Rattle.std.specs.Prelude.{◌≡◌, false, is_some, is_ok, not, IfSome, IfErr, MatchOption, MatchResult};
 ghost use Rattle.task_moves.specs.Moves as moves;
 ghost use Rattle.task_word.specs.Steps as steps;

@@ -15,6 +15,18 @@ use std::sync::{Arc, Wait};
 
 /// Receives messages, each of which one receiver gets, the oldest first. The drop of the last receiver closes the channel, and drops
 /// the messages that are left.
+///
+/// It is `Receiver` of the Rust crate `async-channel`, and waits with wakers of the type `B`. It answers `Closed` once the channel is
+/// closed and empty. Who has to wait takes memory: `NoMemory` where there is none. In `actor` of `examples` a future has its receiver
+/// in a field, and polls that:
+///
+/// ```
+/// match self.1.poll_recv(waker) {
+///     Poll::Pending => return Poll::Pending,
+///     Poll::Ready(Ok(amount)) => self.2 = self.2.saturating_add(amount),
+///     Poll::Ready(Err(_)) => return Poll::Ready(self.2),
+/// }
+/// ```
 pub struct Receiver<T: Drop, A: Wake + Drop, B: Wake + Drop, R: Wait + Copy + Drop> {
     shared: Arc<Shared<T, A, B, R>>,
     waiting: Option<Listener<B, R>>,

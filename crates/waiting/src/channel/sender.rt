@@ -13,6 +13,16 @@ use std::sync::atomic::Ordering::SeqCst;
 use std::sync::{Arc, Wait};
 
 /// Sends messages. The drop of the last sender closes the channel: what was sent can still be received.
+///
+/// It is `Sender` of the Rust crate `async-channel`, and waits with wakers of the type `A`. A message that isn't sent comes back in
+/// the error: `Closed`, or `Full` of a `try_send` that finds no place. Who has to wait takes memory, as each message of a channel
+/// without a bound does: `NoMemory` where there is none. In `actor` of `examples` a thread sends, and blocks while no place is free:
+///
+/// ```
+/// for amount in 1..=100 {
+///     let _ = block_on::<ThreadWaker, _, _>(&rt, alloc, mailbox.send(amount));
+/// }
+/// ```
 pub struct Sender<T: Drop, A: Wake + Drop, B: Wake + Drop, R: Wait + Copy + Drop> {
     shared: Arc<Shared<T, A, B, R>>,
     waiting: Option<Listener<A, R>>,
@@ -53,7 +63,7 @@ impl<T: Drop, A: Wake + Drop, B: Wake + Drop, R: Wait + Copy + Drop> Sender<T, A
         }
     }
 
-    /// Sends a message where a place is free, and tells one who waits for it. It takes no memory.
+    /// Sends a message where a place is free, and tells one who waits for it. It takes memory only in a channel without a bound.
     pub fn try_send(&self, message: T) -> Result<(), TrySendError<T>>
         ensures { MayTrySend (arc_value self.now.shared).line.queue.capacity message result }
     {

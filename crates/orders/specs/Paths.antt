@@ -1,5 +1,5 @@
 -- The choices of a search.
-use Rattle.std.specs.Prelude.{Bool, List, Option, None, Some, ◌+◌, ◌≡◌, ltb, count_by, false}
+use Rattle.std.specs.Prelude.{Bool, List, ◌+◌, ◌≡◌, ltb, count_by, false}
 use Rattle.orders.specs.declared.path.Choice.{Choice}
 use Rattle.orders.specs.declared.path.Path.{Path}
 
@@ -14,8 +14,3 @@ AreOver choices = count_by is_open choices ≡ 0
 -- No order is due, and at each call of the last one no other call was left.
 abbrev pub IsOver : Path → Type 0
 IsOver path = (path.is_due ≡ false) × AreOver path.choices.items
-
--- The same of a search, if there is one.
-abbrev pub IsGoneThrough : Option Path → Type 0
-IsGoneThrough None = ⊥
-IsGoneThrough (Some path) = IsOver path

@@ -10,48 +10,52 @@ use std::alloc::AllocError;
 use std::collections::VecDeque;
 
 /// Who chooses which call comes next.
-#[derive(Drop)]
-pub enum Chooser {
-    /// Words that a seed gives.
-    Drawn(Xoshiro256PlusPlus),
-    /// The search through all orders.
-    Searched(Path),
-    /// A list of calls, of which one that may not come is passed over. Behind it the first that may come is taken.
-    Listed(VecDeque<Call>),
-}
-
-impl Chooser {
-    /// The one of this seed.
-    pub fn drawn(seed: u64) -> Self {
-        Chooser::Drawn(Xoshiro256PlusPlus::seed_from_u64(seed))
-    }
-
+pub trait Choose {
     /// The next call, or None where the order is at its end.
-    pub fn choose(&mut self, offers: &Offers) -> Result<Option<Call>, AllocError> {
-        let ways = offers.ways();
-        match self {
-            Chooser::Drawn(words) => {
-                let place = words.next_word().checked_rem(ways as u64);
-                Ok(offers.call(place.map_or(0, |place| place as usize)))
-            }
-            Chooser::Searched(path) => {
-                if ways == 0 {
-                    return Ok(None);
-                }
-                Ok(offers.call(path.choose(ways)?))
-            }
-            Chooser::Listed(calls) => Ok(next_listed(calls, offers)),
-        }
+    fn choose(&mut self, offers: &Offers) -> Result<Option<Call>, AllocError>;
+}
+
+/// Words that a seed gives.
+#[derive(Drop)]
+pub struct Drawn(Xoshiro256PlusPlus);
+
+impl Drawn {
+    /// Those of this seed.
+    pub fn new(seed: u64) -> Self {
+        Drawn(Xoshiro256PlusPlus::seed_from_u64(seed))
     }
 }
 
-/// The first of a list that may come, or else the first that may come at all.
-fn next_listed(calls: &mut VecDeque<Call>, offers: &Offers) -> Option<Call> {
-    for _ in 0..calls.len() {
-        match calls.pop_front() {
-            Some(call) if offers.has(call) => return Some(call),
-            _ => {}
-        }
+impl Choose for Drawn {
+    fn choose(&mut self, offers: &Offers) -> Result<Option<Call>, AllocError> {
+        let place = self.0.next_word().checked_rem(offers.ways() as u64);
+        Ok(offers.call(place.map_or(0, |place| place as usize)))
     }
-    offers.first()
+}
+
+/// The search through all orders.
+impl Choose for Path {
+    fn choose(&mut self, offers: &Offers) -> Result<Option<Call>, AllocError> {
+        let ways = offers.ways();
+        if ways == 0 {
+            return Ok(None);
+        }
+        Ok(offers.call(self.take(ways)?))
+    }
+}
+
+/// A list of calls, of which one that may not come is passed over. Behind it the first that may come is taken.
+#[derive(Drop)]
+pub struct Listed(pub VecDeque<Call>);
+
+impl Choose for Listed {
+    fn choose(&mut self, offers: &Offers) -> Result<Option<Call>, AllocError> {
+        for _ in 0..self.0.len() {
+            match self.0.pop_front() {
+                Some(call) if offers.has(call) => return Ok(Some(call)),
+                _ => {}
+            }
+        }
+        Ok(offers.first())
+    }
 }

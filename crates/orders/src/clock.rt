@@ -2,7 +2,6 @@
 
 use crate::asking::Asking;
 use crate::beside::Beside;
-use async_task::Runtime;
 use std::alloc::Global;
 use std::cell::Cell;
 use std::io;
@@ -58,12 +57,12 @@ impl<R, N: Hands> Clock for FakeClock<R, N> {
 
 /// A timer, and its clock. A step goes on to when the next sleeper is due, and tells all who are due then.
 #[derive(Drop)]
-pub struct FakeTime<R: Runtime, N: Hands + Copy + Drop> {
+pub struct FakeTime<R: Wait + Copy + Drop, N: Hands + Copy + Drop> {
     now: N,
     timer: Timer<Asking, FakeClock<R, N>>,
 }
 
-impl<R: Runtime, N: Hands + Copy + Drop> FakeTime<R, N> {
+impl<R: Wait + Copy + Drop, N: Hands + Copy + Drop> FakeTime<R, N> {
     /// A timer for so many sleepers, whose clock stands at 0. The hands may be used again once the one before is gone. It takes the
     /// memory of `Timer::new`.
     pub fn new(rt: R, alloc: Global, now: N, sleepers: usize) -> Result<Self, TimerError> {
@@ -83,7 +82,7 @@ impl<R: Runtime, N: Hands + Copy + Drop> FakeTime<R, N> {
     }
 }
 
-impl<R: Runtime, N: Hands + Copy + Drop> Beside for FakeTime<R, N> {
+impl<R: Wait + Copy + Drop, N: Hands + Copy + Drop> Beside for FakeTime<R, N> {
     /// Whether somebody sleeps. It tells those who are due.
     fn may_step(&self) -> bool {
         matches!(self.timer.turn(), Turned::In(_))

@@ -1,12 +1,16 @@
 //! All orders of a small program.
-ghost use Rattle.std.specs.Prelude.{◌≡◌, ◌<◌, ◌↔◌, IfOk, IfSome, IsTrue};
+ghost use Rattle.orders.specs.Ends.{WerePlayed};
+ghost use Rattle.std.specs.Fn.{CalledAt};
+ghost use Rattle.std.specs.Prelude.{◌≡◌, ◌<◌, ◌↔◌, IfNone, IfOk, IfSome, IsTrue};
 
 use crate::asking::Asking;
 use crate::beside::Beside;
 use crate::calls::Extra;
-use crate::driver::drive;
 use crate::failure::Failure;
-use crate::plan::{Plan, Terms};
+use crate::path::Path;
+use crate::playing::{Terms, play};
+use crate::search::Search;
+use crate::shortening::shorten;
 use async_task::Future;
 use std::alloc::Global;
 use std::collections::VecDeque;
@@ -56,8 +60,8 @@ impl Every {
 pub fn every_failure<F, T, X, M, C>(
     alloc: Global,
     limit: Limit,
-    make: M,
-    check: C,
+    mut make: M,
+    mut check: C,
 ) -> io::Result<Every>
 where
     T: Debug + Drop,
@@ -67,14 +71,38 @@ where
     C: FnMut(&X) -> bool,
     requires make { M.IsAlwaysCallable make }
     requires check { C.IsAlwaysCallable check }
+    ensures played { IfOk result (λ every. WerePlayed (CalledAt C.FnMut) check every.orders every.failing every.cut) }
+    ensures most { IfOk result (λ every. every.orders < limit.orders → every.left ≡ 0) }
+    ensures left { IfOk result (λ every. every.left ≡ 0 → 0 < every.orders) }
+    ensures none { IfOk result (λ every. IfNone every.failure (every.failing ≡ 0)) }
     ensures number { IfOk result (λ every. IfSome every.failure (λ failure. failure.number < limit.orders)) }
 {
     let terms = Terms {
-        first: 0,
-        behind: limit.orders,
         most: limit.calls,
         extra: limit.extra,
     };
-    let plan = drive(alloc, Plan::searched(alloc, terms), make, check)?;
-    Ok(plan.into_every())
+    let mut path = Path::new(alloc);
+    let mut search = Search::new();
+    while path.is_due() && search.orders < limit.orders {
+        let played = play(alloc, terms, &mut path, &mut make, &mut check)?;
+        search.count(alloc, terms, played, path.is_astray())?;
+        path.advance()?;
+    }
+    let Search {
+        orders,
+        failing,
+        cut,
+        found,
+    } = search;
+    let failure = match found {
+        Some(found) => Some(shorten(found, make, check)?),
+        None => None,
+    };
+    Ok(Every {
+        orders,
+        failing,
+        cut,
+        left: path.left(),
+        failure,
+    })
 }

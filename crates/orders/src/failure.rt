@@ -1,5 +1,7 @@
 //! An order that fails, as it was found and as short as it was made.
-ghost use Rattle.std.specs.Prelude.{◌≤◌, length};
+ghost use Rattle.orders.specs.declared.failure.End.TheVariants.{Right};
+ghost use Rattle.orders.specs.Ends.{end_of};
+ghost use Rattle.std.specs.Prelude.{◌≡◌, ◌≢◌, ◌≤◌, length};
 
 use crate::calls::Extra;
 use crate::order::Order;
@@ -31,12 +33,15 @@ pub struct Failure {
     pub found: Order,
     /// An order that fails too, with no more calls. All that could be left out alone is left out.
     pub short: Order,
+    ghost failed: { end ≢ Right },
     ghost shorter: { length short.made.items ≤ length found.made.items },
 }
 
 impl End {
     /// Of an order by whether it is over, and by what the check says then.
-    pub(crate) fn of(is_over: bool, is_right: bool) -> Self {
+    pub(crate) fn of(is_over: bool, is_right: bool) -> Self
+        ensures { result ≡ end_of is_over is_right }
+    {
         if !is_over {
             End::Cut
         } else if is_right {

@@ -1,12 +1,15 @@
 //! The first order that fails, by seeds.
-ghost use Rattle.std.specs.Prelude.{◌<◌, ◌≤◌, IfOk, IfSome};
+ghost use Rattle.orders.specs.Ends.{AllRight, EndsFirst};
+ghost use Rattle.std.specs.Fn.{CalledAt};
+ghost use Rattle.std.specs.Prelude.{◌-◌, ◌<◌, ◌≤◌, IfNone, IfOk, IfSome};
 
 use crate::asking::Asking;
 use crate::beside::Beside;
 use crate::calls::Extra;
-use crate::driver::drive;
-use crate::failure::Failure;
-use crate::plan::{Plan, Terms};
+use crate::chooser::Drawn;
+use crate::failure::{End, Failure};
+use crate::playing::{Terms, play};
+use crate::shortening::{Shortening, shorten};
 use async_task::Future;
 use std::alloc::Global;
 use std::collections::VecDeque;
@@ -40,6 +43,8 @@ where
     C: FnMut(&X) -> bool,
     requires make { M.IsAlwaysCallable make }
     requires check { C.IsAlwaysCallable check }
+    ensures none { IfOk result (λ found. IfNone found (AllRight (CalledAt C.FnMut) check (seeds.end - seeds.start))) }
+    ensures first { IfOk result (λ found. IfSome found (λ failure. EndsFirst (CalledAt C.FnMut) check (failure.number - seeds.start) failure.end)) }
     ensures seed { IfOk result (λ found. IfSome found (λ failure. (seeds.start ≤ failure.number) × (failure.number < seeds.end))) }
 {
     first_failure_among(alloc, seeds, Extra::default(), make, check)
@@ -51,8 +56,8 @@ pub fn first_failure_among<F, T, X, M, C>(
     alloc: Global,
     seeds: Range<u64>,
     extra: Extra,
-    make: M,
-    check: C,
+    mut make: M,
+    mut check: C,
 ) -> io::Result<Option<Failure>>
 where
     T: Debug + Drop,
@@ -62,14 +67,22 @@ where
     C: FnMut(&X) -> bool,
     requires make { M.IsAlwaysCallable make }
     requires check { C.IsAlwaysCallable check }
+    ensures none { IfOk result (λ found. IfNone found (AllRight (CalledAt C.FnMut) check (seeds.end - seeds.start))) }
+    ensures first { IfOk result (λ found. IfSome found (λ failure. EndsFirst (CalledAt C.FnMut) check (failure.number - seeds.start) failure.end)) }
     ensures seed { IfOk result (λ found. IfSome found (λ failure. (seeds.start ≤ failure.number) × (failure.number < seeds.end))) }
 {
     let terms = Terms {
-        first: seeds.start,
-        behind: seeds.end,
         most: MOST_CALLS,
         extra,
     };
-    let plan = drive(alloc, Plan::drawn(alloc, terms), make, check)?;
-    Ok(plan.into_failure())
+    for number in seeds.start..seeds.end {
+        let mut drawn = Drawn::new(number);
+        let played = play(alloc, terms, &mut drawn, &mut make, &mut check)?;
+        if played.end() != End::Right {
+            let found = Shortening::new(alloc, number, terms, played)?;
+            return Ok(Some(shorten(found, make, check)?));
+        }
+        drop(played.into_order());
+    }
+    Ok(None)
 }

@@ -1,7 +1,7 @@
 //! The search through all orders: at each call, which of those that might come was taken, and how many there were.
 
 ghost use Rattle.orders.specs.Paths.{AreOver, IsOver, is_open};
-ghost use Rattle.std.specs.Prelude.{◌≡◌, IfOk, false, true};
+ghost use Rattle.std.specs.Prelude.{◌≡◌, ◌↔◌, IfOk, false, true};
 
 use std::alloc::{AllocError, Global};
 
@@ -32,7 +32,9 @@ pub struct Path {
 
 impl Path {
     /// The first order, which takes the first call each time, is to be played.
-    pub fn new(alloc: Global) -> Self {
+    pub fn new(alloc: Global) -> Self
+        ensures { result.is_due ≡ true }
+    {
         Path {
             choices: Vec::new(alloc),
             at: 0,
@@ -42,7 +44,9 @@ impl Path {
     }
 
     /// Whether an order is to be played.
-    pub fn is_due(&self) -> bool {
+    pub fn is_due(&self) -> bool
+        ensures { result ≡ self.now.is_due }
+    {
         self.is_due
     }
 
@@ -53,7 +57,7 @@ impl Path {
 
     /// How many orders are known that weren't played: one that is due, and one for each choice that is open.
     pub fn left(&self) -> usize
-        ensures { (result ≡ 0) → IsOver self.now }
+        ensures { (result ≡ 0) ↔ IsOver self.now }
     {
         let open = self
             .choices
@@ -67,14 +71,8 @@ impl Path {
         }
     }
 
-    /// The order is played from its begin.
-    pub fn begin(&mut self) {
-        self.at = 0;
-        self.is_due = false;
-    }
-
     /// Which of so many calls comes next.
-    pub fn choose(&mut self, ways: usize) -> Result<usize, AllocError> {
+    pub fn take(&mut self, ways: usize) -> Result<usize, AllocError> {
         let taken = match self.choices.get(self.at) {
             Some(choice) => {
                 if choice.ways != ways {
@@ -93,8 +91,10 @@ impl Path {
 
     /// Goes on to the next order: the last choice that is open takes the next call. Where none is open, no order is due.
     pub fn advance(&mut self) -> Result<(), AllocError>
-        ensures { IfOk result (λ _. self.new.is_due ≡ false → AreOver self.old.choices.items) }
+        ensures was { IfOk result (λ _. self.new.is_due ≡ false → AreOver self.old.choices.items) }
+        ensures is { IfOk result (λ _. self.new.is_due ≡ false → AreOver self.new.choices.items) }
     {
+        self.at = 0;
         self.is_due = false;
         while let Some(choice) = self.choices.pop() {
             if choice.is_open() {

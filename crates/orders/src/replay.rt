@@ -1,11 +1,13 @@
 //! An order that failed, once more.
+ghost use Rattle.orders.specs.Ends.{Answers};
+ghost use Rattle.std.specs.Fn.{FnOnceReturnsAt};
+ghost use Rattle.std.specs.Prelude.{◌≡◌, ◌↔◌, IfOk, IsTrue};
 
 use crate::asking::Asking;
 use crate::beside::Beside;
-use crate::chooser::Chooser;
-use crate::failure::{End, Failure};
+use crate::chooser::Listed;
+use crate::failure::Failure;
 use crate::first::MOST_CALLS;
-use crate::order::Order;
 use crate::scheduler::Scheduler;
 use async_task::Future;
 use std::alloc::Global;
@@ -31,12 +33,13 @@ where
     C: FnOnce(&X) -> bool,
     requires make { M.IsAlwaysCallable make }
     requires check { C.IsAlwaysCallable check }
+    ensures { IfOk result (λ again. (end : _) × Answers (FnOnceReturnsAt C.FnOnce check) end × (IsTrue again ↔ (end ≡ failure.now.end))) }
 {
-    let mut chooser = Chooser::Listed(failure.short.calls(alloc)?);
+    let mut listed = Listed(failure.short.calls(alloc)?);
     let (futures, mut beside) = make()?;
     let mut scheduler = Scheduler::new(alloc, futures, failure.extra)?;
     let most = failure.short.made.len().max(MOST_CALLS);
-    let is_over = scheduler.play(&mut beside, &mut chooser, most)?;
-    let end = End::of(is_over, check(&beside));
-    Ok(end == failure.end)
+    scheduler.play(&mut beside, &mut listed, most)?;
+    let is_right = check(&beside);
+    Ok(scheduler.end(is_right).is_end(failure.end))
 }

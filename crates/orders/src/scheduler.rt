@@ -2,7 +2,7 @@
 use crate::asking::Asking;
 use crate::beside::Beside;
 use crate::calls::{Call, Came, Extra};
-use crate::chooser::Chooser;
+use crate::chooser::Choose;
 use crate::order::Order;
 use crate::polling::nobody;
 use async_task::{Future, Nobody};
@@ -38,6 +38,8 @@ pub struct Scheduler<F, T> {
     pub known: Vec<Known>,
     pub extra: Extra,
     pub order: Order,
+    /// It came to an end: then no call may come.
+    pub is_over: bool,
 }
 
 impl<T: Debug + Drop, F: Future<Asking, Output = T> + Drop> Scheduler<F, T> {
@@ -49,30 +51,28 @@ impl<T: Debug + Drop, F: Future<Asking, Output = T> + Drop> Scheduler<F, T> {
             known: Vec::new(alloc),
             extra,
             order: Order::new(alloc),
+            is_over: false,
         })
     }
 
-    /// Makes the calls that are chosen, so many at most. Whether it came to an end: then no call may come.
-    pub fn play<X: Beside>(
+    /// Makes the calls that are chosen, so many at most.
+    pub fn play<X: Beside, H: Choose>(
         &mut self,
         beside: &mut X,
-        chooser: &mut Chooser,
+        chooser: &mut H,
         most: usize,
-    ) -> io::Result<bool> {
+    ) -> io::Result<()> {
         for _ in 0..most {
             let offers = self.offers(beside)?;
             let Some(call) = chooser.choose(&offers)? else {
-                return Ok(true);
+                self.is_over = true;
+                return Ok(());
             };
             let came = self.make(call, beside)?;
             self.order.note(call, came)?;
         }
-        Ok(self.offers(beside)?.is_empty())
-    }
-
-    /// The order that was played. All futures and outputs that are left are dropped.
-    pub fn into_order(self) -> Order {
-        self.order
+        self.is_over = self.offers(beside)?.is_empty();
+        Ok(())
     }
 
     fn make<X: Beside>(&mut self, call: Call, beside: &mut X) -> io::Result<Option<Came>> {

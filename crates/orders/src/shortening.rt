@@ -1,66 +1,63 @@
 //! A failing order is made shorter: one call after the other is left out, while it still fails.
-ghost use Rattle.std.specs.Prelude.{◌≡◌, IfOk};
+ghost use Rattle.orders.specs.declared.failure.End.TheVariants.{Right};
+ghost use Rattle.std.specs.Prelude.{◌<◌, ◌≡◌, ◌≢◌, IfOk, IfSome, length};
 
-use crate::calls::{Call, Extra};
-use crate::failure::{End, Failure};
-use crate::order::Order;
+use crate::asking::Asking;
+use crate::beside::Beside;
+use crate::calls::Call;
+use crate::chooser::Listed;
+use crate::failure::Failure;
+use crate::played::Played;
+use crate::playing::{Terms, play};
+use async_task::Future;
 use std::alloc::{AllocError, Global};
 use std::collections::VecDeque;
+use std::fmt::Debug;
+use std::io;
 
 /// A failing order, and how far it is shortened: the calls that have to be said, and how many of them weren't tried.
 #[derive(Drop)]
 pub struct Shortening {
     failure: Failure,
     alloc: Global,
+    terms: Terms,
     kept: VecDeque<Call>,
     untried: usize,
 }
 
 impl Shortening {
-    /// Of an order that was found.
-    pub fn new(
-        alloc: Global,
-        number: u64,
-        extra: Extra,
-        order: Order,
-        end: End,
-    ) -> Result<Self, AllocError>
+    /// Of an order that was played, and failed.
+    pub fn new(alloc: Global, number: u64, terms: Terms, played: Played) -> Result<Self, AllocError>
+        requires { played.end ≢ Right }
         ensures number { IfOk result (λ s. s.failure.number ≡ number) }
+        ensures end { IfOk result (λ s. s.failure.end ≡ played.end) }
+        ensures orders { IfOk result (λ s. (s.failure.found ≡ played.order) × (length s.failure.short.made.items ≡ length played.order.made.items)) }
     {
-        let kept = order.calls(alloc)?;
+        let end = played.end();
+        let found = played.into_order();
+        let kept = found.calls(alloc)?;
         let untried = kept.len();
-        let short = order.copy(alloc)?;
+        let short = found.copy(alloc)?;
+        let failure = Failure {
+            number,
+            end,
+            extra: terms.extra,
+            found,
+            short,
+        };
         Ok(Shortening {
-            failure: Failure {
-                number,
-                end,
-                extra,
-                found: order,
-                short,
-            },
+            failure,
             alloc,
+            terms,
             kept,
             untried,
         })
     }
 
-    /// The number of the order that is shortened.
-    pub fn number(&self) -> u64
-        ensures { result ≡ self.now.failure.number }
-    {
-        self.failure.number
-    }
-
-    /// The failure, as short as it is by now.
-    pub fn into_failure(self) -> Failure
-        ensures { result ≡ self.failure }
-    {
-        self.failure
-    }
-
     /// The next list to be played: what is kept, without the last call that wasn't tried. None, where all were tried.
-    pub fn begin(&mut self) -> Result<Option<VecDeque<Call>>, AllocError>
+    fn begin(&mut self) -> Result<Option<Listed>, AllocError>
         ensures same { self.new.failure ≡ self.old.failure }
+        ensures fewer { IfOk result (λ next. IfSome next (λ _. self.new.untried < self.old.untried)) }
     {
         if self.untried == 0 {
             return Ok(None);
@@ -72,16 +69,47 @@ impl Shortening {
                 calls.push_back(*call)?;
             }
         }
-        Ok(Some(calls))
+        Ok(Some(Listed(calls)))
     }
 
-    /// That list made this order: it takes the place of the short form, if it fails like it and is no longer.
-    pub fn end(&mut self, order: Order, end: End)
+    /// That list made this order: it takes the place of the short form, if it ends like it and is no longer.
+    fn end(&mut self, played: Played)
+        ensures kept { (played.end ≢ self.old.failure.end) → self.new.failure ≡ self.old.failure }
+        ensures found { self.new.failure.found ≡ self.old.failure.found }
         ensures number { self.new.failure.number ≡ self.old.failure.number }
+        ensures end { self.new.failure.end ≡ self.old.failure.end }
+        ensures untried { self.new.untried ≡ self.old.untried }
     {
-        if end == self.failure.end && order.made.len() <= self.failure.short.made.len() {
+        let is_same = played.end() == self.failure.end;
+        let order = played.into_order();
+        if is_same && order.made.len() <= self.failure.short.made.len() {
             self.failure.short = order;
             let _ = self.kept.remove(self.untried);
         }
     }
+}
+
+/// Shortens an order that failed, until each call that is left was tried.
+pub fn shorten<F, T, X, M, C>(
+    mut found: Shortening,
+    mut make: M,
+    mut check: C,
+) -> io::Result<Failure>
+where
+    T: Debug + Drop,
+    F: Future<Asking, Output = T> + Drop,
+    X: Beside + Drop,
+    M: FnMut() -> io::Result<(VecDeque<F>, X)>,
+    C: FnMut(&X) -> bool,
+    requires make { M.IsAlwaysCallable make }
+    requires check { C.IsAlwaysCallable check }
+    ensures number { IfOk result (λ failure. failure.number ≡ found.failure.number) }
+    ensures end { IfOk result (λ failure. failure.end ≡ found.failure.end) }
+{
+    while let Some(mut listed) = found.begin()? {
+        let played = play(found.alloc, found.terms, &mut listed, &mut make, &mut check)?;
+        found.end(played);
+    }
+    let Shortening { failure, .. } = found;
+    Ok(failure)
 }

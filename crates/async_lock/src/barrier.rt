@@ -19,11 +19,15 @@ use std::sync::{Arc, Wait};
 /// comes last takes none.
 ///
 /// ```
-/// let mut barrier = Barrier::<Nobody, _>::new(rt, rt.alloc(), 2)?;
-/// let mut other = barrier.wait()?;
-/// assert!(rt; matches!(other.poll(&Nobody), Poll::Pending));
-/// assert!(rt; matches!(barrier.poll_wait(&Nobody), Poll::Ready(Ok(passed)) if passed.is_leader()));
-/// assert!(rt; matches!(other.poll(&Nobody), Poll::Ready(Ok(passed)) if !passed.is_leader()));
+/// let Ok(wait) = self.barrier.wait() else {
+///     return None;
+/// };
+/// match block_on::<ThreadWaker, _, _>(&self.rt, self.alloc, wait) {
+///     Ok(Ok(passed)) if self.came.load(SeqCst) >= round.saturating_mul(3) => {
+///         Some(passed.is_leader())
+///     }
+///     _ => None,
+/// }
 /// ```
 pub struct Barrier<K: Wake + Drop, R: Wait + Copy + Drop> {
     gathering: Arc<Guarded<Gathering<K>>>,

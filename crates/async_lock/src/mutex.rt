@@ -18,18 +18,18 @@ use waiting::parts::Listening;
 /// After `Mutex` of `async-lock` and `tokio`.
 ///
 /// Wakers are called and dropped, and values dropped, while the mutex's own lock isn't held. To take and to give back takes no memory; to
-/// wait takes some for a place among those who wait, where others wait already.
+/// wait takes some for a place among those who wait, where others wait already. Here `given` polls, and gives the value back:
 ///
 /// ```
-/// let mutex = Mutex::<u64, Nobody, _>::new(rt, rt.alloc(), 1)?;
+/// let mutex = Mutex::<u64, Nobody, R>::new(rt, alloc, 1)?;
 /// let mut first = mutex.try_lock()?;
 /// let mut second = mutex.lock()?;
-/// assert!(rt; matches!(second.poll(&Nobody), Poll::Pending));
+/// let waits = given(&mut second, &Nobody).is_none();
 /// *first.get_mut() = 2;
 /// drop(first);
-/// assert!(rt; matches!(mutex.try_lock(), Err(TryLockError::Locked)));
-/// assert!(rt; matches!(second.poll(&Nobody), Poll::Ready(Ok(guard)) if *guard.get() == 2));
-/// assert!(rt; mutex.try_lock().is_ok());
+/// let locked = matches!(mutex.try_lock(), Err(TryLockError::Locked));
+/// let has = given(&mut second, &Nobody) == Some(2);
+/// Ok(waits & locked & has & mutex.try_lock().is_ok())
 /// ```
 pub struct Mutex<T: Drop, K: Wake + Drop, R: Wait + Copy + Drop> {
     room: Arc<Guarded<Room<T, K>>>,

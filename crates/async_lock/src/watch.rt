@@ -25,14 +25,11 @@ pub type Ends<T, K, R> = (Sender<T, K, R>, Receiver<T, K, R>);
 /// is none the value comes back.
 ///
 /// ```
-/// let (sender, mut receiver) = watch::channel::<u64, Nobody, _>(rt, rt.alloc(), 1)?;
-/// assert!(rt; matches!(receiver.poll_changed(&Nobody), Poll::Pending));
-/// assert!(rt; sender.send(2).is_ok() & sender.send(3).is_ok());
-/// assert!(rt; matches!(receiver.poll_changed(&Nobody), Poll::Ready(Ok(()))));
-/// assert!(rt; *receiver.borrow()? == 3);
-/// assert!(rt; matches!(receiver.poll_changed(&Nobody), Poll::Pending));
-/// drop(sender);
-/// assert!(rt; matches!(receiver.poll_changed(&Nobody), Poll::Ready(Err(RecvError::Closed))));
+/// let (sender, mut receiver) = watch::channel::<u64, Nobody, R>(rt, alloc, 1)?;
+/// let waits = matches!(receiver.poll_changed(&Nobody), Poll::Pending);
+/// let sent = sender.send(2).is_ok() & sender.send(3).is_ok();
+/// let once = matches!(receiver.changed().poll(&Nobody), Poll::Ready(Ok(())));
+/// let newest = receiver.borrow()?;
 /// ```
 pub fn channel<T: Drop, K: Wake + Drop, R: Wait + Copy + Drop>(
     rt: R,

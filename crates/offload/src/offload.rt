@@ -21,17 +21,13 @@ use waiting::channel::TrySendError;
 /// outputs have wakers of the type `K`.
 ///
 /// Its places are for work that no thread has taken yet. Wakers are called, work is done and values are dropped with no lock held.
+/// Threads serve by `serve`, until `close`; who has work awaits its output:
 ///
 /// ```
-/// let offload = Offload::<Double, ThreadWaker, _>::new(rt, alloc, 4)?;
-/// let serves = |_| offload.serve();
-/// let asks = || {
-///     let answer = offload.try_run(Double(21)).map(|answer| block_on::<ThreadWaker, _, _>(&rt, alloc, answer));
-///     offload.close();
-///     matches!(answer, Ok(Ok(Ok(42))))
+/// let Ok(run) = self.offload.run(job) else {
+///     return None;
 /// };
-/// let (answered, _) = thread::join(&rt, asks, || thread::map_indices(&rt, alloc, 2, &serves));
-/// assert!(rt; answered);
+/// block_on::<ThreadWaker, _, _>(&self.rt, self.alloc, run).ok()
 /// ```
 #[derive(Drop)]
 pub struct Offload<J: Work + Drop, K: Wake + Drop, R: Wait + Copy + Drop> {

@@ -1,12 +1,12 @@
 //! Each bug is found by seeds and among all orders, and in its mended form nothing is.
 
 use crate::program::Program;
-use crate::rows::{ROWS, terms_of};
+use crate::rows::{ROW_COUNT, Row, row_at};
 use crate::world::WaitingRuntime;
 use orders::{Failure, Hands};
 use std::alloc::Global;
 use std::cell::Cell;
-use std::io;
+use std::io::{self, ErrorKind};
 
 /// What seeds find in a program.
 #[derive(Clone, Copy, Debug, PartialEq, Eq, Drop)]
@@ -30,6 +30,14 @@ struct Searched {
     fails_again: Option<bool>,
 }
 
+/// The row at this place.
+fn row_of(at: usize) -> io::Result<Row> {
+    match row_at(at) {
+        Some(row) => Ok(row),
+        None => Err(ErrorKind::NotFound.into()),
+    }
+}
+
 /// One form of the program of the row at this place.
 fn program_of<R: WaitingRuntime, N: Hands + Copy + Drop>(
     rt: R,
@@ -37,17 +45,17 @@ fn program_of<R: WaitingRuntime, N: Hands + Copy + Drop>(
     now: N,
     at: usize,
     is_mended: bool,
-) -> Program<R, N> {
-    let (extra, right) = terms_of(at);
-    Program {
+) -> io::Result<Program<R, N>> {
+    let row = row_of(at)?;
+    Ok(Program {
         rt,
         alloc,
         now,
         row: at,
         is_mended,
-        extra,
-        right,
-    }
+        extra: row.extra,
+        right: row.right,
+    })
 }
 
 /// Whether two failures have the same calls, and the same short forms.
@@ -102,8 +110,9 @@ fn clock(alloc: Global) -> io::Result<&'static Cell<u64>> {
 #[test]
 fn seeds_find_each_bug(rt: HostRuntime) -> io::Result<()> {
     let now = clock(rt.alloc())?;
-    for (at, row) in ROWS.iter().enumerate() {
-        let program = program_of(rt, rt.alloc(), now, at, false);
+    for at in 0..ROW_COUNT {
+        let row = row_of(at)?;
+        let program = program_of(rt, rt.alloc(), now, at, false)?;
         let right = Found {
             seed: row.seed,
             calls: row.calls,
@@ -119,8 +128,9 @@ fn seeds_find_each_bug(rt: HostRuntime) -> io::Result<()> {
 #[test]
 fn all_orders_have_each_bug(rt: HostRuntime) -> io::Result<()> {
     let now = clock(rt.alloc())?;
-    for (at, row) in ROWS.iter().enumerate() {
-        let program = program_of(rt, rt.alloc(), now, at, false);
+    for at in 0..ROW_COUNT {
+        let row = row_of(at)?;
+        let program = program_of(rt, rt.alloc(), now, at, false)?;
         let right = Searched {
             orders: row.orders,
             failing: row.failing,
@@ -135,8 +145,9 @@ fn all_orders_have_each_bug(rt: HostRuntime) -> io::Result<()> {
 #[test]
 fn mended_forms_have_none(rt: HostRuntime) -> io::Result<()> {
     let now = clock(rt.alloc())?;
-    for (at, row) in ROWS.iter().enumerate() {
-        let program = program_of(rt, rt.alloc(), now, at, true);
+    for at in 0..ROW_COUNT {
+        let row = row_of(at)?;
+        let program = program_of(rt, rt.alloc(), now, at, true)?;
         let right = Searched {
             orders: row.mended_orders,
             failing: 0,
@@ -151,8 +162,9 @@ fn mended_forms_have_none(rt: HostRuntime) -> io::Result<()> {
 #[test]
 fn mended_forms_bear_strays_and_refusals(rt: HostRuntime) -> io::Result<()> {
     let now = clock(rt.alloc())?;
-    for (at, row) in ROWS.iter().enumerate() {
-        let mut program = program_of(rt, rt.alloc(), now, at, true);
+    for at in 0..ROW_COUNT {
+        let row = row_of(at)?;
+        let mut program = program_of(rt, rt.alloc(), now, at, true)?;
         program.extra.strays = 1;
         program.extra.refusals = 1;
         assert!(rt; program.first(0..50)?.is_none(), "{}", row.name);

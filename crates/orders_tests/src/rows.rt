@@ -70,7 +70,10 @@ const THREE: Outcome = Outcome {
     left: 0,
 };
 
-pub const ROWS: [Row; 11] = [
+/// How many rows there are.
+pub const ROW_COUNT: usize = 11;
+
+const ROWS: [Row; ROW_COUNT] = [
     Row {
         name: "a lost update",
         extra: NONE,
@@ -330,6 +333,11 @@ pub const ROWS: [Row; 11] = [
     },
 ];
 
+/// The row at this place. All ask here: each function that names the table is proved with a copy of it.
+pub fn row_at(at: usize) -> Option<Row> {
+    ROWS.get(at).copied()
+}
+
 /// What a player of a row does, in its mended form or with the bug. Nothing, if there is no such player.
 pub fn acts_of(
     alloc: Global,
@@ -337,7 +345,7 @@ pub fn acts_of(
     is_mended: bool,
     player: usize,
 ) -> Result<Vec<Act>, AllocError> {
-    if let Some(row) = ROWS.get(row) {
+    if let Some(row) = row_at(row) {
         let form = if is_mended { row.mended } else { row.bad };
         if let Some(acts) = form.get(player) {
             return copy_of(alloc, acts);
@@ -350,12 +358,4 @@ fn copy_of(alloc: Global, acts: &[Act]) -> Result<Vec<Act>, AllocError> {
     let mut copy = Vec::new(alloc);
     copy.extend_from_slice(acts)?;
     Ok(copy)
-}
-
-/// Which calls a row's orders are allowed, and what stands at a right end.
-pub fn terms_of(row: usize) -> (Extra, Outcome) {
-    match ROWS.get(row) {
-        Some(row) => (row.extra, row.right),
-        None => (NONE, TWO),
-    }
 }

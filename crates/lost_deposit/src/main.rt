@@ -100,7 +100,10 @@ fn show<R: AllocGlobal + Eprint + Print>(
         return eprintln!(rt; "no deposit is lost");
     };
     let seed = failure.number;
-    eprintln!(rt; "seed {seed}: the balance is {}", balance.get().unwrap_or(0))?;
+    eprintln!(rt;
+        "seed {seed}: the balance is {}",
+        balance.get().unwrap_or(0)
+    )?;
     match failure.script(alloc)? {
         Some(script) => print!(rt; "{script}"),
         None => eprintln!(rt; "{failure}"),

@@ -1,0 +1,11 @@
+//! Each call of `async_lock`, `offload` and `reactor` that asks for memory: what a refusal of it answers. The call is made once more
+//! then. Calls that take none stand between them.
+#![tactic(auto)]
+
+mod locks;
+mod offloads;
+mod sources;
+
+pub use locks::try_locks;
+pub use offloads::try_offloads;
+pub use sources::try_sources;

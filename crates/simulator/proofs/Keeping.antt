@@ -47,7 +47,7 @@ use Rattle.simulator.specs.Turn as turns
 use Rattle.simulator.specs.Commands as commands
 use Rattle.simulator.specs.ScriptText.{happened}
 
-happened-append : (xs ys : List Moment) → happened (xs ++ ys) ≡ happened xs ++ happened ys
+pub happened-append : (xs ys : List Moment) → happened (xs ++ ys) ≡ happened xs ++ happened ys
 happened-append [] ys = refl
 happened-append (Happened e ∷ xs) ys = ap (λ (es : List Event). e ∷ es) (happened-append xs ys)
 happened-append (Ended w o ∷ xs) ys = happened-append xs ys

@@ -3,7 +3,9 @@
 
 mod answers;
 mod moment;
-mod play;
+pub mod play;
 mod print;
 
 pub use answers::answer;
+pub use moment::{Moment, Outcome};
+pub use print::push_outcome;

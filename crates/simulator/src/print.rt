@@ -147,7 +147,8 @@ fn push_end(text: &mut Vec<u8>, word: Word, outcome: Outcome) -> Result<(), Allo
     text.extend_from_slice(b"\n")
 }
 
-fn push_outcome(text: &mut Vec<u8>, outcome: Outcome) -> Result<(), AllocError>
+/// Appends how a command ended, as the line at its end says it.
+pub fn push_outcome(text: &mut Vec<u8>, outcome: Outcome) -> Result<(), AllocError>
     ensures { OnOk result (text.new.items ≡ text.old.items ++ outcome_text outcome) }
 {
     match outcome {

@@ -1,0 +1,6 @@
+//! What no clause says: which futures a poll polls, when each is dropped, and that who gives up leaves all others as they were.
+mod bell;
+mod children;
+mod joins;
+mod lists;
+mod receives;

@@ -1,0 +1,13 @@
+pub mod Types
+pub mod Taking
+pub mod Carrying
+pub mod Idling
+pub mod Holding
+pub mod Rows
+pub mod Counting
+pub mod There
+pub mod Beginning
+pub mod Living
+pub mod Entering
+pub mod Interleaving
+pub mod Telling

@@ -2,7 +2,7 @@ ghost use Rattle.std.specs.Prelude.{◌≡◌, IfOk, OnErr};
 ghost use Rattle.reactor.specs.Attempts.{WouldHaveBlocked};
 
 use crate::lane::Lane;
-use crate::parts::{Attempt, Ready, WouldBlock};
+use crate::parts::{Attempt, Ready, Transfer, WouldBlock};
 use async_task::Wake;
 use std::io;
 use std::sync::Wait;
@@ -37,6 +37,28 @@ impl<'a, K: Wake + Drop, R: Wait + Copy + Drop> ReadyGuard<'a, K, R> {
         match ready.try_io(call) {
             Attempt::Done(done) => Ok(done),
             Attempt::Blocked(stale) => Err(lane.lock(&rt).clear(stale)),
+        }
+    }
+
+    /// As `try_io`, for a read or a write of at most so many bytes. Where it moved some, and fewer, the next would block: so the way
+    /// is ready no more, unless an event came since it was polled or the last has come. That saves the call that would find it out.
+    pub fn try_transfer<F: FnOnce() -> io::Result<usize>>(
+        self,
+        most: usize,
+        call: F,
+    ) -> Result<io::Result<usize>, WouldBlock>
+        requires { F.pre call }
+        ensures done { IfOk result (λ done. F.post call done × ¬ (WouldHaveBlocked done)) }
+        ensures blocked { OnErr result ((done : _) × F.post call done × WouldHaveBlocked done) }
+    {
+        let ReadyGuard { rt, lane, ready } = self;
+        match ready.try_transfer(most, call) {
+            Transfer::Done(done) => Ok(done),
+            Transfer::Short(count, stale) => {
+                let _next = lane.lock(&rt).clear(stale);
+                Ok(Ok(count))
+            }
+            Transfer::Blocked(stale) => Err(lane.lock(&rt).clear(stale)),
         }
     }
 

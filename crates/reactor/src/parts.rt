@@ -3,6 +3,6 @@ mod attempt;
 mod side;
 mod sources;
 
-pub use attempt::{Attempt, Ready, Stale};
+pub use attempt::{Attempt, Ready, Stale, Transfer};
 pub use side::{Checked, Looked, Over, Owed, Parked, Readiness, Side, WouldBlock};
 pub use sources::{Key, Refused, Sources};

@@ -8,8 +8,8 @@ pub enum Way {
     Write,
 }
 
-/// What a poller heard of a source. A source that has failed or was closed from afar is ready each way, so that who waits finds
-/// out by its next read or write.
+/// What a poller heard of a source. A source that has failed is ready each way, so that who waits finds out by its next read or
+/// write.
 #[derive(Clone, Copy, Debug, Drop)]
 pub struct Heard {
     /// The key of the source.
@@ -18,6 +18,10 @@ pub struct Heard {
     pub is_readable: bool,
     /// Whether it may be written to.
     pub is_writable: bool,
+    /// Whether it was closed from afar, so that reads give what is left and then the end: of this way no event comes any more.
+    pub is_read_closed: bool,
+    /// Whether it was closed from afar for writes: of this way no event comes any more.
+    pub is_write_closed: bool,
 }
 
 /// What hears of sources: in a program the system. It says of each way once that it became ready (by its edge), for a source that

@@ -109,8 +109,20 @@ impl<K: Wake + Drop, R: Wait + Copy + Drop> Reactor<K, R> {
         let table = self.table.lock(&self.rt);
         let (readers, writers) = match table.get(heard.key) {
             Some(lanes) => (
-                ring(&self.rt, &**lanes, Way::Read, heard.is_readable),
-                ring(&self.rt, &**lanes, Way::Write, heard.is_writable),
+                ring(
+                    &self.rt,
+                    &**lanes,
+                    Way::Read,
+                    heard.is_readable,
+                    heard.is_read_closed,
+                ),
+                ring(
+                    &self.rt,
+                    &**lanes,
+                    Way::Write,
+                    heard.is_writable,
+                    heard.is_write_closed,
+                ),
             ),
             None => (None, None),
         };
@@ -137,8 +149,11 @@ fn ring<K: Wake + Drop, R: Wait>(
     lanes: &Lanes<K>,
     way: Way,
     is_ready: bool,
+    is_closed: bool,
 ) -> Option<Owed<K>> {
-    if is_ready {
+    if is_closed {
+        Some(lanes.of(way).lock(rt).end())
+    } else if is_ready {
         Some(lanes.of(way).lock(rt).ring())
     } else {
         None

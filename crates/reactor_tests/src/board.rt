@@ -66,6 +66,8 @@ impl<R: Wait + Clock + Copy + Drop> Poller for Ear<'_, R> {
                 key,
                 is_readable: true,
                 is_writable: false,
+                is_read_closed: false,
+                is_write_closed: false,
             }),
             None => None,
         }

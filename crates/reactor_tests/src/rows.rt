@@ -1,7 +1,9 @@
 //! What a source answers, and who is called, row by row.
-use crate::stage::Answer::{Blocked, Closed, Nothing, Open, Ready, Waits};
-use crate::stage::Step::{Ask, Close, Drop, Hear, HearBoth, Look, Read, ReadHearing};
-use crate::stage::{Line, plays};
+use crate::stage::Answer::{Blocked, Closed, Moved, Nothing, Open, Ready, Waits};
+use crate::stage::Step::{
+    Ask, Close, Drop, End, Hear, HearBoth, Look, Move, MoveHearing, Read, ReadHearing,
+};
+use crate::stage::{Line, MOST, plays};
 use reactor::Way;
 
 const READ: Way = Way::Read;
@@ -28,6 +30,37 @@ const WHILE_IT_READS: [Line; 5] = [
     (ReadHearing(0, 0, WRITE), Blocked, [0, 0, 0]),
     (Read(0, 0, WRITE), Blocked, [0, 0, 0]),
     (Look(0, 0, WRITE), Waits, [0, 0, 0]),
+];
+
+/// A way of which fewer bytes came than were asked for waits for its event, unless that came meanwhile. As many, or none, leave it
+/// ready.
+const SHORT: [Line; 9] = [
+    (Move(0, 0, READ, MOST), Moved(MOST), [0, 0, 0]),
+    (Look(0, 0, READ), Ready, [0, 0, 0]),
+    (Move(0, 0, READ, 0), Moved(0), [0, 0, 0]),
+    (Look(0, 0, READ), Ready, [0, 0, 0]),
+    (MoveHearing(0, 0, READ, 3), Moved(3), [0, 0, 0]),
+    (Move(0, 0, READ, 3), Moved(3), [0, 0, 0]),
+    (Look(0, 0, READ), Waits, [0, 0, 0]),
+    (Look(0, 0, WRITE), Ready, [0, 0, 0]),
+    (Hear(0, READ), Open(true), [1, 0, 0]),
+];
+
+/// A way whose last event has come calls who waits, and stays ready, whatever is read, until the reactor is closed. The other
+/// doesn't.
+const ENDED: [Line; 12] = [
+    (Read(0, 0, READ), Blocked, [0, 0, 0]),
+    (Look(0, 0, READ), Waits, [0, 0, 0]),
+    (Read(1, 0, WRITE), Blocked, [0, 0, 0]),
+    (Look(1, 0, WRITE), Waits, [0, 0, 0]),
+    (End(0, READ), Open(true), [1, 0, 0]),
+    (Move(0, 0, READ, 3), Moved(3), [1, 0, 0]),
+    (Read(0, 0, READ), Blocked, [1, 0, 0]),
+    (Hear(0, READ), Open(true), [1, 0, 0]),
+    (Move(0, 0, READ, 1), Moved(1), [1, 0, 0]),
+    (Look(0, 0, READ), Ready, [1, 0, 0]),
+    (Close, Nothing, [1, 1, 0]),
+    (Look(0, 0, READ), Closed, [1, 1, 0]),
 ];
 
 /// Each way has an event of its own, and one event may be of both.
@@ -98,4 +131,6 @@ fn rows_answer_so(rt: HostRuntime) {
     plays(rt, &MUTE, 4);
     plays(rt, &DROPPED, 5);
     plays(rt, &CLOSED, 6);
+    plays(rt, &SHORT, 7);
+    plays(rt, &ENDED, 8);
 }

@@ -3,11 +3,14 @@ use crate::bell::Bell;
 use crate::script::Script;
 use crate::words::same;
 use async_task::Poll;
-use reactor::{Heard, Reactor, Source, SourceError, Way};
+use reactor::{Heard, Reactor, ReadyGuard, Source, SourceError, Way};
 use std::alloc::AllocGlobal;
 use std::io::ErrorKind;
 use std::process::Abort;
 use std::sync::Wait;
+
+/// How many bytes a read asks for.
+pub const MOST: usize = 4;
 
 /// What is done. Tasks are 0, 1 and 2, and the last has no copy of its waker to give; sources are 0 and 1.
 #[derive(Clone, Copy)]
@@ -18,8 +21,14 @@ pub enum Step {
     Read(usize, usize, Way),
     /// As before, but the poller hears of the way while the task reads.
     ReadHearing(usize, usize, Way),
+    /// A task polls a way, and reads so many bytes where it is ready.
+    Move(usize, usize, Way, usize),
+    /// As before, but the poller hears of the way while the task reads.
+    MoveHearing(usize, usize, Way, usize),
     /// The poller hears of a way of the source.
     Hear(usize, Way),
+    /// The poller hears of a way for the last time.
+    End(usize, Way),
     /// The poller hears of both ways.
     HearBoth(usize),
     /// The source is dropped.
@@ -36,6 +45,8 @@ pub enum Answer {
     Ready,
     Waits,
     Blocked,
+    /// So many bytes were read.
+    Moved(usize),
     Closed,
     /// Whether the reactor is open, or a source was had.
     Open(bool),
@@ -54,11 +65,31 @@ struct Stage<R: Wait + Copy + Drop> {
     bells: Vec<Bell>,
 }
 
+/// What a task does with a way that is ready.
+#[derive(Clone, Copy)]
+enum Deed {
+    Leave,
+    /// Reads, which would block or gives so many bytes. Meanwhile the poller may hear.
+    Read(Option<usize>, bool),
+}
+
 fn heard(key: usize, way: Way) -> Heard {
     Heard {
         key,
         is_readable: way == Way::Read,
         is_writable: way == Way::Write,
+        is_read_closed: false,
+        is_write_closed: false,
+    }
+}
+
+fn ended(key: usize, way: Way) -> Heard {
+    Heard {
+        key,
+        is_readable: false,
+        is_writable: false,
+        is_read_closed: way == Way::Read,
+        is_write_closed: way == Way::Write,
     }
 }
 
@@ -108,35 +139,57 @@ impl<R: Wait + Copy + Drop + AllocGlobal + Abort> Stage<R> {
         }
     }
 
-    /// A task polls, and reads where it is ready; meanwhile the poller may hear.
-    fn read(&self, source: &Source<Bell, R>, bell: &Bell, way: Way, hears: bool) -> Answer {
-        let key = source.key();
-        match source.poll_ready(way, bell) {
-            Poll::Pending => Answer::Waits,
-            Poll::Ready(Err(_closed)) => Answer::Closed,
-            Poll::Ready(Ok(guard)) => {
-                let read = guard.try_io(|| {
-                    if hears {
-                        let _open = self.hear(heard(key, way));
-                    }
-                    Err::<(), _>(ErrorKind::WouldBlock.into())
-                });
-                match read {
-                    Err(_would_block) => Answer::Blocked,
-                    Ok(_done) => Answer::Ready,
-                }
-            }
+    /// The poller may hear of the way.
+    fn may_hear(&self, key: usize, way: Way, hears: bool) {
+        if hears {
+            let _open = self.hear(heard(key, way));
+        }
+    }
+
+    /// A task reads; meanwhile the poller may hear.
+    fn read(
+        &self,
+        guard: ReadyGuard<'_, Bell, R>,
+        key: usize,
+        way: Way,
+        count: Option<usize>,
+        hears: bool,
+    ) -> Answer {
+        let Some(count) = count else {
+            let read = guard.try_io(|| {
+                self.may_hear(key, way, hears);
+                Err::<(), _>(ErrorKind::WouldBlock.into())
+            });
+            return match read {
+                Err(_would_block) => Answer::Blocked,
+                Ok(_done) => Answer::Ready,
+            };
+        };
+        let read = guard.try_transfer(MOST, || {
+            self.may_hear(key, way, hears);
+            Ok(count)
+        });
+        match read {
+            Err(_would_block) => Answer::Blocked,
+            Ok(Ok(moved)) => Answer::Moved(moved),
+            Ok(Err(_error)) => Answer::Nothing,
         }
     }
 
     /// A task polls a source, where both are there.
-    fn poll(&self, task: usize, source: usize, way: Way, reads: Option<bool>) -> Answer {
-        match (self.sources.get(source), self.bells.get(task)) {
-            (Some(Some(source)), Some(bell)) => match reads {
-                Some(hears) => self.read(source, bell, way, hears),
-                None => look(source, bell, way),
-            },
-            _ => Answer::Nothing,
+    fn poll(&self, task: usize, source: usize, way: Way, deed: Deed) -> Answer {
+        let (Some(Some(source)), Some(bell)) = (self.sources.get(source), self.bells.get(task))
+        else {
+            return Answer::Nothing;
+        };
+        let Deed::Read(count, hears) = deed else {
+            return look(source, bell, way);
+        };
+        let key = source.key();
+        match source.poll_ready(way, bell) {
+            Poll::Pending => Answer::Waits,
+            Poll::Ready(Err(_closed)) => Answer::Closed,
+            Poll::Ready(Ok(guard)) => self.read(guard, key, way, count, hears),
         }
     }
 
@@ -160,14 +213,27 @@ impl<R: Wait + Copy + Drop + AllocGlobal + Abort> Stage<R> {
 
     fn play(&mut self, step: Step) -> Answer {
         match step {
-            Step::Look(task, source, way) => self.poll(task, source, way, None),
-            Step::Read(task, source, way) => self.poll(task, source, way, Some(false)),
-            Step::ReadHearing(task, source, way) => self.poll(task, source, way, Some(true)),
+            Step::Look(task, source, way) => self.poll(task, source, way, Deed::Leave),
+            Step::Read(task, source, way) => {
+                self.poll(task, source, way, Deed::Read(None, false))
+            }
+            Step::ReadHearing(task, source, way) => {
+                self.poll(task, source, way, Deed::Read(None, true))
+            }
+            Step::Move(task, source, way, count) => {
+                self.poll(task, source, way, Deed::Read(Some(count), false))
+            }
+            Step::MoveHearing(task, source, way, count) => {
+                self.poll(task, source, way, Deed::Read(Some(count), true))
+            }
             Step::Hear(source, way) => self.hear(heard(self.key(source), way)),
+            Step::End(source, way) => self.hear(ended(self.key(source), way)),
             Step::HearBoth(source) => self.hear(Heard {
                 key: self.key(source),
                 is_readable: true,
                 is_writable: true,
+                is_read_closed: false,
+                is_write_closed: false,
             }),
             Step::Drop(source) => {
                 self.drop_source(source);

@@ -30,6 +30,8 @@ fn turns<R: Wait + Copy + Drop + AllocGlobal + Abort>(
         key: source.key(),
         is_readable: false,
         is_writable: true,
+        is_read_closed: false,
+        is_write_closed: false,
     };
     said.push(heard).expect(&rt, "memory");
     let mut script = Script::new(said);

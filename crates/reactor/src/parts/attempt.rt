@@ -1,6 +1,6 @@
 //! One read or write, between reading the tick and clearing the way.
 ghost use Rattle.std.specs.Prelude.{◌≡◌};
-ghost use Rattle.reactor.specs.Attempts.{IsAttemptOf};
+ghost use Rattle.reactor.specs.Attempts.{IsAttemptOf, IsTransferOf};
 
 use std::io::{self, ErrorKind};
 
@@ -25,6 +25,17 @@ pub enum Attempt<T> {
     Blocked(Stale),
 }
 
+/// What came of a read or a write of some bytes.
+#[must_use]
+pub enum Transfer {
+    /// It was done, well or not, and the next is worth a try.
+    Done(io::Result<usize>),
+    /// Some bytes were moved, and fewer than were asked for: so the next would block.
+    Short(usize, Stale),
+    /// It would have blocked.
+    Blocked(Stale),
+}
+
 impl Ready {
     pub(super) fn at(tick: u64) -> Self
         ensures { result.tick ≡ tick }
@@ -41,6 +52,21 @@ impl Ready {
         match call() {
             Err(error) if error.kind() == ErrorKind::WouldBlock => Attempt::Blocked(Stale { tick }),
             done => Attempt::Done(done),
+        }
+    }
+
+    /// Reads or writes at most so many bytes. With no lock held.
+    pub fn try_transfer<F: FnOnce() -> io::Result<usize>>(self, most: usize, call: F) -> Transfer
+        requires { F.pre call }
+        ensures { IsTransferOf (F.post call) most self.tick result }
+    {
+        let at = self.tick;
+        match self.try_io(call) {
+            Attempt::Done(Ok(count)) if 0 < count && count < most => {
+                Transfer::Short(count, Stale { tick: at })
+            }
+            Attempt::Done(done) => Transfer::Done(done),
+            Attempt::Blocked(stale) => Transfer::Blocked(stale),
         }
     }
 

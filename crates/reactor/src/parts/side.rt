@@ -1,7 +1,7 @@
 //! One way of a source: whether it is ready, and who waits for it.
 ghost use Rattle.std.specs.Prelude.{◌≡◌, ◌≢◌, ◌+◌, ◌%◌, ◌^◌, None};
 ghost use Rattle.reactor.specs.declared.parts.side.Readiness.TheVariants as way;
-ghost use Rattle.reactor.specs.Sides.{HasChecked, HasLooked, closed, emptied, rung, waker_left};
+ghost use Rattle.reactor.specs.Sides.{HasChecked, HasLooked, closed, emptied, ended, rung, waker_left};
 
 use crate::parts::attempt::{Ready, Stale};
 use async_task::Wake;
@@ -12,6 +12,8 @@ use std::mem;
 pub enum Readiness<K> {
     /// A read or a write is worth a try.
     Ready,
+    /// Each is worth a try from now on: the last event has come.
+    Ended,
     /// The last one would have blocked, and nobody has left a waker.
     Blocked,
     /// The last one would have blocked, and this is to be called at the next event.
@@ -94,7 +96,9 @@ impl<K: Drop> Readiness<K> {
     {
         match self {
             Readiness::Waited(waker) => Owed { waker: Some(waker) },
-            Readiness::Ready | Readiness::Blocked | Readiness::Closed => Owed { waker: None },
+            Readiness::Ready | Readiness::Ended | Readiness::Blocked | Readiness::Closed => {
+                Owed { waker: None }
+            }
         }
     }
 }
@@ -115,7 +119,7 @@ impl<K: Drop> Side<K> {
         ensures { HasChecked self.now result }
     {
         match &self.readiness {
-            Readiness::Ready => Checked::Ready(Ready::at(self.tick)),
+            Readiness::Ready | Readiness::Ended => Checked::Ready(Ready::at(self.tick)),
             Readiness::Closed => Checked::Closed(Over { own: () }),
             Readiness::Blocked | Readiness::Waited(_) => Checked::Blocked,
         }
@@ -128,6 +132,10 @@ impl<K: Drop> Side<K> {
         match mem::replace(&mut self.readiness, Readiness::Closed) {
             Readiness::Ready => {
                 self.readiness = Readiness::Ready;
+                Looked::Ready(Ready::at(self.tick), waker)
+            }
+            Readiness::Ended => {
+                self.readiness = Readiness::Ended;
                 Looked::Ready(Ready::at(self.tick), waker)
             }
             Readiness::Blocked => {
@@ -150,12 +158,26 @@ impl<K: Drop> Side<K> {
         self.tick = self.tick.wrapping_add(1);
         let after = match &self.readiness {
             Readiness::Closed => Readiness::Closed,
+            Readiness::Ended => Readiness::Ended,
             Readiness::Ready | Readiness::Blocked | Readiness::Waited(_) => Readiness::Ready,
         };
         mem::replace(&mut self.readiness, after).into_owed()
     }
 
-    /// A read or a write at this tick would have blocked. So it is ready no more, unless an event came since.
+    /// The last event came: it is ready from now on, unless it is closed, and the tick moves. Answers the call that is owed.
+    pub fn end(&mut self) -> Owed<K>
+        ensures ended { self.new ≡ ended self.old }
+        ensures waker { result.waker ≡ waker_left self.old.readiness }
+    {
+        let owed = self.ring();
+        if matches!(self.readiness, Readiness::Ready) {
+            self.readiness = Readiness::Ended;
+        }
+        owed
+    }
+
+    /// A read or a write at this tick would have blocked, or the next would. So it is ready no more, unless an event came since or
+    /// the last one has come.
     pub fn clear(&mut self, stale: Stale) -> WouldBlock
         ensures same_tick { stale.tick ≡ self.old.tick → self.new ≡ emptied self.old }
         ensures event_came { stale.tick ≢ self.old.tick → self.new ≡ self.old }

@@ -14,7 +14,7 @@ use jobs::{JobPlace, JobRealm, JobSite, Open};
 use joins::join;
 use local_refusals::{try_locals, try_solos};
 use machine_refusals::try_machines;
-use piece_refusals::{try_locks, try_offloads, try_sources};
+use piece_refusals::{try_futures, try_locks, try_offloads, try_sources};
 use program_runs::{SIM, TWO_JOBS, do_case};
 use queue_refusals::{try_queues, try_waiting};
 use refusal_rows::{Call, Drops, Place, Report, bell, own, spare_requests, spend, tell};
@@ -93,6 +93,7 @@ where
         & try_locks(rt, alloc, report)
         & try_offloads(rt, alloc, report)
         & try_timers(rt, alloc, report)
+        & try_futures(rt, alloc, report)
         & try_sources(rt, alloc, report)
         & do_case::<P, R>(rt, alloc, realms.jobs, SIM, report)
         & own::<u64>(alloc, report).is_some()

@@ -112,7 +112,7 @@ run-free s a r e = (
   free-of s a (running_of r) (λ b. names_run r b.call) (letting_of r) (sees-run r) e,
 )
 
-free-run : (s : Machine) → AllHeld s → (r : ℕ) → ¬ IsInMaking r s → ¬ InProgress (λ b. names_run r b.call) s.world.trace →
+pub free-run : (s : Machine) → AllHeld s → (r : ℕ) → ¬ IsInMaking r s → ¬ InProgress (λ b. names_run r b.call) s.world.trace →
     is_unused (running_of r) s.parties ≡ true
 free-run s a r m k = is-zero (weigh_all (running_of r) s.parties) (λ l. ⊎_elim
     (λ (y : InProgress (λ b. names_run r b.call) s.world.trace). k y)

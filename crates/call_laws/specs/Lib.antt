@@ -5,4 +5,12 @@ pub mod Begins
 pub mod LivingWakers
 pub mod DropsEntered
 pub mod DropsTold
+pub mod OutputsEntered
+pub mod OwnDrops
+pub mod DroppedGone
+pub mod LeftAlone
 pub mod Interleaved
+pub mod CallLaws
+pub mod Happens
+pub mod UsedUp
+pub mod Leaked

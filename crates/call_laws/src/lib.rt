@@ -2,7 +2,11 @@
 //! number of parties. There is nothing to call: a law is a function without a body, whose contract is the law.
 #![tactic(auto)]
 
+pub mod all;
 pub mod begins;
 pub mod drops;
+pub mod leaks;
+pub mod polls;
+pub mod shown;
 pub mod steps;
 pub mod wakers;

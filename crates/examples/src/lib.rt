@@ -19,13 +19,19 @@ mod one_thread;
 #[cfg(test)]
 mod own_executor;
 #[cfg(test)]
+mod periodic;
+#[cfg(test)]
 mod pipeline;
 #[cfg(test)]
 mod queue;
 #[cfg(test)]
+mod replies;
+#[cfg(test)]
 mod sleepers;
 #[cfg(test)]
 mod thread_pool;
+#[cfg(test)]
+mod timed;
 #[cfg(test)]
 mod two_kinds;
 #[cfg(test)]

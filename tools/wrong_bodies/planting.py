@@ -43,7 +43,8 @@ NO_STATEMENT = re.compile(r"(let|return|use|ghost|prove!|//|#|\}|const|static)\b
 def plants_of(folder):
     """Returns faults for the functions of a crate's source, in an order drawn from their texts. Tests and `fmt` get none."""
     found = []
-    for at, _, files in os.walk(f"{folder}/src"):
+    for at, folders, files in os.walk(f"{folder}/src"):
+        folders[:] = [it for it in folders if it != "tests"]
         for name in files:
             file = os.path.relpath(f"{at}/{name}", folder)
             text = text_of(f"{folder}/{file}")

@@ -1,5 +1,5 @@
-//! Each call of `async_lock`, `combinators`, `offload` and `reactor` that asks for memory: what a refusal of it answers. The call is made once more
-//! then. Calls that take none stand between them.
+//! Each call of `async_lock`, `combinators`, `offload` and `reactor` that asks for memory: what a refusal of it answers. The call is
+//! made once more then. Calls that take none stand between them.
 #![tactic(auto)]
 
 mod futures;

@@ -4,7 +4,7 @@ use Rattle.std.proofs.lemmas.List.{append-nil, append_assoc, map-append}
 use Rattle.executor_parts.specs.Places.{Entry, Places, turned, unwoken}
 
 module _ {F V : Type 0} where
-  -- so many of the first have none any more, and come last
+  -- this many of the first have none any more, and come last
   pub record Turned (old now : List (Entry F (Option V))) (count : ℕ) : Type 0 where
     pub front : List (Entry F (Option V))
     pub back : List (Entry F (Option V))

@@ -1,4 +1,4 @@
--- How a run's counts go on.
+-- How a run's counts continue.
 use Rattle.std.specs.Prelude.{◌≡◌, ◌≤◌, ◌⊎◌, true, not}
 use Rattle.async_executor.specs.Counted.{Counted}
 use Rattle.async_executor.specs.declared.steps.Answered.{Answered}

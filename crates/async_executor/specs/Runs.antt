@@ -58,7 +58,7 @@ poll_with w = record { run = tt; waker = w }
 abbrev pub steal_with : Waker Identity → Source (Unit {0}) → Then Identity → Steal Identity (Unit {0})
 steal_with w from then = record { poll = poll_with w; from = from; then = then }
 
--- a steal reads how many stand in its source; then, where so many do, how many stand in the own queue; and puts one there
+-- a steal reads how many stand in its source; then, where there are some, how many stand in the own queue; and puts one there
 abbrev pub reads_length : Waker Identity → Source (Unit {0}) → Then Identity → Todo
 reads_length w from then = step.Steal (steal_step.Length (steal_with w from then)) ∷ []
 
@@ -77,7 +77,7 @@ abbrev pub looked_common : Waker Identity → Option FromQueues → Todo
 looked_common w None = step.List (list_step.LockRead (poll_with w)) ∷ []
 looked_common w (Some both) = found_common w both.mark both.runnable.identity
 
--- in a walk: before its first queue, or once it stole from one with so many behind it
+-- in a walk: before its first queue, or once it stole from one with this many behind it
 abbrev pub walks : Waker Identity → Option ℕ → Todo
 walks w None = step.List (list_step.LockRead (poll_with w)) ∷ []
 walks w (Some left) = step.Run (run_step.LookOwn (poll_with w) left) ∷ []
@@ -87,7 +87,7 @@ abbrev pub robbed : Waker Identity → Then Identity → Searcher → Option Ide
 robbed w then at None = stolen_as then at (poll_with w)
 robbed w then at (Some f) = put_refused then at (poll_with w) f
 
--- its own queue had this in a walk, or nothing yet, with so many queues to go to
+-- its own queue had this in a walk, or nothing yet, with this many queues to go to
 abbrev pub looked_walking : Searcher → Waker Identity → ℕ → Option Identity → Todo
 looked_walking at w left None = step.Run (run_step.LookOwn (poll_with w) left) ∷ []
 looked_walking at w left (Some f) = step.List list_step.UnlockRead ∷ found_by_run at (poll_with w) f
@@ -113,7 +113,7 @@ abbrev pub polled_own : {O : Type 0} → Waker Identity → Poll O → Todo
 polled_own w (Ready _) = ends_ready
 polled_own w Pending = step.Tick (tick_step.Search (sleeping (Run tt) w)) ∷ []
 
--- a sleeper is told of what was found, and then that is counted
+-- a sleeper is notified of what was found, and then that is counted
 abbrev pub tells : Searcher → Waker Identity → Identity → Todo
 tells at w f = step.Sleeper sleeper_step.ExchangeFlag ∷ counts at w f
 

@@ -58,7 +58,7 @@ module _ {W : Type 0} where
   SaysFellAsleep new (Already was) = Unit {0}
   SaysFellAsleep new (Nowhere back) = Unit {0}
 
-  -- one that slept is awake, and its number is free; its waker, if it had one, is handed out
+  -- one that slept is awake, and its number is free; its waker, if it had one, comes out
   abbrev pub WakesUp : Ticker → Sleepers (SleeperWaker W) → Sleepers (SleeperWaker W) → Ticker → Option (WokenUp W) → Type 0
   WakesUp (Asleep s w) old new (Awake _) (Some r) =
       (value_of r.waker ≡ waker_of s.number old.wakers) × (new ≡ woken_up s.number old) × (r.notified ≡ flag_of new)
@@ -66,12 +66,12 @@ module _ {W : Type 0} where
   WakesUp Left old new Left None = new ≡ old
   WakesUp _ _ _ _ _ = ⊥
 
-  -- room for one was given back, where anybody doesn't sleep in it
+  -- room for one was given back, where nobody sleeps in it
   abbrev pub GivesBack : Sleepers (SleeperWaker W) → Sleepers (SleeperWaker W) → Type 0
   GivesBack old new = (new ≡ record old { rooms = new.rooms })
       × (old.count < old.rooms → new.rooms + 1 ≡ old.rooms) × (old.rooms ≤ old.count → new.rooms ≡ old.rooms)
 
-  -- one that slept wakes up, and had been told where it has no waker left; the room stays, until it is given back
+  -- one that slept wakes up, and had been notified where it has no waker left; the room stays, until it is given back
   abbrev pub Leaves : ℕ → Sleepers (SleeperWaker W) → Sleepers (SleeperWaker W) → WokenUp W → Type 0
   Leaves number old new r =
       (value_of r.waker ≡ waker_of number old.wakers) × (new ≡ woken_up number old) × (r.notified ≡ flag_of new)

@@ -76,18 +76,18 @@ accepted_as (Ok both) = saw.Entered both.0.stored.identity
 accepted_as (Err (Full future)) = saw.Full
 accepted_as (Err (NoMemory future)) = saw.NoMemory
 
--- what a spawn is answered
+-- what a spawn answers
 abbrev pub spawned : {F H : Type 0} → Result H (SpawnError F) → Reply
 spawned (Ok task) = reply.Made
 spawned (Err (Full future)) = reply.Full
 spawned (Err (NoMemory future)) = reply.NoMemory
 
--- what a question for something new is answered
+-- what a question for something new answers
 abbrev pub made : {A E : Type 0} → Result A E → Reply
 made (Ok new) = reply.Made
 made (Err error) = reply.NoMemory
 
--- what a question is answered
+-- what a question answers
 abbrev pub yes_or_no : Bool → Reply
 yes_or_no true = reply.Yes
 yes_or_no false = reply.No

@@ -1,4 +1,4 @@
-//! What executors of both kinds have, and what `new`, `is_empty`, `spawn` and `try_tick` do.
+//! What executors of both kinds share, and what `new`, `is_empty`, `spawn` and `try_tick` do.
 ghost use Rattle.std.specs.Prelude.{◌≡◌, ◌<◌, [], ◌∷◌, true, Some, IfOk, IfErr};
 ghost use Rattle.std.specs.Arc.{arc_value};
 ghost use Rattle.async_executor.specs.Errors.{refused};
@@ -23,7 +23,7 @@ use std::alloc::Global;
 use std::mem;
 use std::sync::Arc;
 
-/// What an executor has, of either kind. It has no drop: an executor ends by it, or forgets it.
+/// What an executor of either kind has. It has no drop: an executor ends it, or forgets it.
 pub struct Body<F: Drop, T: Output, W: OutsideWaker, R: Runtime> {
     pub(crate) realm: &'static ExRealm<T, W, R>,
     pub(crate) state: Arc<State<W>, Global>,
@@ -37,7 +37,7 @@ pub struct Body<F: Drop, T: Output, W: OutsideWaker, R: Runtime> {
 }
 
 impl<F: Drop, T: Output, W: OutsideWaker, R: Runtime> Body<F, T, W, R> {
-    /// Of this kind, with places for so many futures, whose tasks lie in this realm.
+    /// Makes the parts of an executor of this kind, with places for this many futures, whose tasks lie in this realm.
     pub fn new(
         rt: R,
         alloc: Global,
@@ -57,7 +57,7 @@ impl<F: Drop, T: Output, W: OutsideWaker, R: Runtime> Body<F, T, W, R> {
         }
     }
 
-    /// Of parts that have places for as many futures as one another.
+    /// Makes an executor from parts that have places for equally many futures.
     fn of(
         rt: R,
         alloc: Global,
@@ -87,7 +87,7 @@ impl<F: Drop, T: Output, W: OutsideWaker, R: Runtime> Body<F, T, W, R> {
         }
     }
 
-    /// A static executor goes: what it holds is leaked.
+    /// Forgets a static executor: what it holds is leaked.
     pub fn forget(self) {
         let Body {
             realm: _,
@@ -125,9 +125,9 @@ where
     /// Accepts a future with this mark and queues its task, or refuses it.
     ///
     /// 1. Closes what was let go of tasks in its realm.
-    /// 2. Under the table's lock: accepts the future, or refuses it. `Full` where as many accepted futures as the
-    ///    limit are not dropped yet, and only then want of memory for the task. The future comes back.
-    /// 3. Once the lock is given back: hands the Runnable to the queue of its mark, and tells a sleeper.
+    /// 2. Under the table's lock: accepts the future, or refuses it. Refused, the future comes back: with `Full` where as many
+    ///    accepted futures as the limit are not dropped yet, else for want of memory for the task.
+    /// 3. Once the lock is released: hands the Runnable to the queue of its mark, and notifies a sleeper.
     ///
     /// The call's end is the second answer.
     pub(crate) fn hand_in(
@@ -162,10 +162,10 @@ where
         }
     }
 
-    /// Runs one task, where one is queued, and says whether it did.
+    /// Runs one task, where one is queued, and answers whether it did.
     ///
-    /// 1. Takes a turn, and a Runnable from the queue that this names, or else from the other one. Where there is none: false.
-    /// 2. Tells a sleeper, since there may be more.
+    /// 1. Takes a turn, and a Runnable from the queue that the turn names, or else from the other one. Where there is none: false.
+    /// 2. Notifies a sleeper, since there may be more.
     /// 3. Runs it: true.
     ///
     /// The call's end is the second answer.
@@ -186,7 +186,7 @@ where
         }
     }
 
-    /// Puts the Runnable of a new task into the queue of its mark, and tells a sleeper.
+    /// Puts the Runnable of a new task into the queue of its mark, and notifies a sleeper.
     #[inline(always)]
     fn queue(&self, steps: &mut Steps, runnable: Marked, unlocked: &mut Unlocked)
         requires { top steps.old ≡ Some (step.Queue (queue_step.Append runnable.stored.identity)) }

@@ -1,21 +1,21 @@
-//! What was let go of a realm's tasks, and who owes that it is closed.
+//! What was let go of a realm's tasks, and which call has to close it.
 use crate::entry::Unlocked;
 use crate::names::ExRealm;
 use async_task::{Output, OutsideWaker, Runtime, close_returned};
 
-/// That an executor has to close what was let go of tasks in its realm, at its end too: it has no drop.
+/// The duty of an executor to close what was let go of tasks in its realm, also at its end: it has no drop.
 pub struct ClosesReturned {
     own: (),
 }
 
-/// Says that what was let go was closed by this call. A spawn needs it.
+/// Proof that this call closed what was let go. A spawn needs it.
 #[must_use]
 pub struct HasClosed {
     own: (),
 }
 
 impl ClosesReturned {
-    /// Of an executor that is made.
+    /// Makes the duty of a new executor.
     pub fn new() -> ClosesReturned {
         ClosesReturned { own: () }
     }
@@ -44,14 +44,14 @@ impl ClosesReturned {
         let ClosesReturned { own: () } = self;
     }
 
-    /// Of a static executor, which never ends.
+    /// Forgets the duty of a static executor, which never ends.
     pub fn forget(self) {
         let ClosesReturned { own: () } = self;
     }
 }
 
 impl HasClosed {
-    /// A future is accepted or refused.
+    /// Uses the proof up: a future is accepted or refused.
     pub fn spend(self) {
         let HasClosed { own: () } = self;
     }

@@ -11,14 +11,14 @@ const STEALS_AT: u64 = 64;
 /// After 200 tasks a run lets others go first.
 const PAUSES_AT: u64 = 200;
 
-/// How many tasks a run has counted since it last stole so, and how many it has run since it last let others go first.
+/// How many tasks a run has counted since its last regular steal, and how many it has run since it last let others go first.
 #[derive(Drop)]
 pub struct Counts {
     counted: u64,
     taken: u64,
 }
 
-/// Says that a run owes a look at the executor's queue, before it runs the next task. It has no drop.
+/// Says that a run has to steal from the executor's queue, before it runs the next task. It has no drop.
 #[must_use]
 pub struct OwesSteal {
     own: (),
@@ -49,7 +49,7 @@ impl Model for Counts {
 }
 
 impl Counts {
-    /// Nothing is counted.
+    /// Makes counts at zero.
     pub fn new() -> Counts
         ensures { result ≡ record { counted = 0; taken = 0 } }
     {
@@ -59,7 +59,7 @@ impl Counts {
         }
     }
 
-    /// One more task is counted. At the 64th the count begins anew, and a look at the executor's queue is owed.
+    /// Counts one more task. At the 64th the count begins anew, and the run has to steal from the executor's queue.
     pub fn count(&mut self) -> Option<OwesSteal>
         ensures full { is_some result ≡ (self.old.counted + 1 == 64) }
         ensures counted { self.new ≡ record self.old { counted = cond (is_some result) 0 (self.old.counted + 1) } }
@@ -85,7 +85,7 @@ impl Counts {
         }
     }
 
-    /// One more task is run. At the 200th the count begins anew, and a poll ends behind it.
+    /// Counts one more task as run. At the 200th the count begins anew, and a poll ends after it.
     pub fn take(&mut self) -> Option<GivesWay>
         ensures full { is_some result ≡ (self.old.taken + 1 == 200) }
         ensures taken { self.new ≡ record self.old { taken = cond (is_some result) 0 (self.old.taken + 1) } }
@@ -101,7 +101,7 @@ impl Counts {
 }
 
 impl OwesSteal {
-    /// The run looks at the executor's queue.
+    /// The run steals from the executor's queue.
     pub fn pay(self) {
         let OwesSteal { own: () } = self;
     }

@@ -11,7 +11,7 @@ use std::alloc::Global;
 use std::fmt;
 use std::sync::{Arc, Wait};
 
-/// Stands in a text for what is under a lock that isn't free.
+/// Stands in a text for a value under a lock that isn't free.
 struct Locked;
 
 impl fmt::Debug for Locked {
@@ -28,8 +28,8 @@ pub struct LocalRunners<'a, R> {
 }
 
 impl<R: Wait> LocalRunners<'_, R> {
-    /// The length of the queue at this place of the list, which is read with the lock taken for it alone: whoever writes the
-    /// text may be a user's. Some(None) past the last, None where the lock isn't free.
+    /// The length of the queue at this place of the list. The lock is taken for this read alone, since whoever writes the text may
+    /// be a user's. Some(None) past the last, None where the lock isn't free.
     pub(crate) fn length_in(&self, at: usize, unlocked: &mut Unlocked) -> Option<Option<usize>> {
         match self.queues.try_read(unlocked) {
             Some(reading) => match reading.get().all().get(at) {

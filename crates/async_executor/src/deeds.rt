@@ -1,5 +1,5 @@
-//! What calls do, each deed with its record: a call sees that a thing was done by doing it here, and not else.
-//! The files are by what a deed is done to.
+//! What calls do. Each deed writes its record: a call's record shows that a thing was done only where a deed did it. The files are
+//! by what a deed acts on.
 ghost use Rattle.std.specs.Prelude.{◌≡◌, ◌∷◌, []};
 ghost use Rattle.call_steps.specs.Begins.{begins, part_begins};
 ghost use Rattle.call_steps.specs.Fitting.{Fits};
@@ -24,8 +24,8 @@ mod tasks;
 mod users;
 
 /// A call, or a part of one, that goes as the machine of `call_steps` does. Futures have the names of their tasks. The list of
-/// sleepers knows no names of ticks and runs, so they have none here. A call is begun in `entry`, as the user's call begins. What
-/// it saw is written down by the deeds alone.
+/// sleepers knows no names of ticks and runs, so they have none here. A call is begun in `entry`, as the user's call begins. Only
+/// the deeds write down what it saw.
 #[must_use]
 pub struct Steps {
     call: Call<TaskName, (), Entered>,
@@ -42,7 +42,7 @@ impl Model for Steps {
 }
 
 impl Steps {
-    /// A call that is asked for this.
+    /// Begins a call that is asked for this.
     #[inline(always)]
     pub fn begin(asked: Asked<TaskName, ()>, by: Entered) -> Steps
         ensures { result ≡ begins asked }
@@ -52,7 +52,7 @@ impl Steps {
         }
     }
 
-    /// A part of a call that is to do this.
+    /// Begins a part of a call that has to do this.
     #[inline(always)]
     pub fn part(part: Part<TaskName>) -> Steps
         ensures { result ≡ part_begins part }
@@ -62,7 +62,7 @@ impl Steps {
         }
     }
 
-    /// The call ends with this answer, which is all that is left of it.
+    /// Ends the call with this answer, which is all that is left of it.
     #[inline(always)]
     pub fn end(self, reply: Reply) -> Last
         requires { self ≡ step.End reply ∷ [] }
@@ -72,7 +72,7 @@ impl Steps {
         call.end(reply)
     }
 
-    /// A part of a call ends that answers nothing, with nothing left to do.
+    /// Ends a part of a call that answers nothing, with nothing left to do.
     #[inline(always)]
     pub fn close(self)
         requires { self ≡ [] }
@@ -81,7 +81,7 @@ impl Steps {
         call.close();
     }
 
-    /// What was to be done next is done here, and this was seen.
+    /// What had to be done next is done here, and this was seen.
     #[inline(always)]
     fn follow(&mut self, saw: Saw<TaskName, ()>)
         requires { Fits (top self.old) saw }

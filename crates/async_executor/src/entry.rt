@@ -1,5 +1,5 @@
-//! What a user has and calls. Each call begins with no lock in hand, which it says by an `Unlocked`: none but these can make
-//! one.
+//! The types and calls of the user. Each call begins with no lock in hand, and makes an `Unlocked` to say so. Only these calls can
+//! make one.
 ghost use Rattle.std.specs.Prelude.{◌≡◌, true, false, Some, IfOk, IfErr, length};
 ghost use Rattle.std.specs.Iterator.{IsFinite};
 ghost use Rattle.async_executor.specs.Counting.{GoesOn};
@@ -40,27 +40,27 @@ mod static_executor;
 
 pub use static_executor::StaticExecutor;
 
-/// Says that a party has none of an executor's locks. It has no bytes: whoever takes a lock has it lent for as long as the lock
-/// is taken, and what calls, copies or drops a value of a user's is lent it.
+/// Says that a party has none of an executor's locks. It has no bytes. It is lent to a lock's holder for as long as the lock is
+/// taken, and to whatever calls, copies or drops a value of a user's.
 #[derive(Drop)]
 pub struct Unlocked {
     own: (),
 }
 
 impl Unlocked {
-    /// At the beginning of a call.
+    /// Makes one at the beginning of a call.
     fn at_entry() -> Unlocked {
         Unlocked { own: () }
     }
 }
 
-/// Says that a call of a user's begins. None but those here can make one, so no other function begins a call.
+/// Says that a call of a user's begins. Only the calls here can make one, so no other function begins a call.
 #[derive(Drop)]
 pub struct Entered {
     own: (),
 }
 
-/// The steps of a call of a user's that is asked for this.
+/// Begins the steps of a call of a user's that is asked for this.
 #[inline(always)]
 fn begun(asked: Asked<TaskName, ()>) -> Steps
     ensures { result ≡ begins asked }
@@ -88,7 +88,7 @@ fn begun(asked: Asked<TaskName, ()>) -> Steps
 /// ```
 pub struct Executor<F: Drop, T: Output, W: OutsideWaker, R: Runtime> {
     pub(crate) body: Body<F, T, W, R>,
-    /// Empty: room for the wakers that the executor's drop takes out of the table.
+    /// Empty room for the wakers that the executor's drop takes out of the table.
     pub(crate) leaving: VecDeque<Returning<StoredWaker>>,
 }
 
@@ -104,8 +104,8 @@ where
     }
 
     /// Hands the executor a plain future. Its task is queued, and the handle is answered: a future with the output, whose drop
-    /// cancels the task. `Full` where as many accepted futures as the limit are not dropped yet, and only then want of memory
-    /// for the task. The future comes back.
+    /// cancels the task. Refused, the future comes back: with `Full` where as many accepted futures as the limit are not dropped
+    /// yet, else with `NoMemory` for want of memory for the task.
     pub fn spawn(&self, future: F) -> Result<ExTask<T, W, R>, SpawnError<F>>
         ensures future { IfErr result (λ error. refused error ≡ future) }
         ensures here { IfOk result (λ task. task.identity.realm ≡ self.now.body.realm.now.number) }
@@ -129,9 +129,9 @@ where
         spawned
     }
 
-    /// Hands the executor one plain future after the other, until the iterator ends or one is refused. The handles of those that
-    /// were accepted are answered, in order, and the refused future with the cause; the rest stays in the iterator. The room
-    /// for a handle is asked for before its future is spawned.
+    /// Hands the executor one plain future after the other, until the iterator ends or a future is refused. It answers the handles
+    /// of the accepted futures, in order, and the refused future with the cause; the rest stays in the iterator. The room for a
+    /// handle is taken before its future is spawned.
     pub fn spawn_many<I: Iterator<Item = F>>(
         &self,
         futures: &mut I,
@@ -156,14 +156,14 @@ where
         unreachable!()
     }
 
-    /// Runs one task, where one is queued, and says whether it did. It doesn't wait for one, and takes no memory.
+    /// Runs one task, where one is queued, and answers whether it did. It doesn't wait for one, and takes no memory.
     pub fn try_tick(&self) -> bool {
         let steps = begun(Asked::TryTick);
         let (is_run, _last) = self.body.run_one(steps, &mut Unlocked::at_entry());
         is_run
     }
 
-    /// A future that waits for a future of the executor which is to be polled, and polls it once.
+    /// Makes a future that waits for a future of the executor which has to be polled, and polls it once.
     pub fn tick(&self) -> Result<Tick<'_, F, T, W, R>, NoMemory>
         ensures { IfOk result (λ tick. has_left tick.ticker ≡ false) }
     {
@@ -172,7 +172,7 @@ where
         made
     }
 
-    /// A future that runs the executor's futures until this one is ready, and has its output then. For want of memory the
+    /// Makes a future that runs the executor's futures until this one is ready, and then has its output. For want of memory the
     /// future comes back.
     pub fn run<G>(&self, future: G) -> Result<Run<'_, F, T, W, R, G>, G>
     where
@@ -230,8 +230,8 @@ impl<F: Drop, T: Output, W: OutsideWaker, R: Runtime> Drop for Executor<F, T, W,
     }
 }
 
-/// How many futures have a waker in the table, how many tasks stand in the two global queues, how many in each run's own, and how
-/// many ticks and runs sleep; `<locked>` for what stands under a lock that isn't free.
+/// It shows how many futures have a waker in the table, and how many ticks and runs sleep. It shows how many tasks stand in the
+/// two global queues, and in each run's own. It has `<locked>` for what stands under a lock that isn't free.
 impl<F: Drop, T: Output, W: OutsideWaker, R: Runtime> fmt::Debug for Executor<F, T, W, R> {
     fn fmt<O: fmt::Write>(&self, f: &mut fmt::Formatter<O>) -> fmt::Result {
         self.body.show("Executor", f, &mut Unlocked::at_entry())
@@ -245,15 +245,15 @@ impl<R: Wait> LocalRunners<'_, R> {
     }
 }
 
-/// Waits for a future that is to be polled, and polls it once: a future with output `Ok(())`. After it was ready it serves as
-/// a new one. Its drop passes on to another tick or run what it had been told.
+/// Waits for a future that has to be polled, and polls it once: a future with output `Ok(())`. After it was ready it serves as a
+/// new one. Where it had been notified, its drop notifies another tick or run.
 ///
 /// It is made by `Executor::tick` or `StaticExecutor::tick`.
 #[must_use]
 pub struct Tick<'a, F: Drop, T: Output, W: OutsideWaker, R: Runtime> {
     pub(crate) executor: &'a Body<F, T, W, R>,
     pub(crate) ticker: Ticker,
-    /// What its last poll was answered.
+    /// What its last poll answered.
     pub(crate) answered: Answered,
 }
 
@@ -289,18 +289,18 @@ impl<F: Drop, T: Output, W: OutsideWaker, R: Runtime> Drop for Tick<'_, F, T, W,
     }
 }
 
-/// Runs the executor's futures until a future of its own is ready: a future with that one's output. Its drop gives back to
-/// the executor what it had taken to itself.
+/// Runs the executor's futures until a future of its own is ready: a future with that one's output. Its drop gives the tasks in
+/// its own queue back to the executor.
 ///
 /// It is made by `Executor::run` or `StaticExecutor::run`.
 #[must_use]
 pub struct Run<'a, F: Drop, T: Output, W: OutsideWaker, R: Runtime, G: Drop> {
     pub(crate) executor: &'a Body<F, T, W, R>,
-    /// The future that it runs for, until that is ready.
+    /// The future that it runs for, until that future is ready.
     pub(crate) future: Option<Foreign<G>>,
     pub(crate) runner: Runner,
     pub(crate) ticker: Ticker,
-    /// What its last poll was answered.
+    /// What its last poll answered.
     pub(crate) answered: Answered,
     /// How many tasks it has taken.
     pub(crate) counts: Counts,
@@ -314,8 +314,8 @@ where
 {
     type Output = Result<G::Output, RunError>;
 
-    /// Polls its future, and is ready where that is. Else it runs tasks, until it finds none or ran 200 since it last let
-    /// others go first.
+    /// Polls its future, and is ready where that future is. Else it runs tasks, until it finds none or has run 200 since it last
+    /// let others go first.
     fn poll(&mut self, waker: &ExWaker<T, W, R>) -> Poll<Result<G::Output, RunError>>
         ensures answer { IsRunAnswer self.old.future self.new.future self.old.answered self.new.answered result }
         ensures left { HasLeft self.new.runner.is_drained (has_left self.new.ticker) result }
@@ -349,8 +349,8 @@ impl<F: Drop, T: Output, W: OutsideWaker, R: Runtime, G: Drop> Drop for Run<'_, 
 }
 
 impl<T: Output, W: OutsideWaker, R: Runtime> Schedule<ExScheduled<T, W, R>> for ExQueue<T, W, R> {
-    /// Appends the Runnable to the executor's queue of its mark, and tells a tick or run that sleeps. Once the executor's drop has begun it
-    /// is dropped in its place.
+    /// Appends the Runnable to the executor's queue of its mark, and notifies a tick or run that sleeps. Once the executor's drop
+    /// has begun the Runnable is dropped instead.
     #[inline(always)]
     fn schedule(&self, runnable: ExScheduled<T, W, R>, _info: ScheduleInfo) {
         self.queue(runnable, &mut Unlocked::at_entry());

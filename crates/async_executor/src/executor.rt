@@ -27,8 +27,8 @@ impl<F, T: Output, W: OutsideWaker, R: Runtime> Executor<F, T, W, R>
 where
     F: Future<ExWaker<T, W, R>, Output = T> + Drop,
 {
-    /// An executor with places for so many futures, whose tasks lie in this realm. It keeps the runtime value, the
-    /// allocator and the realm for its calls. All places of its queues and its table are taken here.
+    /// Makes an executor with places for this many futures, whose tasks lie in this realm. It keeps the runtime value, the
+    /// allocator and the realm for its calls. It takes the memory for all places of its queues and its table.
     pub fn new(
         rt: R,
         alloc: Global,
@@ -50,7 +50,7 @@ where
         }
     }
 
-    /// Of parts that have places for as many futures as one another.
+    /// Makes an executor from parts that have places for equally many futures.
     fn of(body: Body<F, T, W, R>, leaving: VecDeque<Returning<StoredWaker>>, limit: usize) -> Self
         requires owned { body.is_static ≡ false }
         requires urgent { (arc_value body.state).queues.urgent.capacity ≡ Some limit }
@@ -63,13 +63,13 @@ where
     }
 }
 
-/// An executor ends.
+/// Ends an executor.
 ///
 /// 1. Takes all futures and wakers out of the table, and drops each future, in the order of acceptance.
 /// 2. Wakes each waker, in that order: each task is queued, or was before.
 /// 3. Closes the urgent queue, and then the plain one.
-/// 4. Takes from the urgent queue until nothing is left, then from the plain one, and drops each Runnable: each task is closed, and
-///    who awaits it is called. A Runnable that a wake in progress still has comes back from the closed queue, and is dropped there.
+/// 4. Takes from the urgent queue until nothing is left, then from the plain one, and drops each Runnable. So each task is closed,
+/// and its awaiter is called. A Runnable that a wake in progress still has comes back from the closed queue, and is dropped there.
 /// 5. Closes what was let go of tasks in its realm.
 pub fn end<F: Drop, T: Output, W: OutsideWaker, R: Runtime>(
     body: Body<F, T, W, R>,
@@ -101,8 +101,8 @@ pub fn end<F: Drop, T: Output, W: OutsideWaker, R: Runtime>(
     steps.end(Reply::Done)
 }
 
-/// An executor is leaked: it becomes a static one, whose table keeps no waker. Each waker of the table is taken out and called,
-/// in the order of acceptance: each task is queued, or was before. It takes no memory.
+/// Leaks an executor: it becomes a static one, whose table keeps no waker. Each waker of the table is taken out and called, in the
+/// order of acceptance. So each task is queued, or was before. It takes no memory.
 pub fn leak<F: Drop, T: Output, W: OutsideWaker, R: Runtime>(
     body: Body<F, T, W, R>,
     steps: Steps,
@@ -157,7 +157,7 @@ fn call_wakers<F: Drop, T: Output, W: OutsideWaker, R: Runtime>(
     }
 }
 
-/// Takes the next waker out, where so many entries are still to come to, and calls it. One without a waker counts as woken.
+/// Takes the next waker out, where this many entries are still to come, and calls it. One without a waker counts as woken.
 fn call_next<F: Drop, T: Output, W: OutsideWaker, R: Runtime>(
     rt: R,
     realm: &'static ExRealm<T, W, R>,
@@ -201,7 +201,7 @@ fn drain<T: Output, W: OutsideWaker, R: Runtime>(
 }
 
 /// Drops each future of a table, in the order of acceptance. Their wakers go into a list that has room for them, in the same
-/// order. One for which it hadn't would be called behind the drop of its future, as a part of its own.
+/// order. A waker that found no room would be called after the drop of its future, as a part of its own.
 fn drop_futures<F: Drop, T: Output, W: OutsideWaker, R: Runtime>(
     rt: R,
     realm: &'static ExRealm<T, W, R>,

@@ -1,4 +1,4 @@
-//! The word that says whether a sleeper is to be told.
+//! The word that says whether a sleeper has to be notified.
 ghost use Rattle.std.specs.Prelude.{◌≡◌};
 ghost use Rattle.executor_parts.specs.Sleepers.{flag_of};
 
@@ -7,14 +7,14 @@ use crossbeam_utils::atomic::AtomicCell;
 use executor_parts::Sleepers;
 use std::marker::Model;
 
-/// Whether a tick or run that sleeps has been told, or none sleeps. Each access is one call here. The word's type takes no
-/// ordering, so none can be named: each step of it is in the one order of all of them. It has its cache lines to itself.
+/// Whether a tick or run that sleeps has been notified, or none sleeps. Each access is one call here. The word's type takes no
+/// ordering, so none can be named: all its steps are in one order. It has its cache lines to itself.
 #[derive(Drop)]
 pub struct Flag {
     word: CachePadded<AtomicCell<bool>>,
 }
 
-/// What the flag becomes, which who has the sleepers' lock has still to store. It has no drop: it is stored.
+/// The flag's next value, which the holder of the sleepers' lock still has to store. It has no drop: it is stored.
 #[must_use]
 pub struct NewFlag {
     notified: bool,
@@ -29,7 +29,7 @@ impl Model for NewFlag {
 }
 
 impl NewFlag {
-    /// It becomes this.
+    /// Makes the next value.
     pub fn of(notified: bool) -> NewFlag
         ensures { result ≡ notified }
     {
@@ -38,15 +38,15 @@ impl NewFlag {
 }
 
 impl Flag {
-    /// Of an executor where nobody sleeps.
+    /// The flag of an executor where nobody sleeps.
     pub fn new() -> Flag {
         Flag {
             word: CachePadded::new(AtomicCell::new(true)),
         }
     }
 
-    /// Exchanges it from false to true, and says whether it was false. It is read first: one that reads true is as an exchange
-    /// that fails, and leaves its cache line to all threads.
+    /// Exchanges the flag from false to true, and answers whether it was false. It reads the flag first. Where it reads true it
+    /// does as a failed exchange does, and leaves the cache line to all threads.
     #[inline(always)]
     pub fn exchange(&self) -> bool {
         !self.word.load() && self.word.compare_exchange(false, true).is_ok()

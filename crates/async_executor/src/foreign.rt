@@ -1,4 +1,4 @@
-//! Values of a user's, which came out from under a lock.
+//! Values of a user's that came out from under a lock.
 ghost use Rattle.std.specs.Prelude.{◌≡◌, Some};
 ghost use Rattle.call_steps.specs.Seeing.{due};
 ghost use Rattle.call_steps.specs.Todo.{below, top};
@@ -17,8 +17,8 @@ use crate::task_name::TaskName;
 use async_task::{Future, Output, OutsideWaker, Poll, Runtime, Wake};
 use call_steps::{TickOrRun, Waker};
 
-/// A value of a user's, whose code runs only while no lock is held. It has no drop: it is let go, or called, by who is lent an
-/// `Unlocked`.
+/// A value of a user's, whose code runs only while no lock is held. It has no drop: a party that is lent an `Unlocked` drops or
+/// calls it.
 #[must_use]
 pub struct Foreign<X> {
     value: X,
@@ -31,7 +31,7 @@ impl<X> Foreign<X> {
         Foreign { value }
     }
 
-    /// The value, which is put under a lock, where none of its code runs.
+    /// Takes the value, to be put under a lock, where none of its code runs.
     pub fn into_stored(self) -> X
         ensures { result ≡ self.value }
     {
@@ -63,7 +63,7 @@ impl<X> Foreign<X> {
     }
 }
 
-/// The value that came out, where one did.
+/// Wraps the value that came out, where one did.
 pub fn came_out<X>(value: Option<X>) -> Option<Foreign<X>>
     ensures { value_of result ≡ value }
 {
@@ -84,7 +84,7 @@ impl<W> Foreign<SleeperWaker<W>> {
 }
 
 impl<W: OutsideWaker> Foreign<SleeperWaker<W>> {
-    /// Calls the waker. Where a task has to be queued then, it is the answer.
+    /// Calls the waker. The answer is a task that has to be queued then, if there is one.
     pub fn wake<T: Output, R: Runtime>(
         self,
         rt: R,
@@ -116,7 +116,7 @@ impl<W: OutsideWaker> Foreign<SleeperWaker<W>> {
         pay_next(rt, handed, steps, unlocked);
     }
 
-    /// It goes, with all that this leads to.
+    /// Drops it, with all that this leads to.
     pub fn let_go_and_pay<T: Output, R: Runtime>(
         self,
         rt: R,

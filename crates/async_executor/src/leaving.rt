@@ -25,7 +25,7 @@ pub struct ToCall {
     waker: Returning<StoredWaker>,
 }
 
-/// A waker that a list had no room for, nor memory for more. It has no drop: it is called at once.
+/// A waker for which a list had no room, nor memory for more. It has no drop: it is called at once.
 #[must_use]
 pub struct NoRoom {
     waker: ToCall,
@@ -46,7 +46,7 @@ impl ToCall {
         ToCall { waker }
     }
 
-    /// What came out of an entry.
+    /// Wraps what came out of an entry.
     pub fn of_entry(waker: TableWaker) -> Option<ToCall>
         ensures { result ≡ waker }
     {
@@ -56,14 +56,14 @@ impl ToCall {
         }
     }
 
-    /// Whose it is.
+    /// Which task it is of.
     pub fn name(&self) -> TaskName
         ensures { result ≡ self.now.identity }
     {
         TaskName::of_waker(&self.waker)
     }
 
-    /// Calls it. Its task is queued then, or was before: where it is to be queued, it is the answer.
+    /// Calls it. Its task is queued then, or was before. The answer is that task, where it has to be queued.
     pub fn call<T: Output, W: OutsideWaker, R: Runtime>(
         self,
         rt: R,
@@ -80,7 +80,7 @@ impl ToCall {
         }
     }
 
-    /// Calls it, with all that this leads to, where so many are left: as a leak does, and an executor's drop.
+    /// Calls it, with all that this leads to, where this many are left, as a leak and an executor's drop do.
     #[tactic(auto, using(crate::proofs::Waking::sees_waking, crate::proofs::Waking::appends_first))]
     pub fn call_and_pay<T: Output, W: OutsideWaker, R: Runtime>(
         self,
@@ -113,13 +113,13 @@ impl NoRoom {
     }
 }
 
-/// Wakers that are to be called in the order in which they came. It has no drop: it ends empty, so that none is forgotten.
+/// Wakers that have to be called in the order in which they came. It has no drop: it ends empty, so that none is forgotten.
 pub struct Leaving {
     wakers: VecDeque<Returning<StoredWaker>>,
 }
 
 impl Leaving {
-    /// What has room for them.
+    /// Makes a list that has room for them.
     pub fn of(wakers: VecDeque<Returning<StoredWaker>>) -> Leaving
         ensures { result.wakers ≡ wakers }
     {
@@ -133,8 +133,8 @@ impl Leaving {
         self.wakers.len()
     }
 
-    /// The waker of an entry comes last, where it has one. It comes back where there is no room, and no memory for more. Whose task
-    /// the entry is of is the first answer, as far as it has a waker.
+    /// Appends the waker of an entry, where it has one. The waker comes back where there is no room, and no memory for more. The
+    /// first answer is the task of the waker, where there is one.
     pub fn keep(&mut self, waker: Option<ToCall>) -> (TaskName, Option<NoRoom>)
         ensures name { IfSome waker (λ kept. result.0 ≡ kept.identity) }
         ensures kept { result.1 ≡ None → self.new.wakers.items ≡ self.old.wakers.items ++ listed waker }
@@ -152,7 +152,7 @@ impl Leaving {
         }
     }
 
-    /// One more, which comes last. It comes back where there is no room, and no memory for more.
+    /// Appends a waker. It comes back where there is no room, and no memory for more.
     fn push(&mut self, waker: ToCall) -> Result<(), NoRoom>
         ensures last { OnOk result (self.new.wakers.items ≡ self.old.wakers.items ++ waker ∷ []) }
         ensures back { IfErr result (λ back. (back.waker ≡ waker) × (self.new.wakers.items ≡ self.old.wakers.items)) }
@@ -201,7 +201,7 @@ impl Leaving {
         unreachable!()
     }
 
-    /// It is empty, and goes.
+    /// Ends it, as it is empty.
     pub fn end(self)
         requires { self.wakers.items ≡ [] }
     {

@@ -1,4 +1,4 @@
-//! An executor: futures that any number of threads run, with the places for as many as its limit says. After the Rust crate
+//! An executor: any number of threads run its futures, and it has places for as many as its limit allows. After the Rust crate
 //! `async-executor` by Stjepan Glavina and others; no text of it is used.
 #![tactic(auto)]
 

@@ -1,15 +1,15 @@
-//! The locks of an executor: who takes one has an `Unlocked` lent for as long.
+//! The locks of an executor. An `Unlocked` is lent to the holder of one for as long as it is taken.
 use crate::entry::Unlocked;
 use crossbeam_utils::CachePadded;
 use std::sync::{Mutex, MutexGuard, RwLock, RwLockReadGuard, RwLockWriteGuard, Wait};
 
-/// What is guarded by a lock that one party has at a time. It has its cache lines to itself.
+/// A value behind a lock that one party has at a time. It has its cache lines to itself.
 #[derive(Drop)]
 pub struct Guarded<T> {
     lock: CachePadded<Mutex<T>>,
 }
 
-/// What a `Guarded` guards, until this is dropped.
+/// The value of a `Guarded`, until this is dropped.
 pub struct Locked<'a, T> {
     guard: MutexGuard<'a, T>,
     unlocked: &'a mut Unlocked,
@@ -22,7 +22,7 @@ impl<T> Guarded<T> {
         }
     }
 
-    /// Takes the lock. It is tried first, where nothing waits.
+    /// Takes the lock. It tries first, which doesn't wait.
     #[inline(always)]
     pub fn lock<'a, R: Wait>(&'a self, rt: &R, unlocked: &'a mut Unlocked) -> Locked<'a, T> {
         let guard = match self.lock.try_lock() {
@@ -40,7 +40,7 @@ impl<T> Guarded<T> {
         }
     }
 
-    /// What it guards, which nobody else has any more.
+    /// The value, which nobody else has any more.
     pub fn into_inner(self) -> T {
         let Guarded { lock } = self;
         lock.into_inner().into_inner()
@@ -48,7 +48,7 @@ impl<T> Guarded<T> {
 }
 
 impl<T> Locked<'_, T> {
-    /// What the lock guards.
+    /// The value that the lock guards.
     #[inline(always)]
     pub fn get(&mut self) -> &mut T {
         &mut *self.guard
@@ -56,7 +56,7 @@ impl<T> Locked<'_, T> {
 }
 
 impl<T> Drop for Locked<'_, T> {
-    /// Gives the lock back.
+    /// Releases the lock.
     #[inline(always)]
     fn drop(self) {
         let Locked { guard, unlocked: _ } = self;
@@ -64,19 +64,19 @@ impl<T> Drop for Locked<'_, T> {
     }
 }
 
-/// What is guarded by a lock that many parties may have to read, or one to write.
+/// A value behind a lock that many parties may have to read, or one to write.
 #[derive(Drop)]
 pub struct ReadWrite<T> {
     lock: RwLock<T>,
 }
 
-/// What a `ReadWrite` guards, to be read, until this is dropped.
+/// The value of a `ReadWrite`, to be read, until this is dropped.
 pub struct Reading<'a, T> {
     guard: RwLockReadGuard<'a, T>,
     unlocked: &'a mut Unlocked,
 }
 
-/// What a `ReadWrite` guards, to be written, until this is dropped.
+/// The value of a `ReadWrite`, to be written, until this is dropped.
 pub struct Writing<'a, T> {
     guard: RwLockWriteGuard<'a, T>,
     unlocked: &'a mut Unlocked,
@@ -115,14 +115,14 @@ impl<T> ReadWrite<T> {
 }
 
 impl<T> Reading<'_, T> {
-    /// What the lock guards.
+    /// The value that the lock guards.
     pub fn get(&self) -> &T {
         &*self.guard
     }
 }
 
 impl<T> Drop for Reading<'_, T> {
-    /// Gives the lock back.
+    /// Releases the lock.
     fn drop(self) {
         let Reading { guard, unlocked: _ } = self;
         drop(guard);
@@ -130,14 +130,14 @@ impl<T> Drop for Reading<'_, T> {
 }
 
 impl<T> Writing<'_, T> {
-    /// What the lock guards.
+    /// The value that the lock guards.
     pub fn get(&mut self) -> &mut T {
         &mut *self.guard
     }
 }
 
 impl<T> Drop for Writing<'_, T> {
-    /// Gives the lock back.
+    /// Releases the lock.
     fn drop(self) {
         let Writing { guard, unlocked: _ } = self;
         drop(guard);

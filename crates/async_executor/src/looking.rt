@@ -18,7 +18,7 @@ use call_steps::{Searcher, Waker};
 use std::sync::Wait;
 
 impl<W: Drop> State<W> {
-    /// Takes a turn, and then the first Runnable of the queue that this names, or else of the other one, as a try does.
+    /// Takes a turn, and then the first Runnable of the queue that the turn names, or else of the other one, as a try does.
     #[inline(always)]
     pub fn take_in_turn<R: Wait>(&self, rt: &R, steps: &mut Steps) -> Option<ExStoredRunnable>
         requires { steps.old ≡ step.Queue queue_step.TakeTurn ∷ [] }
@@ -31,8 +31,8 @@ impl<W: Drop> State<W> {
         steps.take(&At::common(&self.queues, mark.other()), None, rt)
     }
 
-    /// A run's look at the executor's queues, in a poll with a waker of this name: takes a turn, and then the first Runnable of the
-    /// queue that this names, or else of the other one.
+    /// A run's look at the executor's queues, in a poll with a waker of this name. It takes a turn, and then the first Runnable of
+    /// the queue that the turn names, or else of the other one.
     #[inline(always)]
     pub fn look_common<R: Wait>(
         &self,
@@ -53,8 +53,8 @@ impl<W: Drop> State<W> {
         Some(FromQueues { runnable, mark })
     }
 
-    /// A search of a tick that sleeps or not, and was polled with a waker of this name: takes a turn, and then the first Runnable
-    /// of the queue that this names, or else of the other one. It counts nothing.
+    /// A search of a tick that sleeps or not, and was polled with a waker of this name. It takes a turn, and then the first
+    /// Runnable of the queue that the turn names, or else of the other one. It counts nothing.
     #[inline(always)]
     pub fn search_as_tick<R: Wait>(
         &self,

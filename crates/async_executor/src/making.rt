@@ -28,7 +28,7 @@ impl<F, T: Output, W: OutsideWaker, R: Runtime> Body<F, T, W, R>
 where
     F: Future<ExWaker<T, W, R>, Output = T> + Drop,
 {
-    /// A tick, which is awake. The call's end is the second answer.
+    /// Makes a tick, which is awake. The second answer is the call's end.
     pub(crate) fn make_tick(
         &self,
         steps: Steps,
@@ -52,7 +52,7 @@ where
         }
     }
 
-    /// A run, which is awake. For want of memory the future comes back. The call's end is the second answer.
+    /// Makes a run, which is awake. For want of memory the future comes back. The second answer is the call's end.
     pub(crate) fn make_run<G>(
         &self,
         future: G,
@@ -76,7 +76,7 @@ where
         }
     }
 
-    /// A run that has this room to fall asleep in, which goes back where memory is wanted.
+    /// Makes a run that has this room to fall asleep in. The room goes back where memory is lacking.
     fn make_run_in<G>(
         &self,
         room: Room,
@@ -107,7 +107,7 @@ where
         }
     }
 
-    /// A run of these parts, which is awake and was never polled.
+    /// Makes a run of these parts, which is awake and was never polled.
     fn run_of<G>(&self, future: G, runner: Runner, room: Room) -> Run<'_, F, T, W, R, G>
     where
         G: Future<ExWaker<T, W, R>> + Drop,

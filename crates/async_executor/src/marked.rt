@@ -1,4 +1,4 @@
-//! A Runnable that is to be appended, with the mark of its task.
+//! A Runnable that has to be appended, with the mark of its task.
 ghost use Rattle.std.specs.Prelude.{◌≡◌};
 
 use crate::names::{ExScheduled, ExStoredRunnable};
@@ -6,8 +6,8 @@ use crate::task_name::TaskName;
 use async_task::{Output, OutsideWaker, Runtime};
 use executor_parts::Mark;
 
-/// A Runnable as a queue keeps it, and the mark that its task was made with, which says into which queue it comes. It has no
-/// drop: it is appended, or closed.
+/// A Runnable as a queue keeps it, and its task's mark, which says into which queue it goes. It has no drop: it is appended, or
+/// closed.
 #[must_use]
 pub struct Marked {
     pub mark: Mark,
@@ -29,7 +29,7 @@ impl Marked {
         }
     }
 
-    /// Whose it is.
+    /// Which task it is of.
     #[inline(always)]
     pub fn name(&self) -> TaskName
         ensures { result ≡ self.now.stored.identity }

@@ -4,11 +4,11 @@ ghost use Rattle.async_executor.specs.OwnQueues.{listed, without, queue_of, plac
 
 use std::alloc::{AllocError, Global};
 
-/// The own queues of runs, in the order in which the runs were first polled. Each has the number of its run.
+/// The runs' own queues, in the order in which the runs were first polled. Each has the number of its run.
 #[derive(Drop)]
 pub struct OwnQueues<Q> {
     queues: Vec<Numbered<Q>>,
-    // How many runs there are, with those that were never polled.
+    // How many runs there are, including those that were never polled.
     rooms: usize,
     // How many runs there were so far.
     made: u64,
@@ -21,8 +21,8 @@ pub struct Numbered<Q> {
     pub queue: Q,
 }
 
-/// A run's room in the list, with the number that no other run has. It has no drop: it is given back by leaving the list, so
-/// that no queue stays there without a run.
+/// A run's room in the list, with the number that no other run has. It has no drop: leaving the list gives it back, so that no
+/// queue stays there without a run.
 #[must_use]
 pub struct RunRoom {
     number: u64,
@@ -38,7 +38,7 @@ impl RunRoom {
 }
 
 impl<Q> OwnQueues<Q> {
-    /// No queue, which takes no memory.
+    /// Makes an empty list, which takes no memory.
     pub fn new(alloc: Global) -> Self
         ensures queues { result.queues.items ≡ [] }
         ensures rooms { result.rooms ≡ 0 }
@@ -51,8 +51,8 @@ impl<Q> OwnQueues<Q> {
         }
     }
 
-    /// Takes the room for one more run's queue, under the number after that of the run before. Refused, it has changed
-    /// nothing that a walk sees.
+    /// Takes the room for one more run's queue, under the number after that of the run before. A refusal changes nothing that a
+    /// walk sees.
     pub fn take_room(&mut self) -> Result<RunRoom, AllocError>
         ensures queues { self.new.queues.items ≡ self.old.queues.items }
         ensures number { IfOk result (λ room. room.number ≡ self.old.made + 1) }
@@ -70,7 +70,7 @@ impl<Q> OwnQueues<Q> {
         Ok(RunRoom { number })
     }
 
-    /// A run's queue comes last. It needs no memory where its room was taken.
+    /// Appends a run's queue. It needs no memory, as its room was taken before.
     pub fn insert(&mut self, room: &RunRoom, queue: Q) -> Result<(), AllocError>
     where
         Q: Drop,
@@ -86,7 +86,7 @@ impl<Q> OwnQueues<Q> {
         Ok(())
     }
 
-    /// A run leaves the list: its room is given back, and its queue goes, where it stands there. The others keep their order.
+    /// Removes a run: its room is given back, and its queue is removed, where it stands there. The others keep their order.
     pub fn leave(&mut self, room: RunRoom) -> Option<Q>
         ensures queue { result ≡ queue_of room.number self.old.queues.items }
         ensures rest { self.new.queues.items ≡ without room.number self.old.queues.items }

@@ -100,7 +100,7 @@ where
         }
     }
 
-    /// Its own future was ready: that is dropped, and the run leaves the executor.
+    /// Its own future was ready: the run drops it, and leaves the executor.
     fn leave(&mut self, steps: Steps, unlocked: &mut Unlocked)
         requires { steps ≡ ends_ready }
         ensures drained { self.new.runner.is_drained ≡ true }
@@ -259,8 +259,8 @@ where
         )
     }
 
-    /// Wakes up, where it sleeps, tells another sleeper, counts the task that was found, and runs it. At each 64th it steals from
-    /// the executor's queues before; after the 200th it lets others go first, as the answer says.
+    /// Wakes up, where it sleeps, notifies another sleeper, counts the task that was found, and runs it. At each 64th it first
+    /// steals from the executor's queues. After the 200th it lets others go first, and the answer says so.
     fn run_task(
         &mut self,
         runnable: ExStoredRunnable,
@@ -349,7 +349,7 @@ where
         }
     }
 
-    /// Runs the task that was counted. After the 200th it lets others go first, as the answer says.
+    /// Runs the task that was counted. After the 200th it lets others go first, and the answer says so.
     #[tactic(auto, using(crate::proofs::Taking::takes_up))]
     #[inline(always)]
     fn run_counted(
@@ -374,7 +374,7 @@ where
     }
 }
 
-/// A run that has taken 200 tasks calls the waker of this name that it was polled with, and lets others go first.
+/// A run that has taken 200 tasks calls the waker of this name, with which it was polled, and lets others go first.
 #[tactic(auto, using(crate::proofs::Calling::own_is_kept, crate::proofs::Calling::own_was_called))]
 fn give_way<T: Output, W: OutsideWaker, R: Runtime>(
     waker: &ExWaker<T, W, R>,
@@ -391,7 +391,7 @@ fn give_way<T: Output, W: OutsideWaker, R: Runtime>(
     steps.end(Reply::Pending)
 }
 
-/// A run ends.
+/// Ends a run.
 ///
 /// 1. Drops its future.
 /// 2. Takes its own queue out of the executor's list, gives its room there back, and schedules each Runnable that is left in the

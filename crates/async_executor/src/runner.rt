@@ -41,26 +41,26 @@ use std::sync::{Arc, Wait};
 mod ending;
 mod walking;
 
-/// What a search of a run is, as contracts see it: the name of the waker that the run was polled with, and how far it had counted
-/// as it began to search.
+/// The parameters of a run's search, as contracts see them: the name of the waker that the run was polled with, and how far it had
+/// counted as it began to search.
 #[derive(Drop)]
 pub struct Search<'a> {
     pub name: &'a Waker<TaskName>,
     pub at: Searcher,
 }
 
-/// What a search came to.
+/// The outcome of a search.
 pub enum Searched {
     Found(ExStoredRunnable),
     Nothing,
-    /// The own queue was full and gave this back, which ended the walk.
+    /// The own queue was full and gave this Runnable back, which ended the walk.
     Refused(ExStoredRunnable),
 }
 
-/// What a run has of its own among the queues.
+/// A run's own part among the queues.
 pub struct Runner {
     own: Arc<Queue, Global>,
-    // Its room in the executor's list, until it has left that.
+    // Its room in the executor's list, until it has left the list.
     room: Option<RunRoom>,
     // The number under which the own queue stands there.
     number: u64,
@@ -73,7 +73,7 @@ pub struct Runner {
 }
 
 impl Runner {
-    /// An own queue, whose places are taken here, and where walks start.
+    /// Makes an own queue, whose places are taken here, and sets where walks start.
     pub fn new<W, R: Wait>(
         rt: &R,
         alloc: Global,
@@ -105,7 +105,7 @@ impl Runner {
         }
     }
 
-    /// The own queue goes, which is empty and in no list.
+    /// Ends the own queue, which is empty and in no list.
     pub fn finish(self)
         requires drained { self.is_drained ≡ true }
         requires left { self.room ≡ None }
@@ -125,7 +125,7 @@ impl Runner {
         }
     }
 
-    /// Puts the own queue into the executor's list, where it isn't there yet. Whether memory for it was there is the answer.
+    /// Puts the own queue into the executor's list, where it isn't there yet. Answers whether there was memory for it.
     pub fn begin<W: Drop, R: Wait + Copy + Drop>(
         &mut self,
         rt: R,
@@ -150,7 +150,7 @@ impl Runner {
         false
     }
 
-    /// The own queue comes into the list, or is refused there.
+    /// Puts the own queue into the list, which may refuse it.
     pub fn list<W: Drop, R: Wait + Copy + Drop>(
         &self,
         rt: R,
@@ -167,8 +167,8 @@ impl Runner {
         }
     }
 
-    /// The look at the executor's queues that is due at each 64th task: it steals from the urgent one, and then from the plain one,
-    /// before this task is run, which it has counted.
+    /// The steal at each 64th task, before this task, which it has counted, is run. It steals from the executor's urgent queue,
+    /// and then from the plain one.
     pub fn pay<T: Output, W: OutsideWaker, R: Runtime>(
         &mut self,
         rt: R,
@@ -217,8 +217,8 @@ impl Runner {
         drop_refused(rt, realm, refused, &theft, steps, unlocked);
     }
 
-    /// The next Runnable of the run, or None where none was found. What its own queue gave back in a walk is closed, and it
-    /// searches anew.
+    /// The next Runnable of the run, or None where none was found. A Runnable that its own queue gave back in a walk is closed,
+    /// and it searches anew.
     pub fn search<T: Output, W: OutsideWaker, R: Runtime>(
         &mut self,
         rt: R,
@@ -246,7 +246,8 @@ impl Runner {
     /// Searches once.
     ///
     /// 1. The first of its own queue.
-    /// 2. The first of the global queue that its turn names, or else of the other one; then it steals from where that stood.
+    /// 2. The first of the global queue that its turn names, or else of the other one. Then it steals from the queue where that
+    /// stood.
     /// 3. Under the read lock of the list, round the other runs' queues from the starting place: it steals from each, and
     ///    takes the first of its own queue.
     fn search_once<T: Output, W: OutsideWaker, R: Runtime>(
@@ -273,8 +274,8 @@ impl Runner {
     }
 }
 
-/// The section of the list's lock in which a run's own queue comes into it. Whether memory for it was there is the answer. Refused,
-/// the list is as it was.
+/// The section of the list's lock in which a run's own queue comes into it. Answers whether there was memory for it. A refusal
+/// leaves the list as it was.
 fn list_in<Q: Drop>(queues: &mut OwnQueues<Q>, room: &RunRoom, queue: Q) -> bool
     ensures listed { result ≡ true → queues.new.queues.items ≡ listed room.now.number queue queues.old.queues.items }
     ensures refused { result ≡ false → queues.new.queues.items ≡ queues.old.queues.items }

@@ -32,7 +32,7 @@ impl<W> SleeperWaker<W> {
         }
     }
 
-    /// Who sleeps with the waker.
+    /// Which party sleeps with the waker.
     #[inline(always)]
     pub fn sleeper(&self) -> Sleeping<TaskName, ()>
         ensures { result ≡ sleeper self.now }
@@ -45,7 +45,7 @@ impl<W> SleeperWaker<W> {
 }
 
 impl<W: OutsideWaker> SleeperWaker<W> {
-    /// A copy of a waker for the list of sleepers, or None where none can be had: then memory was wanted.
+    /// A copy of a waker for the list of sleepers, or None where none can be had, as memory was lacking.
     pub fn of<T: Output, R: Runtime>(
         waker: &ExWaker<T, W, R>,
         unlocked: &Unlocked,

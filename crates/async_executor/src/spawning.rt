@@ -79,8 +79,8 @@ fn enter<F: Drop, T: Output, W: OutsideWaker, R: Runtime>(
     }
 }
 
-/// A task of this mark whose future is at this place, with its handle and what the table keeps beside the future: a waker, and none where
-/// the executor is static.
+/// Makes a task of this mark whose future is at this place. Answers it with its handle and what the table keeps beside the future:
+/// a waker, or none where the executor is static.
 #[inline(always)]
 fn made<T: Output, W: OutsideWaker, R: Runtime>(
     rt: R,

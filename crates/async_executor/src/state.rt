@@ -1,5 +1,5 @@
-//! What the threads of an executor share, but for its futures: the two queues, the flag and the
-//! sleepers. And how a sleeper is notified.
+//! The state that the threads of an executor share, except its futures: the two queues, the flag and the sleepers. And how a
+//! sleeper is notified.
 ghost use Rattle.std.specs.Prelude.{◌≡◌, ◌<◌, ◌∷◌, [], Some, None, IfOk, IfSome};
 ghost use Rattle.call_steps.specs.Seeing.{due};
 ghost use Rattle.call_steps.specs.Todo.{below, top};
@@ -44,7 +44,7 @@ pub struct State<W> {
     pub turns: Turns,
     /// The own queues of runs, from a run's first poll to its end.
     pub own_queues: ReadWrite<OwnQueues<Arc<Queue, Global>>>,
-    /// Whether a tick or run that sleeps has been told, or none sleeps.
+    /// Whether a tick or run that sleeps has been notified, or none sleeps.
     pub notified: Flag,
     /// The ticks and runs that sleep.
     pub sleepers: Guarded<Sleepers<SleeperWaker<W>>>,
@@ -64,7 +64,7 @@ impl<W: Drop> Drop for State<W> {
 }
 
 impl<W: Drop> State<W> {
-    /// An executor's queues with so many places each, where nobody sleeps.
+    /// Makes queues with this many places each, where nobody sleeps.
     pub fn new(alloc: Global, limit: usize) -> Result<State<W>, NoMemory>
         requires { 0 < limit }
         ensures urgent { IfOk result (λ state. state.queues.urgent.capacity ≡ Some limit) }
@@ -144,8 +144,8 @@ pub fn redeem<T: Output, W: OutsideWaker, R: Runtime>(
 }
 
 impl<W: OutsideWaker> State<W> {
-    /// Puts a Runnable into the executor's queue of its mark, and tells a sleeper. Where that leads to a task that has to be
-    /// queued, it is the answer. From a queue that is closed the Runnable comes back, and is dropped.
+    /// Puts a Runnable into the executor's queue of its mark, and notifies a sleeper. The answer is a task that has to be queued
+    /// then, if there is one. A Runnable that comes back from a closed queue is dropped.
     pub fn push<T: Output, R: Runtime>(
         &self,
         rt: R,
@@ -163,8 +163,8 @@ impl<W: OutsideWaker> State<W> {
         }
     }
 
-    /// Puts a Runnable that rested in a run's own queue into the executor's queue, and tells a sleeper, with all that this leads
-    /// to. One of another realm goes back there.
+    /// Puts a Runnable that rested in a run's own queue into the executor's queue, and notifies a sleeper, with all that this
+    /// leads to. A Runnable of another realm goes back there.
     pub fn push_stored<T: Output, R: Runtime>(
         &self,
         rt: R,
@@ -186,8 +186,8 @@ impl<W: OutsideWaker> State<W> {
         }
     }
 
-    /// Tells a sleeper that there is something to do, unless one has been told already, and calls its waker once the lock is
-    /// given back. Where that leads to a task that has to be queued, it is the answer.
+    /// Notifies a sleeper that there is something to do, unless one has been notified already, and calls its waker once the lock
+    /// is released. The answer is a task that has to be queued then, if there is one.
     ///
     /// 1. Exchanges the flag from false to true. Where it was true, that is all.
     /// 2. Takes, under the sleepers' lock, the waker added last, if there are as many wakers as sleepers.

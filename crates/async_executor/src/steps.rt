@@ -1,18 +1,18 @@
-//! What the polls of ticks and runs were answered.
+//! What the polls of ticks and runs answered.
 ghost use Rattle.std.specs.Prelude.{◌≡◌, not, true, None, Some};
 ghost use Rattle.call_steps.specs.declared.reply.Reply.TheVariants as reply;
 
 use crate::counts::GivesWay;
 use call_steps::{Last, Reply};
 
-/// What the last poll of a tick or run was answered. Only contracts read it, and it is written by the end of that poll's call alone.
+/// What the last poll of a tick or run answered. Only contracts read it, and only the end of that poll's call writes it.
 #[derive(Drop)]
 pub struct Answered {
     // None before the first poll.
     reply: Option<Reply>,
     // Whether it ended by letting others go first.
     gave_way: bool,
-    // It turns with each poll, so that no poll can answer by what an earlier one left.
+    // It changes with each poll, so that no poll can answer with what an earlier one left.
     turned: bool,
 }
 

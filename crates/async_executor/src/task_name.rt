@@ -32,7 +32,7 @@ impl Model for TaskName {
 }
 
 impl TaskName {
-    /// Whose Runnable it is.
+    /// Which task the Runnable is of.
     #[inline(always)]
     pub fn of_runnable(runnable: &ExStoredRunnable) -> TaskName
         ensures { result ≡ runnable.now.identity }
@@ -42,7 +42,7 @@ impl TaskName {
         }
     }
 
-    /// What stands for no task: an entry without a waker, which an owned executor hasn't.
+    /// The name for no task: that of an entry without a waker, which an owned executor doesn't have.
     pub fn of_none() -> TaskName {
         let identity = Identity { realm: 0, place: 0 };
         TaskName {
@@ -50,7 +50,7 @@ impl TaskName {
         }
     }
 
-    /// Whose waker it is.
+    /// Which task the waker is of.
     #[inline(always)]
     pub fn of_waker(waker: &Returning<StoredWaker>) -> TaskName
         ensures { result ≡ waker.now.identity }

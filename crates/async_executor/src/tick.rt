@@ -22,12 +22,12 @@ impl<F, T: Output, W: OutsideWaker, R: Runtime> Tick<'_, F, T, W, R>
 where
     F: Future<ExWaker<T, W, R>, Output = T> + Drop,
 {
-    /// Looks for a future that is to be polled.
+    /// Looks for a future that has to be polled.
     ///
-    /// 1. Takes a Runnable from the executor's queues, where one stands there: wakes up, tells another sleeper that there may be
-    ///    more, runs it, and is ready.
-    /// 2. Else copies the waker, and falls asleep with the copy. Where it fell asleep anew, or had been told meanwhile, it searches
-    ///    again, since what was queued before may have told nobody. Where it slept there already, it is pending.
+    /// 1. Takes a Runnable from the executor's queues, where one stands there: wakes up, notifies another sleeper that there may
+    /// be more, runs it, and is ready.
+    /// 2. Else copies the waker, and falls asleep with the copy. Where it fell asleep anew, or had been notified meanwhile, it
+    /// searches again, since what was queued before may have notified nobody. Where it slept there already, it is pending.
     pub(crate) fn look(
         &mut self,
         waker: &ExWaker<T, W, R>,
@@ -95,7 +95,7 @@ where
         )
     }
 
-    /// Wakes up, where it sleeps, tells another sleeper, and runs the task that was found.
+    /// Wakes up, where it sleeps, notifies another sleeper, and runs the task that was found.
     fn run_found(&mut self, stored: ExStoredRunnable, steps: Steps, unlocked: &mut Unlocked) -> Last
         requires { steps ≡ found_asleep (is_asleep self.old.ticker) stored.identity }
         ensures last { result ≡ reply.Ready }
@@ -135,7 +135,7 @@ where
     }
 }
 
-/// A tick ends: it leaves the sleepers, and gives its room there back.
+/// Ends a tick: it leaves the sleepers, and gives its room there back.
 pub fn end<F: Drop, T: Output, W: OutsideWaker, R: Runtime>(
     executor: &Body<F, T, W, R>,
     ticker: Ticker,

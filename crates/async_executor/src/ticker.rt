@@ -34,7 +34,7 @@ pub mod leave;
 pub enum Ticker {
     /// It is awake, and has the room in which it can fall asleep.
     Awake(Room),
-    /// It sleeps, with a waker of this name. It has been told once that is missing from the list.
+    /// It sleeps, with a waker of this name. It has been notified once that is missing from the list.
     Asleep(Sleeper, WakerName),
     /// It left the sleepers, and gave its room back.
     Left,
@@ -42,11 +42,11 @@ pub enum Ticker {
 
 /// How one fell asleep.
 pub enum FellAsleep<W> {
-    /// Anew, or it had been told meanwhile: what the flag becomes.
+    /// Anew, or it had been notified meanwhile: the flag's next value.
     Anew(NewFlag),
-    /// It slept there already. This waker is dropped, once the lock is given back.
+    /// It slept there already. This waker is dropped, once the lock is released.
     Already(Foreign<SleeperWaker<W>>),
-    /// It can't sleep there. This waker is called, once the lock is given back, so that it looks again.
+    /// It can't sleep there. This waker is called, once the lock is released, so that it looks again.
     Nowhere(Foreign<SleeperWaker<W>>),
 }
 
@@ -57,13 +57,13 @@ pub enum Laid<W> {
     Nowhere(Foreign<SleeperWaker<W>>),
 }
 
-/// What comes of it that a tick or run found nothing.
+/// What follows where a tick or run found nothing.
 pub enum Slept {
     /// It fell asleep, and has to search once more.
     Anew,
     /// It sleeps, and its waker will be called.
     Still,
-    /// That can't be kept: it was called at once.
+    /// Its waker can't be kept: it was called at once.
     Called,
     /// No copy of the waker could be had.
     NoMemory,
@@ -71,9 +71,9 @@ pub enum Slept {
 
 /// How one woke up or left.
 pub struct WokenUp<W> {
-    /// What the flag becomes.
+    /// The flag's next value.
     pub notified: NewFlag,
-    /// Its waker, which is dropped once the lock is given back; none where it had been told.
+    /// Its waker, which is dropped once the lock is released; none where it had been notified.
     pub waker: Option<Foreign<SleeperWaker<W>>>,
 }
 
@@ -101,7 +101,7 @@ impl Ticker {
         state.store_fell_asleep(sleepers, fell_asleep)
     }
 
-    /// Wakes up, where it sleeps, in one section of the sleepers' lock. The waker that it had there is the answer.
+    /// Wakes up, where it sleeps, in one section of the sleepers' lock. Answers the waker that it had there.
     pub fn stand_up<W: Drop, R: Wait>(
         &mut self,
         rt: &R,

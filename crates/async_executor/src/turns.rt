@@ -6,7 +6,7 @@ use crossbeam_utils::CachePadded;
 use crossbeam_utils::atomic::AtomicCell;
 use executor_parts::Mark;
 
-/// Of so many turns the last looks at the plain queue first.
+/// Of this many turns the last looks at the plain queue first.
 const TURNS: u64 = 8;
 
 /// How many searches have come to the executor's queues. The word wraps, as 2^64 is a multiple of 8. It has its cache lines to
@@ -17,7 +17,7 @@ pub struct Turns {
 }
 
 impl Turns {
-    /// Of an executor where nobody has searched.
+    /// Makes the turns of an executor where nobody has searched.
     pub fn new() -> Turns {
         Turns {
             word: CachePadded::new(AtomicCell::new(0)),
@@ -31,7 +31,7 @@ impl Turns {
     }
 }
 
-/// At which queue the turn of this number looks first.
+/// The queue at which the turn of this number looks first.
 #[inline(always)]
 fn mark_of_turn(turn: u64) -> Mark
     ensures { result ≡ turns.mark_of_turn turn }

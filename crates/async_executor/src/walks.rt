@@ -15,7 +15,7 @@ pub struct Walk {
 }
 
 impl Walk {
-    /// Round so many places, from the one that the generator's next word names, counted round.
+    /// A walk round this many places, from the one that the generator's next word names, counted round.
     pub fn begin(words: &mut Xoshiro256PlusPlus, places: usize) -> Walk
         requires { 0 < places }
         ensures start { result.start ≡ (plus_plus words.old).0 % places }
@@ -29,7 +29,7 @@ impl Walk {
         }
     }
 
-    /// The place to which it comes after so many steps.
+    /// The place to which it comes after this many steps.
     pub fn place(&self, step: usize) -> usize
         requires start { self.now.start < self.now.places }
         requires step { step < self.now.places }

@@ -1,4 +1,4 @@
--- What one finds who comes to a barrier.
+-- What a party finds that comes to a barrier.
 use Rattle.std.specs.Prelude.{◌≡◌, ℕ, ◌+◌, ◌%◌, ◌^◌, ◌≤◌, ◌<◌, [], length, Option, Ok, Err}
 use Rattle.async_lock.specs.Rounds.{HasSat}
 use Rattle.async_lock.specs.declared.round.Round.{Round}

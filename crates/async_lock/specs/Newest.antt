@@ -1,4 +1,4 @@
--- What one finds who follows the newest of values.
+-- What a follower of the newest of values finds.
 use Rattle.std.specs.Prelude.{◌≡◌, ◌⊎◌, ℕ, ◌<◌, ◌≤◌, Bool, true, false, Option, Some, None, Ok}
 use Rattle.waiting.specs.Waiters.{Waiters}
 use Rattle.async_lock.specs.Rounds.{HasLeft, HasLooked, HasSat, IsAt}
@@ -31,7 +31,7 @@ module _ {K : Type 0} where
   WaitsBy (Some seat) waker number old new again before = HasLooked seat number waker old new (seen.Waits again before)
       ⊎ (((at : ℕ) → ¬ IsAt seat number old at) × HasSat waker number old new (Ok again) × (before ≡ None))
 
-  -- what it does with those who wait: who has an answer waits no more
+  -- what it does with the waiters: one that has an answer waits no more
   abbrev pub HasMoved : Option Seat → Option K → ℕ → Waiters K → Waiters K → Noticed K → Type 0
   HasMoved seat waker number old new (Changed _ before back) = HasLeftIf seat number old new before × (back ≡ waker)
   HasMoved seat waker number old new (Closed before back) = HasLeftIf seat number old new before × (back ≡ waker)

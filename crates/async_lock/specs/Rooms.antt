@@ -1,4 +1,4 @@
--- What each section does with a value that one has at a time, and with those who wait for it.
+-- What each section does with a value that one party has at a time, and with its waiters.
 use Rattle.std.specs.Prelude.{◌≡◌, ℕ, ◌+◌, Bool, true, false, List, [], ◌∷◌, ◌++◌, remove, slice_get, slice_set, Option, Some, None, Result, Ok, Err}
 use Rattle.waiting.specs.Waiters.{Waiters, position_of, waker_in, told}
 use Rattle.async_lock.specs.declared.room.Place.{Place}
@@ -32,14 +32,14 @@ module _ {K : Type 0} where
   joined waker w = record { next = w.next + 1; waiting = w.waiting ++ (w.next, waker) ∷ [] }
 
 module _ {T : Type 0} {K : Type 0} where
-  -- what one who comes finds: the value, where it was free; else it waits, or there is no memory for that
+  -- what a new caller finds: the value, where it was free; else it waits, or there is no memory for that
   abbrev pub HasCome : Option K → Place T → Waiters K → Place T → Waiters K → Found T K → Type 0
   HasCome waker old waiters new left (found.Taken held back) = (old ≡ Free held.value) × (new ≡ Out) × (left ≡ waiters) × (back ≡ waker)
   HasCome waker old waiters new left (found.Waits listening before) = (is_free old ≡ false) × (new ≡ old) × (left ≡ joined waker waiters)
       × (listening.number ≡ waiters.next) × (before ≡ None)
   HasCome waker old waiters new left (found.NoMemory back) = (is_free old ≡ false) × (new ≡ old) × (left ≡ waiters) × (back ≡ waker)
 
-  -- the value that was promised is taken; where none was, it is as who comes
+  -- the value that was promised is taken; where none was, it does as a new caller does
   abbrev pub HasRedeemed : Option K → Place T → Waiters K → Place T → Waiters K → Found T K → Type 0
   HasRedeemed waker (Promised value) waiters new left (found.Taken held back) =
       (held.value ≡ value) × (new ≡ Out) × (left ≡ waiters) × (back ≡ waker)
@@ -56,7 +56,7 @@ module _ {T : Type 0} {K : Type 0} where
   HasFoundAt (Some at) number waker old waiters new left result = (new ≡ old) × WaitsOn number waker at waiters left result
   HasFoundAt None number waker old waiters new left result = HasRedeemed waker old waiters new left result
 
-  -- what one who waits finds: where it is in the list it waits on; else it was called, and takes what was promised
+  -- what a waiter finds: where it is in the list it waits on; else it was woken, and takes what was promised
   abbrev pub HasFound : ℕ → Option K → Place T → Waiters K → Place T → Waiters K → Found T K → Type 0
   HasFound number waker old waiters new left result =
       HasFoundAt (position_of number waiters.waiting) number waker old waiters new left result
@@ -65,7 +65,7 @@ module _ {T : Type 0} {K : Type 0} where
   HasGivenTo value [] new waker = (new ≡ Free value) × (waker ≡ None)
   HasGivenTo value (first ∷ _) new waker = (new ≡ Promised value) × (waker ≡ first.1)
 
-  -- the value is promised to who came first, who waits no more; or free where nobody waits
+  -- the value is promised to the first waiter, who waits no more; or free where nobody waits
   abbrev pub HasGiven : T → Waiters K → Place T → Waiters K → Option K → Type 0
   HasGiven value waiters new left waker = HasGivenTo value waiters.waiting new waker × (left ≡ told waiters)
 
@@ -74,7 +74,7 @@ module _ {T : Type 0} {K : Type 0} where
   HasPassedOn (Promised value) waiters new left waker = HasGiven value waiters new left waker
   HasPassedOn old waiters new left waker = (new ≡ old) × (left ≡ waiters) × (waker ≡ None)
 
-  -- how one gave up: its entry went; or it has none, and the value that was promised to it went on
+  -- how a waiter gave up: its entry went; or it has none, and the value that was promised to it went on
   abbrev pub HasGivenUp : ℕ → Place T → Waiters K → Place T → Waiters K → GaveUp K → Type 0
   HasGivenUp number old waiters new left (gave.Left waker) = (at : ℕ) × (position_of number waiters.waiting ≡ Some at)
       × (waker_in (slice_get waiters.waiting at) ≡ waker) × (new ≡ old)
@@ -82,7 +82,7 @@ module _ {T : Type 0} {K : Type 0} where
   HasGivenUp number old waiters new left (gave.PassedOn promise) =
       (position_of number waiters.waiting ≡ None) × HasPassedOn old waiters new left promise.waker
 
-  -- a value was put in where none was there; else it is handed out, and nothing changes
+  -- a value was put in where none was there; else it comes back, and nothing changes
   abbrev pub HasPut : T → Place T → Waiters K → Place T → Waiters K → Result (Promise K) T → Type 0
   HasPut value Out waiters new left (Ok promise) = HasGiven value waiters new left promise.waker
   HasPut value Out waiters new left (Err _) = ⊥

@@ -16,7 +16,7 @@ module _ {K : Type 0} where
   abbrev pub IsAt : Seat → ℕ → Waiters K → ℕ → Type 0
   IsAt seat number w at = (seat.round ≡ number) × (position_of seat.listening.number w.waiting ≡ Some at)
 
-  -- what one who waits found: its place, where the new waker stands for the old one; or the round is over
+  -- what a waiter found: its place, where the new waker stands for the old one; or the round is over
   abbrev pub HasLooked : Seat → ℕ → Option K → Waiters K → Waiters K → Seen K → Type 0
   HasLooked seat number waker old new (Waits again before) = (at : ℕ) × IsAt seat number old at
       × (waker_in (slice_get old.waiting at) ≡ before) × (again.round ≡ number) × (again.listening.number ≡ seat.listening.number)
@@ -27,7 +27,7 @@ module _ {K : Type 0} where
   HasLeftAt (Some at) old new waker = (new ≡ record old { waiting = remove old.waiting at }) × (waker ≡ waker_in (slice_get old.waiting at))
   HasLeftAt None old new waker = (new ≡ old) × (waker ≡ None)
 
-  -- how one left: its entry went, as if it had never come; or the round was over
+  -- how a waiter left: its entry went, as if it had never come; or the round was over
   abbrev pub HasLeft : Seat → ℕ → Waiters K → Waiters K → Option K → Type 0
   HasLeft seat number old new waker = (seat.round ≡ number → HasLeftAt (position_of seat.listening.number old.waiting) old new waker)
       × (¬ (seat.round ≡ number) → (new ≡ old) × (waker ≡ None))

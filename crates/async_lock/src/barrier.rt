@@ -12,11 +12,12 @@ use std::alloc::Global;
 use std::mem;
 use std::sync::{Arc, Wait};
 
-/// A place where so many parties wait for one another: the last that comes wakes all others, and from then on it can be used again.
-/// This is a handle of one place; `clone` makes others. Wakers are of the type `K`. After `Barrier` of `async-lock` and `tokio`.
+/// A barrier at which this many parties wait for one another: the last that comes wakes all others, and from then on it can be
+/// used again. It is one handle of the barrier; `clone` makes others. Wakers are of the type `K`. After `Barrier` of `async-lock`
+/// and `tokio`.
 ///
-/// Wakers are called and dropped with no lock held. To wait takes memory for a place among those who wait, where others wait already; who
-/// comes last takes none.
+/// Wakers are called and dropped with no lock held. To wait takes memory for a place among the waiters, where others wait already;
+/// the party that comes last takes none.
 ///
 /// ```
 /// let Ok(wait) = self.barrier.wait() else {
@@ -32,11 +33,11 @@ use std::sync::{Arc, Wait};
 pub struct Barrier<K: Wake + Drop, R: Wait + Copy + Drop> {
     gathering: Arc<Guarded<Gathering<K>>>,
     rt: R,
-    // From a `poll_wait` that was pending until one that isn't.
+    // Set from a `poll_wait` that was pending until one that isn't.
     seat: Option<Seat>,
 }
 
-/// How one passed a barrier.
+/// How a party passed a barrier.
 #[derive(Drop)]
 pub enum BarrierWaitResult {
     /// It came last, and woke all others.
@@ -46,7 +47,7 @@ pub enum BarrierWaitResult {
 }
 
 impl BarrierWaitResult {
-    /// Whether it came last: of those who passed at a time one did. Takes no memory.
+    /// Whether it came last. Of the parties that pass together exactly one did. Takes no memory.
     pub fn is_leader(&self) -> bool
         ensures { IsTrue result ↔ IsLeader self.now }
     {
@@ -55,7 +56,7 @@ impl BarrierWaitResult {
 }
 
 impl<K: Wake + Drop, R: Wait + Copy + Drop> Barrier<K, R> {
-    /// A barrier for so many parties; of none it is as of one, which never waits. It takes memory.
+    /// Makes a barrier for this many parties; one for no party is as one for one, which never waits. It takes memory.
     pub fn new(rt: R, alloc: Global, parties: u64) -> Result<Self, NoMemory>
         ensures { IfOk result (λ barrier. barrier.seat ≡ None) }
     {
@@ -76,7 +77,7 @@ impl<K: Wake + Drop, R: Wait + Copy + Drop> Barrier<K, R> {
         }
     }
 
-    /// The same barrier, for another party; refused where it has 2^63 handles. It takes no memory.
+    /// Makes another handle of the same barrier, for another party; refused where it has 2^63 handles. It takes no memory.
     pub fn clone(&self) -> Result<Self, NoMemory>
         ensures same { IfOk result (λ barrier. arc_value barrier.gathering ≡ arc_value self.now.gathering) }
         ensures waits_not { IfOk result (λ barrier. barrier.seat ≡ None) }
@@ -87,8 +88,8 @@ impl<K: Wake + Drop, R: Wait + Copy + Drop> Barrier<K, R> {
         }
     }
 
-    /// A future that comes to the barrier at its first poll, and is ready once all have. Refused where the barrier has 2^63 handles; it
-    /// takes no memory.
+    /// Makes a future that comes to the barrier at its first poll, and is ready once all have come. Refused where the barrier has
+    /// 2^63 handles; it takes no memory.
     pub fn wait(&self) -> Result<BarrierWait<K, R>, NoMemory>
         ensures same { IfOk result (λ wait. arc_value wait.barrier.gathering ≡ arc_value self.now.gathering) }
     {
@@ -98,9 +99,10 @@ impl<K: Wake + Drop, R: Wait + Copy + Drop> Barrier<K, R> {
         }
     }
 
-    /// As the poll of `wait`, for a future that has the barrier in a field: comes, and waits until all have; polled after that it comes
-    /// again. It takes memory for a place among those who wait, where others wait already; `NoMemory` says that it has not come. Who got
-    /// `Pending` and won't poll again calls `give_up`, or drops this handle: until then it counts as one that came.
+    /// Polls as the future of `wait` does, for a future that has the barrier in a field. It comes, and waits until all have come;
+    /// polled after that it comes again. It takes memory for a place among the waiters, where others wait already; `NoMemory` says
+    /// that it has not come. After a pending poll, a caller that won't poll again calls `give_up`, or drops this handle. Until
+    /// then it counts as one that came.
     pub fn poll_wait(&mut self, waker: &K) -> Poll<Result<BarrierWaitResult, NoMemory>>
         ensures waits { result ≡ poll.Pending → IsSome self.new.seat }
         ensures ended { (answer : _) → result ≡ poll.Ready answer → self.new.seat ≡ None }
@@ -153,8 +155,8 @@ impl<K: Wake + Drop, R: Wait + Copy + Drop> Barrier<K, R> {
         }
     }
 
-    /// Goes, after a `poll_wait` that was pending, as if it had never come; where all have come since, they passed. It may be polled
-    /// again. It takes no memory.
+    /// Leaves, after a `poll_wait` that was pending, as if it had never come; where all have come since, they passed. It may be
+    /// polled again. It takes no memory.
     pub fn give_up(&mut self)
         ensures waits_not { self.new.seat ≡ None }
         ensures same { self.new.gathering ≡ self.old.gathering }
@@ -162,7 +164,7 @@ impl<K: Wake + Drop, R: Wait + Copy + Drop> Barrier<K, R> {
         self.sits(None);
     }
 
-    /// From now on it waits so, and as it did before no more.
+    /// Sets how it waits, and ends the wait before.
     fn sits(&mut self, seat: Option<Seat>)
         ensures { self.new ≡ record self.old { seat = seat } }
     {
@@ -171,7 +173,7 @@ impl<K: Wake + Drop, R: Wait + Copy + Drop> Barrier<K, R> {
     }
 }
 
-/// Goes as if it had never come, if it waited.
+/// Leaves as if it had never come, if it waited.
 fn leave<K: Wake + Drop, R: Wait>(rt: &R, gathering: &Guarded<Gathering<K>>, seat: Option<Seat>) {
     if let Some(seat) = seat {
         let waker = gathering.lock(rt).leave(seat);

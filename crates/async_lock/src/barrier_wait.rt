@@ -6,11 +6,11 @@ use crate::barrier::{Barrier, BarrierWaitResult};
 use async_task::{Future, NoMemory, Poll, Wake};
 use std::sync::Wait;
 
-/// Waits at a barrier: a future that is ready once all parties have come. Each poll leaves its waker in the place of the one before;
-/// where no copy of the waker can be had it calls the waker, so that it is polled again. Once it has passed it is pending, and calls
-/// nobody.
+/// Waits at a barrier: a future that is ready once all parties have come. Each poll leaves its waker in the place of the one
+/// before. Where no copy of the waker can be had it calls the waker, so that it is polled again. Once it has passed it is pending,
+/// and calls no waker.
 ///
-/// Dropped while it waits, it goes as if it had never come.
+/// Dropped while it waits, it leaves as if it had never come.
 #[derive(Drop)]
 pub struct BarrierWait<K: Wake + Drop, R: Wait + Copy + Drop> {
     barrier: Barrier<K, R>,

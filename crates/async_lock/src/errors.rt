@@ -12,13 +12,13 @@ pub struct NoMemoryFor<T>(pub T);
 /// Why a value can't be had at once.
 #[derive(Clone, Copy, Debug, PartialEq, Eq, Drop)]
 pub enum TryLockError {
-    /// Another has it, or it is promised to one who waits.
+    /// Another has it, or it is promised to a waiter.
     Locked,
     /// The mutex has 2^63 handles.
     NoMemory,
 }
 
-/// So that `?` takes it to an `io::Result`. The value is dropped.
+/// Lets `?` convert it to an `io::Error`. The value is dropped.
 impl<T: Drop> From<NoMemoryFor<T>> for io::Error {
     ghost from_gives = { λ _ error. error_kind error ≡ OutOfMemory };
 
@@ -27,7 +27,7 @@ impl<T: Drop> From<NoMemoryFor<T>> for io::Error {
     }
 }
 
-/// So that `?` takes it to an `io::Result`. A value that another has is `WouldBlock`.
+/// Lets `?` convert it to an `io::Error`. A value that another has is `WouldBlock`.
 impl From<TryLockError> for io::Error {
     ghost from_gives = { λ why error. error_kind error ≡ kind_of_try_lock why };
 

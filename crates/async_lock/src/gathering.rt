@@ -1,4 +1,4 @@
-//! Those who have come to a barrier.
+//! The parties that have come to a barrier.
 ghost use Rattle.async_lock.specs.Gatherings.{HasCome};
 ghost use Rattle.async_lock.specs.Rounds.{HasLeft, HasLooked};
 ghost use Rattle.std.specs.Prelude.{◌≡◌, ◌-◌, ◌≤◌, length, []};
@@ -6,28 +6,28 @@ ghost use Rattle.std.specs.Prelude.{◌≡◌, ◌-◌, ◌≤◌, length, []};
 use crate::round::{Ended, Round, Seat, Seen};
 use std::alloc::Global;
 
-/// Those who have come to a barrier of so many parties and wait for the others: never as many as there are parties. Each call is one
-/// section of whoever locks it; `come` alone takes memory.
+/// The parties that have come to a barrier for this many, and wait for the others: never as many as there are parties. Each call
+/// is one section of whoever locks it; only `come` takes memory.
 #[derive(Drop)]
 pub struct Gathering<K> {
-    // How many have to wait before one opens it.
+    // How many have to wait before another party opens it.
     others: u64,
     round: Round<K>,
 }
 
-/// What one who comes finds.
+/// What a party finds that comes.
 #[must_use]
 pub enum Came<K> {
-    /// It is the last: it opens the barrier, and all others are to be woken. The waker that it wanted to leave comes back.
+    /// It is the last: it opens the barrier, and all others have to be woken. The waker that it wanted to leave comes back.
     Opens(Ended<K>, Option<K>),
     /// It waits for the others.
     Waits(Seat),
-    /// There is no memory for a place among those who wait. The waker that it wanted to leave comes back.
+    /// There is no memory for a place among the waiters. The waker that it wanted to leave comes back.
     NoMemory(Option<K>),
 }
 
 impl<K: Drop> Gathering<K> {
-    /// Nobody has come yet of so many. Takes no memory.
+    /// Nobody has come yet of this many. Takes no memory.
     pub fn new(alloc: Global, parties: u64) -> Self
         ensures others { result.others ≡ parties - 1 }
         ensures nobody { result.round.waiters.waiting ≡ [] }
@@ -38,7 +38,7 @@ impl<K: Drop> Gathering<K> {
         }
     }
 
-    /// One comes: the last of all opens the barrier, and any other waits and leaves this waker.
+    /// Takes one party: the last of all opens the barrier, and any other waits and leaves this waker.
     pub fn come(&mut self, waker: Option<K>) -> Came<K>
         ensures came { HasCome waker self.old.others self.old.round self.new.round result }
         ensures others { self.new.others ≡ self.old.others }
@@ -60,7 +60,8 @@ impl<K: Drop> Gathering<K> {
         self.round.look(seat, waker)
     }
 
-    /// Goes as if it had never come, where the barrier wasn't opened since. Its waker, to be dropped once the lock is given back.
+    /// Leaves as if it had never come, where the barrier wasn't opened since. Answers its waker, to be dropped once the lock is
+    /// released.
     pub fn leave(&mut self, seat: Seat) -> Option<K>
         ensures left { HasLeft seat self.old.round.number self.old.round.waiters self.new.round.waiters result }
         ensures stays { (self.new.others ≡ self.old.others) × (self.new.round.number ≡ self.old.round.number) }

@@ -8,11 +8,11 @@ use crate::mutex_guard::MutexGuard;
 use async_task::{Future, NoMemory, Poll, Wake};
 use std::sync::Wait;
 
-/// Takes the value of a mutex: a future that is ready once it has it. Each poll leaves its waker in the place of the one before; where
-/// no copy of the waker can be had it calls the waker, so that it is polled again. Once it gave the value it is pending, and calls
-/// nobody.
+/// Takes the value of a mutex: a future that is ready once it has the value. Each poll leaves its waker in the place of the one
+/// before. Where no copy of the waker can be had it calls the waker, so that it is polled again. Once it gave the value it is
+/// pending, and calls no waker.
 ///
-/// Dropped before, it takes no value, and waits no more: one that it was promised goes to the next who waits.
+/// Dropped before, it takes no value, and waits no more: a value that was promised to it goes to the next waiter.
 #[derive(Drop)]
 pub struct Lock<T: Drop, K: Wake + Drop, R: Wait + Copy + Drop> {
     mutex: Mutex<T, K, R>,

@@ -13,12 +13,13 @@ use std::mem;
 use std::sync::{Arc, Wait};
 use waiting::parts::Listening;
 
-/// A value that one has at a time, also while it waits for something else: who has it has a `MutexGuard`, which may lie in a field of a
-/// future. They get it in the order in which they came. This is a handle of one value; `clone` makes others. Wakers are of the type `K`.
-/// After `Mutex` of `async-lock` and `tokio`.
+/// A value that one party has at a time, also while that party waits for something else. It has a `MutexGuard`, which may lie in a
+/// field of a future. Parties get the value in the order in which they came. This is one handle of the value; `clone` makes
+/// others. Wakers are of the type `K`. After `Mutex` of `async-lock` and `tokio`.
 ///
-/// Wakers are called and dropped, and values dropped, while the mutex's own lock isn't held. To take and to give back takes no memory; to
-/// wait takes some for a place among those who wait, where others wait already. Here `given` polls, and gives the value back:
+/// Wakers are called and dropped, and values dropped, while the mutex's own lock isn't held. To take the value and to give it back
+/// takes no memory. To wait takes memory for a place among the waiters, where others wait already. Here `given` polls, and gives
+/// the value back:
 ///
 /// ```
 /// let mutex = Mutex::<u64, Nobody, R>::new(rt, alloc, 1)?;
@@ -34,12 +35,12 @@ use waiting::parts::Listening;
 pub struct Mutex<T: Drop, K: Wake + Drop, R: Wait + Copy + Drop> {
     room: Arc<Guarded<Room<T, K>>>,
     rt: R,
-    // From a `poll_lock` that was pending until one that isn't.
+    // Set from a `poll_lock` that was pending until one that isn't.
     listening: Option<Listening>,
 }
 
 impl<T: Drop, K: Wake + Drop, R: Wait + Copy + Drop> Mutex<T, K, R> {
-    /// A mutex with this value, which is free. It takes memory; where there is none the value comes back.
+    /// Makes a mutex with this value, which is free. It takes memory; where there is none the value comes back.
     pub fn new(rt: R, alloc: Global, value: T) -> Result<Self, NoMemoryFor<T>>
         ensures refused { IfErr result (λ error. error.0 ≡ value) }
         ensures waits_not { IfOk result (λ mutex. mutex.listening ≡ None) }
@@ -63,7 +64,7 @@ impl<T: Drop, K: Wake + Drop, R: Wait + Copy + Drop> Mutex<T, K, R> {
         }
     }
 
-    /// The same mutex, for another; refused where it has 2^63 handles. It takes no memory.
+    /// Makes another handle of the same mutex; refused where it has 2^63 handles. It takes no memory.
     pub fn clone(&self) -> Result<Self, NoMemory>
         ensures same { IfOk result (λ mutex. arc_value mutex.room ≡ arc_value self.now.room) }
         ensures waits_not { IfOk result (λ mutex. mutex.listening ≡ None) }
@@ -74,7 +75,7 @@ impl<T: Drop, K: Wake + Drop, R: Wait + Copy + Drop> Mutex<T, K, R> {
         }
     }
 
-    /// Takes the value where it is free, and so nobody waits. It takes no memory: `NoMemory` is answered where the mutex has 2^63
+    /// Takes the value where it is free, and so nobody waits. It takes no memory. It answers `NoMemory` where the mutex has 2^63
     /// handles, of which a guard is one.
     pub fn try_lock(&self) -> Result<MutexGuard<T, K, R>, TryLockError>
         ensures same { IfOk result (λ guard. arc_value guard.room ≡ arc_value self.now.room) }
@@ -89,8 +90,8 @@ impl<T: Drop, K: Wake + Drop, R: Wait + Copy + Drop> Mutex<T, K, R> {
         }
     }
 
-    /// A future that takes the value, and waits for it. It comes to those who wait at its first poll that doesn't find it free. Refused
-    /// where the mutex has 2^63 handles; it takes no memory.
+    /// Makes a future that takes the value, and waits for it. It joins the waiters at its first poll that doesn't find the value
+    /// free. Refused where the mutex has 2^63 handles; it takes no memory.
     pub fn lock(&self) -> Result<Lock<T, K, R>, NoMemory>
         ensures same { IfOk result (λ lock. arc_value lock.mutex.room ≡ arc_value self.now.room) }
     {
@@ -100,9 +101,10 @@ impl<T: Drop, K: Wake + Drop, R: Wait + Copy + Drop> Mutex<T, K, R> {
         }
     }
 
-    /// As the poll of `lock`, for a future that has the mutex in a field. It takes memory for a place among those who wait, where others
-    /// wait already. `NoMemory` says that it waits no more, and leaves others as if it had never come. Who got `Pending` and won't poll
-    /// again calls `give_up`, or drops this handle: until then the value may be promised to it.
+    /// Polls as the future of `lock` does, for a future that has the mutex in a field. It takes memory for a place among the
+    /// waiters, where others wait already. `NoMemory` says that it waits no more, and leaves others as if it had never come. After
+    /// a pending poll, a caller that won't poll again calls `give_up`, or drops this handle. Until then the value may be promised
+    /// to it.
     pub fn poll_lock(&mut self, waker: &K) -> Poll<Result<MutexGuard<T, K, R>, NoMemory>>
         ensures waits { result ≡ poll.Pending → IsSome self.new.listening }
         ensures ended { (answer : _) → result ≡ poll.Ready answer → self.new.listening ≡ None }
@@ -128,8 +130,8 @@ impl<T: Drop, K: Wake + Drop, R: Wait + Copy + Drop> Mutex<T, K, R> {
         }
     }
 
-    /// Waits no more, after a `poll_lock` that was pending: a value that it was promised goes to the next who waits. It may be polled
-    /// again. It takes no memory.
+    /// Waits no more, after a `poll_lock` that was pending: a value that was promised to it goes to the next waiter. It may be
+    /// polled again. It takes no memory.
     pub fn give_up(&mut self)
         ensures waits_not { self.new.listening ≡ None }
         ensures room { self.new.room ≡ self.old.room }
@@ -137,8 +139,8 @@ impl<T: Drop, K: Wake + Drop, R: Wait + Copy + Drop> Mutex<T, K, R> {
         self.waits(None);
     }
 
-    /// The value, where this is the last handle: so no guard is there, and nobody waits. Else none, and this handle is dropped. It takes
-    /// no memory.
+    /// Takes the value, where this is the last handle: so no guard is there, and nobody waits. Else there is none, and this handle
+    /// is dropped. It takes no memory.
     pub fn into_inner(self) -> Option<T> {
         let Mutex {
             room,
@@ -152,7 +154,7 @@ impl<T: Drop, K: Wake + Drop, R: Wait + Copy + Drop> Mutex<T, K, R> {
         }
     }
 
-    /// What one finds who comes, or waited already. From now on it doesn't wait.
+    /// What one finds who comes now, or waited already. From now on it doesn't wait.
     fn find(&mut self, waker: Option<K>) -> Found<T, K>
         ensures waits_not { self.new.listening ≡ None }
         ensures room { self.new.room ≡ self.old.room }
@@ -163,7 +165,7 @@ impl<T: Drop, K: Wake + Drop, R: Wait + Copy + Drop> Mutex<T, K, R> {
         }
     }
 
-    /// From now on it waits so, and as it did before no more.
+    /// Sets how it waits, and ends the wait before.
     fn waits(&mut self, listening: Option<Listening>)
         ensures { self.new ≡ record self.old { listening = listening } }
     {

@@ -5,7 +5,7 @@ use crate::room::{Held, Promise, Room};
 use async_task::Wake;
 use std::sync::{Arc, Wait};
 
-/// Has the value of a mutex. Its drop gives the value back: it is promised to who has waited longest, or free.
+/// Has the value of a mutex. Its drop gives the value back: it is promised to the waiter that has waited longest, or free.
 pub struct MutexGuard<T: Drop, K: Wake + Drop, R: Wait + Copy + Drop> {
     held: Held<T>,
     room: Arc<Guarded<Room<T, K>>>,
@@ -43,7 +43,7 @@ impl<T: Drop, K: Wake + Drop, R: Wait + Copy + Drop> Drop for MutexGuard<T, K, R
     }
 }
 
-/// Wakes the one to whom a value was promised that came back.
+/// Wakes the waiter to whom a value was promised that came back.
 pub fn wake_next<T: Drop, K: Wake>(given: Result<Promise<K>, T>) {
     match given {
         Ok(promise) => promise.wake(),

@@ -1,4 +1,4 @@
-//! A value that one has at a time, and those who wait for it.
+//! A value that one party has at a time, and its waiters.
 ghost use Rattle.async_lock.specs.Rooms.{HasCome, HasFound, HasGiven, HasGivenUp, HasPassedOn, HasPut, HasRedeemed, HasTaken};
 ghost use Rattle.async_lock.specs.Rooms.{is_free, value_in};
 ghost use Rattle.async_lock.specs.declared.room.Place.TheVariants as place;
@@ -9,9 +9,10 @@ use std::alloc::Global;
 use std::mem;
 use waiting::parts::{Left, Listening, Looked, Waiters};
 
-/// A value that one has at a time, and those who wait for it, in the order in which they came. Nobody waits while it is free: once it
-/// comes back it is promised to who came first. Each call is one section of whoever locks it; `come` and `look` alone take memory.
-/// None calls or drops a waker, nor drops a value: what comes out is to be called or dropped once the lock is given back.
+/// A value that one party has at a time, and its waiters, in the order in which they came. Nobody waits while it is free: once it
+/// comes back it is promised to the first waiter. Each call is one section of whoever locks it; only `come` and `look` take
+/// memory. No call calls or drops a waker, or drops a value: the caller calls or drops what comes out, once it has released the
+/// lock.
 #[derive(Drop)]
 pub struct Room<T, K> {
     place: Place<T>,
@@ -24,40 +25,40 @@ pub struct Room<T, K> {
 pub enum Place<T> {
     /// It is there, for anyone.
     Free(T),
-    /// It is there, for one who was woken for it and hasn't looked since.
+    /// It is there, for a waiter that was woken for it and hasn't looked since.
     Promised(T),
-    /// One has it.
+    /// A party has it.
     Out,
 }
 
 /// The value, which was taken out. It has no drop: it is given back.
 #[must_use]
 pub struct Held<T> {
-    // None is made elsewhere.
+    // Only this module makes one.
     value: T,
 }
 
-/// What one who wants the value found.
+/// What a caller that wants the value found.
 #[must_use]
 pub enum Found<T, K> {
     /// The value. The waker that it wanted to leave comes back.
     Taken(Held<T>, Option<K>),
-    /// It waits. The waker that it had left before, to be dropped once the lock is given back.
+    /// It waits. The waker that it had left before, to be dropped once the lock is released.
     Waits(Listening, Option<K>),
-    /// There is no memory for a place among those who wait. The waker that it wanted to leave comes back.
+    /// There is no memory for a place among the waiters. The waker that it wanted to leave comes back.
     NoMemory(Option<K>),
 }
 
-/// How one gave up.
+/// How a waiter gave up.
 #[must_use]
 pub enum GaveUp<K> {
-    /// The value wasn't promised to it. Its waker, to be dropped once the lock is given back.
+    /// The value wasn't promised to it. Its waker, to be dropped once the lock is released.
     Left(Option<K>),
     /// The value was promised to it, and went on to the next.
     PassedOn(Promise<K>),
 }
 
-/// To whom the value was promised, if to anyone. It has no drop: that one is woken.
+/// To whom the value was promised, if to anyone. It has no drop: that waiter has to be woken.
 #[must_use]
 pub struct Promise<K> {
     waker: Option<K>,
@@ -80,7 +81,7 @@ impl<T> Held<T> {
 }
 
 impl<T: Drop, K: Drop> Room<T, K> {
-    /// One that has no value yet, and nobody waits. Takes no memory.
+    /// Makes a place that has no value yet, for which nobody waits. Takes no memory.
     pub fn new(alloc: Global) -> Self
         ensures out { result.place ≡ place.Out }
         ensures nobody { result.waiters ≡ record { next = 0; waiting = [] } }
@@ -105,7 +106,7 @@ impl<T: Drop, K: Drop> Room<T, K> {
         }
     }
 
-    /// Takes the value where it is free; else waits, the last of all, and leaves this waker.
+    /// Takes the value where it is free. Else it waits, the last of all, and leaves this waker.
     pub fn come(&mut self, waker: Option<K>) -> Found<T, K>
         ensures { HasCome waker self.old.place self.old.waiters self.new.place self.new.waiters result }
     {
@@ -121,7 +122,7 @@ impl<T: Drop, K: Drop> Room<T, K> {
         }
     }
 
-    /// Takes the value where it was promised to it; else waits on, with this waker in the place of the one before.
+    /// Takes the value where it was promised to it. Else it waits on, with this waker in the place of the one before.
     pub fn look(&mut self, listening: Listening, waker: Option<K>) -> Found<T, K>
         ensures { HasFound listening.number waker self.old.place self.old.waiters self.new.place self.new.waiters result }
     {
@@ -134,7 +135,7 @@ impl<T: Drop, K: Drop> Room<T, K> {
         }
     }
 
-    /// Takes the value that was promised. Where none was, it is as who comes.
+    /// Takes the value that was promised. Where none was, it does as a new caller does.
     fn redeem(&mut self, waker: Option<K>) -> Found<T, K>
         ensures { HasRedeemed waker self.old.place self.old.waiters self.new.place self.new.waiters result }
     {
@@ -160,7 +161,7 @@ impl<T: Drop, K: Drop> Room<T, K> {
         }
     }
 
-    /// The value that was promised goes to who came first, if it was.
+    /// Passes a promised value on to the waiter that came first, if it was promised.
     fn pass_on(&mut self) -> Promise<K>
         ensures { HasPassedOn self.old.place self.old.waiters self.new.place self.new.waiters result.waker }
     {
@@ -173,7 +174,7 @@ impl<T: Drop, K: Drop> Room<T, K> {
         }
     }
 
-    /// The value comes back. Where one is there already it is handed out: never where this one was taken out of here.
+    /// Gives the value back. Where one is there already it comes out, which never happens to a value that was taken out of here.
     pub fn give_back(&mut self, held: Held<T>) -> Result<Promise<K>, T>
         ensures { HasPut held.value self.old.place self.old.waiters self.new.place self.new.waiters result }
     {
@@ -181,7 +182,7 @@ impl<T: Drop, K: Drop> Room<T, K> {
         self.put(value)
     }
 
-    /// Puts a value in where none is there. Else it is handed out.
+    /// Puts a value in where none is there. Else it comes back.
     pub fn put(&mut self, value: T) -> Result<Promise<K>, T>
         ensures { HasPut value self.old.place self.old.waiters self.new.place self.new.waiters result }
     {
@@ -191,7 +192,7 @@ impl<T: Drop, K: Drop> Room<T, K> {
         }
     }
 
-    /// The value is there: it is promised to who came first, or free.
+    /// The value is there: it is promised to the waiter that came first, or free.
     fn give(&mut self, value: T) -> Promise<K>
         requires { self.old.place ≡ place.Out }
         ensures { HasGiven value self.old.waiters self.new.place self.new.waiters result.waker }

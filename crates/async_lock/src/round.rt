@@ -1,4 +1,4 @@
-//! Those who wait for one thing that comes to all at once, round after round.
+//! The waiters for one event that comes to all at once, round after round.
 ghost use Rattle.async_lock.specs.Rounds.{HasLeft, HasLooked, HasSat};
 ghost use Rattle.std.specs.Prelude.{◌≡◌, ◌+◌, ◌%◌, ◌^◌, [], length};
 
@@ -7,9 +7,9 @@ use std::alloc::Global;
 use std::mem;
 use waiting::parts::{Left, Listening, Looked, Waiters};
 
-/// Those who wait for the end of a round, with the wakers that they left last. It ends for all of them at once. Each call is one
-/// section of whoever locks it; `sit` alone takes memory. None calls or drops a waker: what comes out is to be called or dropped once
-/// the lock is given back.
+/// The waiters for the end of a round, with the wakers that they left last. It ends for all of them at once. Each call is one
+/// section of whoever locks it; only `sit` takes memory. No call calls or drops a waker: the caller calls or drops each waker that
+/// comes out, once it has released the lock.
 #[derive(Drop)]
 pub struct Round<K> {
     // Which round it is, wrapping.
@@ -18,43 +18,43 @@ pub struct Round<K> {
     alloc: Global,
 }
 
-/// The seat of one who waits for the end of a round. It has no drop: who has it looks or leaves.
+/// The seat of a waiter for the end of a round. It has no drop: its owner looks or leaves.
 #[must_use]
 pub struct Seat {
     round: u64,
     listening: Listening,
 }
 
-/// What one who waits found.
+/// What a waiter found.
 #[must_use]
 pub enum Seen<K> {
-    /// The round isn't over. The waker that it had left before, to be dropped once the lock is given back.
+    /// The round isn't over. The waker that it had left before, to be dropped once the lock is released.
     Waits(Seat, Option<K>),
     /// The round is over, and it waits no more. The waker that it wanted to leave comes back.
     Over(Passed, Option<K>),
 }
 
-/// That a round is over which one waited for.
+/// Proof that a round is over for which a waiter waited.
 #[derive(Drop)]
 pub struct Passed {
-    // None is made elsewhere.
+    // Only this module makes one.
     own: (),
 }
 
-/// Those who waited for a round that is over. It has no drop: all are woken.
+/// The waiters for a round that is over. It has no drop: all of them have to be woken.
 #[must_use]
 pub struct Ended<K> {
     waiters: Waiters<K>,
 }
 
-/// That a round was ended, and all who waited for it were woken.
+/// Proof that a round was ended, and all its waiters were woken.
 #[derive(Drop)]
 pub struct WokeAll {
     own: (),
 }
 
 impl<K: Drop> Round<K> {
-    /// The first round, for whose end nobody waits. Takes no memory.
+    /// Makes the first round, for whose end nobody waits. Takes no memory.
     pub fn new(alloc: Global) -> Self
         ensures number { result.number ≡ 0 }
         ensures nobody { result.waiters ≡ record { next = 0; waiting = [] } }
@@ -73,7 +73,7 @@ impl<K: Drop> Round<K> {
         self.waiters.len()
     }
 
-    /// One more waits for its end, and leaves this waker. For want of memory that comes back.
+    /// Adds a waiter for its end, which leaves this waker. For want of memory the waker comes back.
     pub fn sit(&mut self, waker: Option<K>) -> Result<Seat, Option<K>>
         ensures sat { HasSat waker self.old.number self.old.waiters self.new.waiters result }
         ensures number { self.new.number ≡ self.old.number }
@@ -90,7 +90,7 @@ impl<K: Drop> Round<K> {
         }
     }
 
-    /// Whether the round is over that it waits for. Where it isn't it leaves this waker in the place of the one before.
+    /// Whether the round is over for which it waits. Where it isn't, it leaves this waker in the place of the one before.
     pub fn look(&mut self, seat: Seat, waker: Option<K>) -> Seen<K>
         ensures seen { HasLooked seat self.old.number waker self.old.waiters self.new.waiters result }
         ensures number { self.new.number ≡ self.old.number }
@@ -109,7 +109,7 @@ impl<K: Drop> Round<K> {
         }
     }
 
-    /// Waits no more. Its waker, to be dropped once the lock is given back; none where the round is over.
+    /// Waits no more. Answers its waker, to be dropped once the lock is released; none where the round is over.
     pub fn leave(&mut self, seat: Seat) -> Option<K>
         ensures left { HasLeft seat self.old.number self.old.waiters self.new.waiters result }
         ensures number { self.new.number ≡ self.old.number }
@@ -128,7 +128,7 @@ impl<K: Drop> Round<K> {
         }
     }
 
-    /// A number of a list that is there no more.
+    /// A number of a list that is no longer there.
     fn forget(&self, listening: Listening) {
         match Waiters::<K>::new(self.alloc).leave(listening) {
             Left::Untold(_waker) => {}
@@ -138,7 +138,7 @@ impl<K: Drop> Round<K> {
         }
     }
 
-    /// The round is over, and the next begins, for whose end nobody waits.
+    /// Ends the round, and begins the next, for whose end nobody waits.
     pub fn end(&mut self) -> Ended<K>
         ensures waited { result.waiters ≡ self.old.waiters }
         ensures nobody { self.new.waiters ≡ record { next = 0; waiting = [] } }
@@ -151,7 +151,7 @@ impl<K: Drop> Round<K> {
 }
 
 impl<K: Wake + Drop> Ended<K> {
-    /// Wakes all who waited.
+    /// Wakes all waiters.
     pub fn wake_all(self) -> WokeAll {
         let Ended { waiters } = self;
         let mut waiters = waiters;

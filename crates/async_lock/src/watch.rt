@@ -21,8 +21,8 @@ pub use waiting::channel::RecvError;
 /// A sender and a receiver.
 pub type Ends<T, K, R> = (Sender<T, K, R>, Receiver<T, K, R>);
 
-/// A sender and a receiver of the newest of values, which is this one at first: the receiver has seen it. It takes memory; where there
-/// is none the value comes back.
+/// A sender and a receiver of the newest of values. It is this value at first, which the receiver has seen. It takes memory; where
+/// there is none the value comes back.
 ///
 /// ```
 /// let (sender, mut receiver) = watch::channel::<u64, Nobody, R>(rt, alloc, 1)?;

@@ -1,4 +1,4 @@
--- How a run ends, and what a paused one answers, by what the end of its poll owes.
+-- How a run ends, and what a paused one answers, by what the end of its poll left to be done.
 use Rattle.std.proofs.Common.{◌≡◌, Bool, true, false, refl, sym, subst, ap, ◌∙◌}
 use Rattle.std.specs.Prelude.{Option, Some, None, Result, Ok, Err, IfSome, MatchResult, is_some, not}
 use Rattle.std.proofs.lemmas.Bool.{false≢true}
@@ -22,7 +22,7 @@ use Rattle.async_task.specs.declared.runnable.Closing.{Closing}
 use Rattle.async_task.specs.declared.runnable.RunEnd.TheVariants.{Drop}
 use Rattle.async_task.specs.declared.waker.Awaiter.{Awaiter}
 
--- what the schedule value is told is what is owed to it
+-- what the schedule value is passed is what the step says
 pub woken_as_owed : (owed told : Option ScheduleInfo) (woken : Bool) → IfSome told (λ info. owed ≡ Some info) → is_some told ≡ is_some owed
     → woken ≡ was_woken_by told → woken ≡ was_woken_by owed
 woken_as_owed owed (Some info) woken t q w = w ∙ ap was_woken_by (sym t)

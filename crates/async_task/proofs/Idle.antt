@@ -1,4 +1,4 @@
--- No move but the end of a poll tells a schedule value that its task was woken while it was polled.
+-- Only the end of a poll passes a schedule value that its task was woken while it was polled.
 use Rattle.std.proofs.Common.{◌≡◌, Bool, true, false, refl, sym, ap, ◌∙◌}
 use Rattle.std.specs.Prelude.{Option, Some, None, IfSome}
 use Rattle.task_moves.specs.declared.schedule_info.ScheduleInfo.{ScheduleInfo}
@@ -11,7 +11,7 @@ abbrev pub woken_of : Option ScheduleInfo → Bool
 woken_of (Some info) = info.woken_while_running
 woken_of None = false
 
--- a schedule value that is told so much isn't told that
+-- a schedule value that is passed this isn't passed that
 abbrev pub IsIdle : Option ScheduleInfo → Type 0
 IsIdle o = woken_of o ≡ false
 
@@ -30,7 +30,7 @@ giving_up true s = refl
 pub idle_give_up : (s : State) → IsIdle (moves.give_up s).owed.schedule
 idle_give_up s = giving_up _ s
 
--- what is told is what is owed
+-- what is passed is what the step says
 pub if_rest : (owed r : Option ScheduleInfo) → IfSome r (λ info. owed ≡ Some info) → IsIdle owed → IfSome r WasIdle
 if_rest owed (Some info) e z = ap woken_of (sym e) ∙ z
 if_rest owed None e z = tt

@@ -1,4 +1,4 @@
--- What a poll of a handle has found, by what its last look owes.
+-- What a poll of a handle has found, by what its last look left to be done.
 use Rattle.std.proofs.Common.{◌≡◌, ◌⊎◌, inl, inr, Bool, true, false, refl, sym, ap, ◌∙◌, subst}
 use Rattle.std.specs.Prelude.{Option, Some, None, Result, Ok, Err, MatchOption, MatchResult, is_some, is_ok, not}
 use Rattle.std.proofs.lemmas.Bool.{false≢true}
@@ -20,7 +20,7 @@ use Rattle.task_word.specs.declared.tokens.handles.OwingTask.{OwingTask}
 use Rattle.async_task.specs.Polls.{found_by, look_by, CallsAwaiter, FoundAt, IsTold}
 use Rattle.async_task.specs.declared.polling.Found.{Found}
 
--- what a look may answer, and whether it owes the awaiter a call then
+-- what a look may answer, and whether the awaiter has to be woken then
 abbrev pub Asked : Owed → Type 0
 Asked owed = ((owed.answer ≡ None) × (owed.awaiter ≡ None)) ⊎ ((owed.answer ≡ Some Pending) × (owed.awaiter ≡ None))
     ⊎ ((owed.answer ≡ Some Closed) × (owed.awaiter ≡ Some NotifyOther)) ⊎ (owed.answer ≡ Some Output)
@@ -64,7 +64,7 @@ module _ {F T W : Type 0} where
   abbrev pub Came : (State → Moved) → Cell F T W → Owed → Option T → Result (Task F T W) (OwingTask F T W) → Type 0
   Came move cell owed output task = MatchOption output (Shown move cell owed task) (λ _. Owes move owed)
 
-  -- a look that owes the awaiter nothing left the handle as it was
+  -- a look after which the awaiter hasn't to be woken left the handle as it was
   unowing : (cell : Cell F T W) (is_first : Bool) (owed : Owed) (task : Result (Task F T W) (OwingTask F T W)) (claim : Claim)
       → Shown (look_by is_first) cell owed task → is_ok task ≡ not (is_some owed.awaiter) → IsTold task claim → owed.awaiter ≡ None
       → Shows cell.board.shared (look_by is_first) owed claim
@@ -72,7 +72,7 @@ module _ {F T W : Type 0} where
       subst (λ (z : Claim). Shows cell.board.shared (look_by is_first) owed z) (sym is_told) made
   unowing cell is_first owed (Err owing) claim made calls is_told e = absurd (false≢true (calls ∙ ap (λ z. not (is_some z)) e))
 
-  -- one that owes it a call is followed by that
+  -- one after which it has to be woken is followed by that
   calling : (cell : Cell F T W) (is_first : Bool) (owed : Owed) (task : Result (Task F T W) (OwingTask F T W)) (claim : Claim)
       → Shown (look_by is_first) cell owed task → is_ok task ≡ not (is_some owed.awaiter) → IsHandleOf cell task → IsTold task claim
       → owed.awaiter ≡ Some NotifyOther → CallsAwaiter cell.board.shared claim

@@ -1,4 +1,4 @@
--- The wakers of the one type that futures are polled with: whose one is, and when two wake the same.
+-- The wakers of the one type that futures are polled with: whose each is, and when two wake the same.
 use Rattle.std.specs.Prelude.{◌≡◌, ◌↔◌, Bool, true, false, Option, Some, None, IsTrue}
 use Rattle.async_task.specs.Handles.{Handle}
 use Rattle.async_task.specs.declared.cell.Identity.{Identity}
@@ -36,7 +36,7 @@ module _ {F T S M W R : Type 0} where
   IsLentBy (Lent waker) task = waker ≡ task
   IsLentBy (Outside waker) task = ⊥
 
-  -- two of tasks are of one task; two from outside are as those say; one of each aren't known to
+  -- two of tasks are of one task; two from outside are as those answer; for one of each nothing is known
   abbrev pub WakeTheSame : (W → W → Type 0) → Awaiter F T S M W R → Awaiter F T S M W R → Type 0
   WakeTheSame is_same (Outside a) (Outside b) = is_same a b
   WakeTheSame is_same (Task a) b = AreOfOneTask (Some a.identity) (identity_of b)
@@ -44,8 +44,8 @@ module _ {F T S M W R : Type 0} where
   WakeTheSame is_same (Outside a) (Task b) = ⊥
   WakeTheSame is_same (Outside a) (Lent b) = ⊥
 
-  -- what the answer tells: of two from outside a yes tells what those make of it, and a no nothing; of all others exactly whether they
-  -- are of one task
+  -- what the answer means: of two from outside a yes means what those make of it, and a no nothing; of all others it says exactly
+  -- whether they are of one task
   abbrev pub Tells : (W → W → Type 0) → Awaiter F T S M W R → Awaiter F T S M W R → Bool → Type 0
   Tells is_same (Outside a) (Outside b) answer = IsTrue answer → is_same a b
   Tells is_same (Task a) b answer = IsTrue answer ↔ AreOfOneTask (Some a.identity) (identity_of b)

@@ -1,4 +1,4 @@
--- What is owed to a task's schedule value by a call that isn't the end of a poll.
+-- What a call that isn't the end of a poll has to pass to a task's schedule value.
 use Rattle.std.specs.Prelude.{◌≡◌}
 use Rattle.async_task.specs.Handles.{Resting}
 use Rattle.async_task.specs.declared.cell.scheduled.Due.{Due}

@@ -1,5 +1,5 @@
--- What a contract sees of a handle to a shared task, of any kind: which task it is of, and the metadata of that task. What
--- its cell has under its lock is known by the type of a task with one owner alone.
+-- What a contract sees of a handle to a shared task, of any kind: which task it is of, and the metadata of that task. Only the
+-- type of a task with one owner says what its cell has under its lock.
 use Rattle.std.specs.Prelude.{◌≡◌, Bool}
 use Rattle.async_task.specs.declared.cell.Identity.{Identity}
 use Rattle.async_task.specs.declared.cell.Kept.{Kept}
@@ -10,8 +10,8 @@ pub record Handle (M : Type 0) : Type 0 where
   pub identity : Identity
   pub metadata : M
 
--- what a contract sees of a handle that is polled: which cell's it is too, the claim of the seat that has it, and whether a poll has
--- given the output
+-- what a contract sees of a handle that is polled: also of which cell it is, the claim of the seat that has it, and whether a poll
+-- has given the output
 pub record Polling (F T M W : Type 0) : Type 0 where
   pub identity : Identity
   pub metadata : M

@@ -17,7 +17,7 @@ abbrev pub FoundTooMany : Trace → Type 0
 FoundTooMany trace = (v : View) × (trace.claim.badge.views ≡ v ∷ []) × (owed : Owed) × steps.Makes steps.copy v owed
     × (is_some owed.answer ≡ true)
 
--- the step of this trace was a wake that owes no Runnable
+-- the step of this trace was a wake after which no Runnable has to be scheduled
 abbrev pub FoundAwake : Trace → Type 0
 FoundAwake trace = (v : View) × (trace.claim.badge.views ≡ v ∷ []) × (owed : Owed) × steps.Makes moves.wake_by_reference v owed
     × (is_some owed.schedule ≡ false)

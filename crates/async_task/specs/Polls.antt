@@ -45,31 +45,33 @@ module _ {F T W K P : Type 0} where
   abbrev pub Looks : Shared (Slot F T W) View K P → Option Answer → Claim → Type 0
   Looks board answer claim = (is_first : Bool) × (owed : Owed) × Shows board (look_by is_first) owed claim × (owed.answer ≡ answer)
 
-  -- the last step of this claim's seat, on this board, was a call of the awaiter, or left that to whoever was at it
+  -- the last step of this claim's seat, on this board, was a call of the awaiter, or left that to whoever was calling or
+  -- registering it
   abbrev pub CallsAwaiter : Shared (Slot F T W) View K P → Claim → Type 0
   CallsAwaiter board claim = (owed : Owed) × Notifies board owed claim
 
-  -- what a poll of the handle that has this claim found: that there is no output yet, or that no waker could be had, only where its
-  -- last step, on this board, was the look that says so; that there won't be one only where its last step there told the awaiter
+  -- what a poll of the handle that has this claim found: that there is no output yet, or that no waker could be had, only where
+  -- its last step, on this board, was the look that says so; that there won't be one only where its last step there woke the
+  -- awaiter
   abbrev pub FoundAt : Shared (Slot F T W) View K P → Claim → Found T → Type 0
   FoundAt board claim (Output output) = ⊤
   FoundAt board claim Closed = CallsAwaiter board claim
   FoundAt board claim Pending = Looks board (Some answers.Pending) claim
   FoundAt board claim NoMemory = Looks board None claim
 
--- the claim of a handle that had nothing to call; or one that shows that the awaiter was told
+-- the claim of a handle that had nothing to call; or one that shows that the awaiter was woken
 abbrev pub IsTold : {F T W : Type 0} → Result (Task F T W) (OwingTask F T W) → Claim → Type 0
 IsTold (Ok task) claim = claim ≡ task.claim
 IsTold (Err owing) claim = CallsAwaiter owing.task.cell.now.board.shared claim
 
--- what a handle has found that answers this
+-- what a handle has found when it answers this
 abbrev pub found_in : {T : Type 0} → Poll (Result T TaskError) → Found T
 found_in (Ready (Ok output)) = Output output
 found_in (Ready (Err errors.TaskClosed)) = Closed
 found_in (Ready (Err errors.NoMemory)) = NoMemory
 found_in polls.Pending = Pending
 
--- and one whose closing is no error
+-- the same, of a handle whose closing is no error
 abbrev pub found_if_any : {T : Type 0} → Poll (Result (Option T) WithoutMemory) → Found T
 found_if_any (Ready (Ok (Some output))) = Output output
 found_if_any (Ready (Ok None)) = Closed

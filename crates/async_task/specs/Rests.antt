@@ -4,12 +4,12 @@ use Rattle.task_moves.specs.declared.schedule_info.ScheduleInfo.{ScheduleInfo}
 use Rattle.async_task.specs.declared.cell.turns.Rest.{Rest}
 use Rattle.async_task.specs.declared.cell.turns.Rest.TheVariants.{Queue}
 
--- what a schedule value is told, where a Runnable is owed to it
+-- what is passed to a schedule value, where a Runnable has to be scheduled
 abbrev pub info_of : {F T W : Type 0} → Rest F T W → Option ScheduleInfo
 info_of (Queue woken) = Some woken.info
 info_of _ = None
 
--- whether the task was woken while it was polled, by what its schedule value is to be told, if anything
+-- whether the task was woken while it was polled, by what has to be passed to its schedule value, if anything
 abbrev pub was_woken_by : Option ScheduleInfo → Bool
 was_woken_by (Some info) = info.woken_while_running
 was_woken_by None = false

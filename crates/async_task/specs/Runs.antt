@@ -21,7 +21,7 @@ use Rattle.task_word.specs.declared.rule.View.{View}
 use Rattle.task_word.specs.Cell.{Slot}
 use Rattle.task_word.specs.Tokens.{Shows, ShowsSeat, Owes}
 
--- whether a future is dropped since its task was closed, and not since nobody can reach that any more
+-- whether a future is dropped because its task was closed, and not because nobody can reach the task any more
 abbrev pub was_closed : {F T W : Type 0} → Closed F T W → Bool
 was_closed (Runnable closed) = true
 was_closed (Run closed) = true

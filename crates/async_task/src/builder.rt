@@ -15,7 +15,7 @@ pub struct Builder<M> {
 }
 
 impl Builder<()> {
-    /// A builder of tasks with no metadata.
+    /// Makes a builder of tasks with no metadata.
     pub fn new() -> Self {
         Builder { metadata: () }
     }
@@ -28,7 +28,7 @@ impl Default for Builder<()> {
 }
 
 impl<M> Builder<M> {
-    /// The same builder, of tasks with this metadata.
+    /// Makes the same builder, of tasks with this metadata.
     pub fn metadata<N>(self, metadata: N) -> Builder<N>
     where
         M: Drop,
@@ -37,8 +37,8 @@ impl<M> Builder<M> {
         Builder { metadata }
     }
 
-    /// A task in this realm: the Runnable that begins it, and its handle. For want of memory the
-    /// future, the schedule value and the metadata come back.
+    /// Makes a task in this realm: the Runnable that begins it, and its handle. For want of memory the future, the schedule value
+    /// and the metadata come back.
     #[inline(always)]
     pub fn spawn<F: Drop + 'static, T: Output, S, W: OutsideWaker, R: Wait + Copy + Drop>(
         self,
@@ -81,8 +81,8 @@ impl<M> Builder<M> {
     }
 }
 
-/// A task with no metadata in this realm: the Runnable that begins it, and its handle. For want of
-/// memory the future and the schedule value come back.
+/// Makes a task with no metadata in this realm: the Runnable that begins it, and its handle. For want of memory the future and the
+/// schedule value come back.
 #[inline(always)]
 pub fn spawn<F: Drop + 'static, T: Output, S, W: OutsideWaker, R: Wait + Copy + Drop>(
     rt: R,

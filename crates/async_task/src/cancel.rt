@@ -16,10 +16,10 @@ use std::sync::Wait;
 /// The end of a task that its handle closes. The first poll cancels it. It is ready once the future
 /// is dropped, with the output where that was there before. Its drop cancels the task too.
 ///
-/// In the Rust crate `async-task` `Task::cancel` is an `async fn`, whose future has no name. This one gives a
-/// `Result<Option<T>, NoMemory>`: None where there was no output to give. Where no copy of its waker can be had a poll is ready with
-/// `NoMemory`; it has cancelled then, and can be made again. The cancel itself takes no memory. The task's cell is kept until this is
-/// dropped, also after its answer. Its types are those of a `Task`.
+/// In the Rust crate `async-task` `Task::cancel` is an `async fn`, whose future has no name. This future has an output of type
+/// `Result<Option<T>, NoMemory>`: None where the task had no output to give. Where no copy of its waker can be had a poll is ready
+/// with `NoMemory`; it has cancelled then, and can be polled again. The cancel itself takes no memory. The task's cell is kept
+/// until this is dropped, also after its answer. Its types are those of a `Task`.
 ///
 /// In `cancelled` of `examples`, over any `R: Runtime`, the run of the queue drops the future unpolled:
 ///
@@ -44,7 +44,7 @@ where
 {
     held: Held<F, T, S, M, W, R>,
     handle: Place<F, T, W>,
-    /// The duty to cancel it, until it is.
+    /// The duty to cancel the task, until it is cancelled.
     duty: Option<Duty>,
     ghost there: { IsThere handle.cell.now.board.shared handle.claim },
 }
@@ -77,7 +77,7 @@ where
     M: Copy + Drop + 'static,
     R: Wait + Copy + Drop,
 {
-    /// What closes the task of this handle.
+    /// The future that closes the task of this handle.
     pub(crate) fn of(held: Held<F, T, S, M, W, R>, handle: Place<F, T, W>, duty: Duty) -> Self
         requires { IsThere handle.cell.now.board.shared handle.claim }
         ensures task { result.task ≡ held }

@@ -1,4 +1,4 @@
-//! The cell that all handles of one task share, and the way of a handle to it.
+//! The cell that all handles of one task share, and how a handle finds it.
 ghost use Rattle.std.specs.Prelude.{◌≡◌, ◌↔◌, IfErr, IsTrue};
 
 mod calls;
@@ -52,7 +52,7 @@ pub struct Cell<F, T, S, M, W> {
     fixed: Slot<S, M>,
 }
 
-// Written out, so that crates above call it, and prove the drops of all its parts no second time.
+// Written out, so that crates above call it, and don't prove the drops of all its parts once more.
 impl<F: Drop, T: Drop, S: Drop, M: Drop, W: Drop> Drop for Cell<F, T, S, M, W> {
     fn drop(self) {
         let Cell {
@@ -89,8 +89,7 @@ pub enum Kept<W> {
     Task(KeptWaker),
     /// From outside.
     Outside(W),
-    /// None: a waker of a task of another realm couldn't be found from here, and is called at
-    /// once.
+    /// None: a waker of a task of another realm couldn't be found from here, and is called at once.
     Nothing,
 }
 
@@ -310,8 +309,8 @@ where
     }
 }
 
-/// A new task in a cell that nobody has. One that isn't empty, as its place was taken for a free one, is passed over. All
-/// comes back where there is no place.
+/// A new task in a cell that nobody has. A place may be taken as free whose cell isn't empty: that cell is passed over. All comes
+/// back where there is no place.
 #[inline(always)]
 fn make<F, T: Output, S, M, W, R>(
     rt: &R,

@@ -1,5 +1,5 @@
-//! What `Debug` shows of the handles: the marks of the task at one moment, how many references it
-//! has, and its metadata; and of what rests in a cell: of which task it is.
+//! What `Debug` shows of the handles: the state of the task at one moment, how many references it has, and its metadata. Of what
+//! rests in a cell it shows the task.
 use crate::bounds::{Output, OutsideWaker};
 use crate::cell::{GoesBack, Held, Returning, Scheduled, StoredRunnable, StoredWaker};
 use crate::fallible::FallibleTask;

@@ -11,7 +11,7 @@ use thiserror::Error;
 #[derive(Clone, Copy, Debug, PartialEq, Eq, Drop)]
 pub struct NoMemory;
 
-/// So that `?` takes it to an `io::Result`.
+/// Lets `?` convert it to an `io::Error`.
 impl From<NoMemory> for io::Error {
     ghost from_gives = { λ _ error. error_kind error ≡ OutOfMemory };
 
@@ -20,12 +20,12 @@ impl From<NoMemory> for io::Error {
     }
 }
 
-/// Why there is no new realm.
+/// Why no new realm was made.
 #[derive(Clone, Copy, Debug, PartialEq, Eq, Drop, Error)]
 pub enum RealmError {
     #[error("out of memory")]
     NoMemory,
-    /// The system gave no random bytes, of which a realm has its number.
+    /// The system gave no random bytes, from which a realm gets its number.
     #[error("no random number")]
     NoRandom,
 }
@@ -38,7 +38,7 @@ impl From<NoMemory> for RealmError {
     }
 }
 
-/// So that `?` takes it to an `io::Result`.
+/// Lets `?` convert it to an `io::Error`.
 impl From<RealmError> for io::Error {
     ghost use Rattle.async_task.specs.Errors.{kind_of};
 
@@ -52,7 +52,7 @@ impl From<RealmError> for io::Error {
     }
 }
 
-/// So that `?` takes it to an `io::Result`.
+/// Lets `?` convert it to an `io::Error`.
 impl From<TaskError> for io::Error {
     ghost use Rattle.async_task.specs.Errors.{kind_of_task};
 

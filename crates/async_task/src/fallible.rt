@@ -74,14 +74,14 @@ where
         self.look().is_finished()
     }
 
-    /// Gives the handle up. The task goes on, and its output is dropped. What it answers shows that the task was not cancelled
-    /// by this handle, and may be let go.
+    /// Gives the handle up. The task goes on, and its output is dropped. The answer shows that this handle didn't cancel the task,
+    /// and may be dropped.
     pub fn detach(self) -> Detached {
         let Self { held, handle, duty } = self;
         held.detach(handle.open(), duty)
     }
 
-    /// What closes the task when it is first polled, and then has the output where there was one.
+    /// Makes a future that closes the task when it is first polled, and then has the output where there was one.
     pub fn cancel(self) -> Cancel<F, T, S, M, W, R>
         ensures task { result.task ≡ task_of self }
         ensures open { result.is_cancelled ≡ false }
@@ -112,7 +112,7 @@ where
     }
 }
 
-/// What a handle answers that has None where there is no output.
+/// Converts an answer: None where there is no output.
 pub fn found<T>(found: Found<T>) -> Poll<Result<Option<T>, NoMemory>>
     ensures { found_if_any result ≡ found }
 {

@@ -8,8 +8,8 @@ use crate::waker::TaskWaker;
 use std::marker::Model;
 use std::sync::Wait;
 
-/// The waker of a task that is polled, as its poll is lent it. It has no reference of the task, since the run has the task for as
-/// long as the poll goes; who keeps a waker asks for one. A contract sees which task it is of.
+/// The waker of a task that is polled, as it is lent to that poll. It has no reference of the task, since the run has the task for
+/// as long as the poll goes. A future that keeps a waker asks it for one. A contract sees which task it is of.
 #[derive(Drop)]
 pub struct LentWaker<F, T: Output, S, M, W: OutsideWaker, R>
 where
@@ -42,7 +42,7 @@ where
     M: Copy + Drop + 'static,
     R: Wait + Copy + Drop,
 {
-    /// Of the task that is about to be polled.
+    /// Makes the waker of the task that is about to be polled.
     pub(crate) fn of(held: Held<F, T, S, M, W, R>) -> Self
         ensures { result ≡ held }
     {
@@ -58,14 +58,14 @@ where
         held
     }
 
-    /// Whether the task lies in this realm: whether a waker of it, once it is stored, is redeemed there.
+    /// Whether the task lies in this realm, which then redeems a stored waker of it.
     pub fn lies_in(&self, realm: &Realm<F, T, S, M, W>) -> bool
         ensures { IsTrue result ↔ self.now.identity.realm ≡ realm.now.number }
     {
         self.held.identity().realm == realm.number()
     }
 
-    /// Where the task lies. What was stored of tasks of this realm is redeemed there.
+    /// Where the task lies. That realm redeems what was stored of its tasks.
     pub fn realm(&self) -> &'static Realm<F, T, S, M, W>
         ensures { result.now.number ≡ self.now.identity.realm }
     {

@@ -6,7 +6,7 @@ ghost use Rattle.task_moves.specs.Moves.{is_over};
 use task_moves::moves::State;
 use task_word::tokens::Trace;
 
-/// How a task stood at one moment. It is had by a look alone.
+/// The state of a task at one moment. Only a look makes one.
 #[derive(Drop)]
 pub struct Look {
     pub(crate) state: State,
@@ -27,14 +27,15 @@ impl Look {
     }
 }
 
-/// A task had 2^40 references already, or nobody had it, when one more was wanted. It is had by a call that was refused alone.
+/// Proof that a task had 2^40 references already, or that nobody had it, when one more was wanted. Only a refused call makes one.
 #[derive(Drop)]
 pub struct TooManyReferences {
     pub(crate) trace: Trace,
     ghost refused: { ∥ FoundTooMany trace ∥₁ },
 }
 
-/// A task that was woken was over or had a Runnable already, or is being polled: none was owed. It is had by a wake alone.
+/// Proof that a woken task was over or had a Runnable already, or is being polled, so that no Runnable had to be scheduled. Only a
+/// wake makes one.
 #[derive(Drop)]
 pub(crate) struct StaysAwake {
     pub(crate) trace: Trace,

@@ -2,25 +2,25 @@
 ghost use Rattle.std.specs.Prelude.{◌≡◌};
 ghost use Rattle.async_task.specs.Ready.{is_pending, is_ready};
 
-/// What a poll answers.
+/// The answer of a poll.
 #[derive(Clone, Copy, Debug, PartialEq, Eq, Drop)]
 #[must_use]
 pub enum Poll<T> {
-    /// It is there.
+    /// The output is there.
     Ready(T),
-    /// It isn't there yet: the waker of the poll is woken when it is worth another.
+    /// The output isn't there yet: the waker of the poll is woken when another poll is worth while.
     Pending,
 }
 
 impl<T> Poll<T> {
-    /// Whether it is there.
+    /// Whether the output is there.
     pub fn is_ready(&self) -> bool
         ensures { result ≡ is_ready self.now }
     {
         matches!(self, Poll::Ready(_))
     }
 
-    /// Whether it isn't there yet.
+    /// Whether the output isn't there yet.
     pub fn is_pending(&self) -> bool
         ensures { result ≡ is_pending self.now }
     {

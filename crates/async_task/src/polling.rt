@@ -25,9 +25,8 @@ pub enum Found<T> {
     NoMemory,
 }
 
-/// Polls the handle. Where there is an answer already no waker is copied, so that such a poll
-/// takes no memory; else one copy is made. A waker of a task of another realm can't be kept: it is
-/// called at once.
+/// Polls the handle. Where there is an answer already it copies no waker, so that such a poll takes no memory; else it makes one
+/// copy. A waker of a task of another realm can't be kept: it is called at once.
 pub(crate) fn poll<F, T: Output, S, M, W: OutsideWaker, R>(
     held: &Held<F, T, S, M, W, R>,
     place: &mut Place<F, T, W>,
@@ -54,7 +53,7 @@ where
     }
 }
 
-/// The handle looks, and waits where there is no answer.
+/// Looks, and waits where there is no answer.
 #[inline(always)]
 fn looked<F, T: Output, S, M, W: OutsideWaker, R>(
     held: &Held<F, T, S, M, W, R>,
@@ -79,7 +78,7 @@ where
     }
 }
 
-/// The waker is registered, and the handle looks again.
+/// Registers the waker, and looks again.
 #[inline(always)]
 fn registered<F, T: Output, S, M, W: OutsideWaker, R>(
     held: &Held<F, T, S, M, W, R>,
@@ -114,7 +113,7 @@ where
     (token, found)
 }
 
-/// What the poll has found. An awaiter that is owed a call is called.
+/// What the poll has found. Calls the awaiter, where it has to be woken.
 #[inline(always)]
 fn answered<F, T: Output, S, M, W: OutsideWaker, R>(
     held: &Held<F, T, S, M, W, R>,
@@ -142,8 +141,8 @@ where
     (token, found)
 }
 
-/// A copy of the waker, as the cell is to keep it. Of a waker of a task that is its place, and one
-/// reference more of that task.
+/// Copies the waker as the cell is to keep it. For a waker of a task that is the task's place, and one reference more of that
+/// task.
 #[inline(always)]
 fn to_keep<F, T: Output, S, M, W: OutsideWaker, R>(
     held: &Held<F, T, S, M, W, R>,

@@ -1,6 +1,6 @@
-//! Where the cells of tasks lie. A cell may keep a waker of another cell of its own type, which no
-//! type can say of itself. So what is stored of a task is the number of its place here, and what is
-//! live is a handle that has the realm at hand and finds the cell by that number.
+//! Where the cells of tasks lie. A cell may keep a waker of another cell of its own type, but no type can contain itself. So a
+//! stored waker has the number of its task's place here, and a live handle has the realm at hand and finds the cell by that
+//! number.
 ghost use Rattle.std.specs.Prelude.{◌≡◌, IfOk};
 
 mod pages;
@@ -13,7 +13,7 @@ use std::alloc::{AllocError, Global};
 use std::boxed::Box;
 use std::random::RandomSource;
 
-/// What lies at a place, before it is ever in use.
+/// What lies at a place, before its first use.
 pub trait Vacant: Sized {
     fn vacant(alloc: Global) -> Result<Self, AllocError>;
 }
@@ -22,7 +22,7 @@ pub trait Vacant: Sized {
 /// handles may go anywhere, by reference. The place of a task that is over is used again; the memory of places is
 /// never given back.
 ///
-/// It stands where the Rust crate has memory of each task's own.
+/// In the Rust crate each task has its own memory instead.
 #[derive(Drop)]
 pub struct Cells<C> {
     number: u64,
@@ -32,7 +32,7 @@ pub struct Cells<C> {
 }
 
 impl<C: Drop> Cells<C> {
-    /// No cells yet, under this number.
+    /// Makes a realm with no cells yet, under this number.
     fn new(alloc: Global, number: u64) -> Result<Self, RealmError>
         ensures { IfOk result (λ cells. cells.number ≡ number) }
     {
@@ -47,7 +47,7 @@ impl<C: Drop> Cells<C> {
         }
     }
 
-    /// The number that was drawn for them. By it a task knows whether a waker is of a task that lies here too.
+    /// The realm's number. By it a task knows whether a waker is of a task that lies here too.
     pub fn number(&self) -> u64
         ensures { result ≡ self.now.number }
     {
@@ -66,7 +66,7 @@ impl<C: Drop> Cells<C> {
 }
 
 impl<C: Drop + 'static> Cells<C> {
-    /// The same, of cells that lie there for as long as the program runs.
+    /// The cell at this place, for cells that lie there for as long as the program runs.
     #[inline(always)]
     pub(crate) fn lasting(&'static self, place: usize) -> Option<&'static C> {
         self.cell(place)
@@ -74,7 +74,7 @@ impl<C: Drop + 'static> Cells<C> {
 }
 
 impl<C: Vacant + Drop> Cells<C> {
-    /// A place that nobody else has. None for want of memory, or where there are 2^24 - 32 places.
+    /// Takes a place that nobody else has. None for want of memory, or where there are 2^24 - 32 places.
     pub(crate) fn vacancy(&self) -> Option<usize> {
         self.pages.vacancy()
     }
@@ -87,8 +87,8 @@ impl<C: Vacant + Drop> Cells<C> {
 }
 
 impl<C: Drop> Cells<C> {
-    /// No cells yet, for as long as the program runs. Their number is 64 bits that `rt` draws: two of one program
-    /// have the same one with a chance of 1 in 2^64.
+    /// Makes a realm with no cells yet, for as long as the program runs. Its number is 64 bits that `rt` draws: two realms of one
+    /// program have the same number with a chance of 1 in 2^64.
     pub fn leak<'r, R>(rt: R, alloc: Global) -> Result<&'r Self, RealmError>
     where
         C: 'r,

@@ -182,9 +182,8 @@ where
     M: Copy + Drop + 'static,
     R: Wait + Copy + Drop,
 {
-    /// Polls the future once, or drops it where the task is closed. The answer is true exactly
-    /// where the task was woken during the poll and not closed: it was handed to its schedule value
-    /// then, which was told the same.
+    /// Polls the future once, or drops it where the task is closed. The answer is true exactly where the task was woken during the
+    /// poll and not closed. It was then handed to its schedule value, which was passed the same.
     pub fn run(self) -> bool {
         match self.start() {
             Started::Poll(future, running) => running.poll(future),
@@ -215,8 +214,8 @@ where
         }
     }
 
-    /// Ends the call, once the future is dropped: who awaits a closed task is woken, and who awaited one that nobody can reach is let
-    /// go.
+    /// Ends the call, once the future is dropped. The awaiter of a closed task is woken, and that of a task that nobody can reach
+    /// is dropped.
     pub fn finish(self) {
         let Self { held, closed } = self;
         match closed {
@@ -248,8 +247,8 @@ where
         woken
     }
 
-    /// Ends the call, as `finish` does, but for a task that was woken during the poll: it is the answer, for who knows where its
-    /// schedule value would queue it, and queues it there.
+    /// Ends the call, as `finish` does, except that a task that was woken during the poll is the answer. It is for a caller that
+    /// knows where the schedule value would queue it, and queues it there.
     #[inline(always)]
     pub fn into_due(self) -> Option<Due<F, T, S, M, W, R>>
         ensures told { MatchOption result (self.remains.owed.schedule ≡ None)

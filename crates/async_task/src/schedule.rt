@@ -1,19 +1,19 @@
 pub use task_moves::ScheduleInfo;
 
-/// What is done with a task that is to be run: most often it is put into a queue. It is called while
-/// no lock of a task is held.
+/// What schedules a task that has to be run: most often it puts the task into a queue. It is called while no lock of a task is
+/// held.
 pub trait Schedule<R> {
-    /// Does so with this task, and is told whether it was woken while it was polled.
+    /// Schedules this task. `info` says whether the task was woken while it was polled.
     fn schedule(&self, runnable: R, info: ScheduleInfo);
 }
 
-/// A schedule value of which there may be several, as a counted pointer.
+/// A schedule value that can be shared, such as a counted pointer.
 pub trait Shared: Sized {
-    /// One more, which does the same.
+    /// Makes one more, which does the same.
     fn share(&self) -> Self;
 }
 
-/// A schedule value that is told the information too.
+/// A schedule value that uses the information too.
 #[derive(Clone, Copy, Debug, PartialEq, Eq, Drop)]
 pub struct WithInfo<Q>(pub Q);
 

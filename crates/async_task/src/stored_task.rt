@@ -9,8 +9,8 @@ use crate::task::Task;
 use std::marker::Model;
 use std::sync::Wait;
 
-/// A handle as a list keeps it. It stands for one handle, which rests in its task's cell. It has no drop: it is
-/// redeemed, or given back to its realm.
+/// A handle as a list keeps it. It stands for one handle, which rests in its task's cell. It has no drop: it is redeemed, or given
+/// back to its realm.
 pub struct StoredTask<M = ()> {
     returns: &'static Returns,
     place: usize,
@@ -51,8 +51,8 @@ impl<M> StoredTask<M> {
         Identity { realm, place }
     }
 
-    /// The handle that was stored. It takes no memory. Where it is of another realm it comes back; so it would where no handle
-    /// rested at its place, which tests exclude and no clause does.
+    /// Redeems the handle that was stored. It takes no memory. Where it is of another realm it comes back. It would also come back
+    /// where no handle rested at its place, which tests exclude and no clause does.
     pub fn redeem<F: Drop + 'static, T: Output, S, W: OutsideWaker, R: Wait + Copy + Drop>(
         self,
         rt: R,

@@ -26,16 +26,16 @@ pub enum TaskError {
     NoMemory,
 }
 
-/// The handle of a task. It is polled for the output. Its drop cancels the task. It is `Task` of the Rust crate `async-task`.
+/// The handle of a task, which is polled for the output. Its drop cancels the task. It is `Task` of the Rust crate `async-task`.
 ///
-/// It is a future with `Result<T, TaskError>`. A poll without an answer keeps a copy of its waker, in place of the one before; a waker
-/// of another realm's task is called at once instead. Where no copy can be had it is ready with `NoMemory`, and can be made again. A
-/// task that was cancelled, or whose output was given, answers `TaskClosed`. A poll that has an answer takes no memory, nor does a
-/// cancel.
+/// It is a future with `Result<T, TaskError>`. A poll without an answer keeps a copy of its waker, in place of the one before; a
+/// waker of another realm's task is called at once instead. Where no copy can be had the poll is ready with `NoMemory`, and can be
+/// made again. A task that was cancelled, or whose output was given, answers `TaskClosed`. A poll that has an answer takes no
+/// memory, nor does a cancel.
 ///
-/// Its calls ask for nothing: it keeps the runtime value `R` of its spawn. `F` is what lies in the task's cell, `S` its schedule
-/// value, `M` its metadata, `W` the type of wakers from outside; `ExTask` and `QueueTask` name those of an executor and of a queue.
-/// `store` makes it what a list or another future can keep.
+/// Its calls take no runtime value: it keeps the one, `R`, of its spawn. `F` is what lies in the task's cell, `S` its schedule
+/// value, `M` its metadata, `W` the type of wakers from outside. `ExTask` and `QueueTask` name the handles of an executor and of a
+/// queue. `store` makes it what a list or another future can keep.
 ///
 /// In `first_task` of `examples`, over any `R: Runtime`, the future adds the numbers from 4 down to 1:
 ///
@@ -125,14 +125,14 @@ where
         self.look().is_finished()
     }
 
-    /// Gives the handle up. The task goes on, and its output is dropped. What it answers shows that the task was not cancelled
-    /// by this handle, and may be let go.
+    /// Gives the handle up. The task goes on, and its output is dropped. The answer shows that this handle didn't cancel the task,
+    /// and may be dropped.
     pub fn detach(self) -> Detached {
         let Self { held, handle, duty } = self;
         held.detach(handle.open(), duty)
     }
 
-    /// What closes the task when it is first polled, and then has the output where there was one.
+    /// Makes a future that closes the task when it is first polled, and then has the output where there was one.
     pub fn cancel(self) -> Cancel<F, T, S, M, W, R>
         ensures task { result.task ≡ task_of self }
         ensures open { result.is_cancelled ≡ false }
@@ -142,7 +142,7 @@ where
         Cancel::of(held, handle, duty)
     }
 
-    /// The same handle, which has None for an output where the task is closed.
+    /// Makes the same handle, which has None for an output where the task is closed.
     pub fn fallible(self) -> FallibleTask<F, T, S, M, W, R>
         ensures { result ≡ self }
     {
@@ -171,7 +171,7 @@ where
     }
 }
 
-/// What a handle answers whose closing is an error.
+/// Converts the answer of a handle for which closing is an error.
 fn answer<T>(found: Found<T>) -> Poll<Result<T, TaskError>>
     ensures { found_in result ≡ found }
 {

@@ -4,7 +4,7 @@ ghost use Rattle.std.specs.Prelude.{◌≡◌, true, Some};
 pub trait Wake {
     ghost use Rattle.std.specs.Prelude.{IsTrue, IfSome};
 
-    /// That the two wake the same.
+    /// Says that two wakers wake the same.
     ghost is_same: { Self → Self → Type 0 };
 
     /// Wakes, and is gone.
@@ -13,18 +13,17 @@ pub trait Wake {
     /// Wakes, and stays.
     fn wake_by_ref(&self);
 
-    /// A waker that wakes the same, or None where no more can be had.
+    /// Makes a waker that wakes the same, or None where no more can be had.
     fn clone(&self) -> Option<Self>
         ensures { IfSome result (λ copy. is_same copy self.now) };
 
-    /// Whether the two wake the same, as far as it can tell: a no says nothing.
+    /// Whether the two wake the same, as far as the wakers know: a no says nothing.
     fn will_wake(&self, other: &Self) -> bool
         ensures { IsTrue result → is_same self.now other.now };
 }
 
-/// A waker from outside that wakes nobody: for who polls a handle and looks again without being
-/// called, and for programs whose tasks are awaited by tasks alone. After `Waker::noop` of the
-/// standard library.
+/// A waker from outside that wakes nobody. It is for a caller that polls a handle and looks again without being called, and for
+/// programs whose tasks are awaited by tasks alone. After `Waker::noop` of the standard library.
 #[derive(Debug, PartialEq, Eq, Drop)]
 pub struct Nobody;
 

@@ -73,7 +73,7 @@ where
         self.held.identity().realm == realm.number()
     }
 
-    /// Where the task lies. What was stored of tasks of this realm is redeemed there, also by who has nothing but this waker.
+    /// Where the task lies. That realm redeems what was stored of its tasks, also for a caller that has only this waker.
     pub fn realm(&self) -> &'static Realm<F, T, S, M, W>
         ensures { result.now.number ≡ self.now.identity.realm }
     {
@@ -112,7 +112,7 @@ where
         self.held.wake_and_queue();
     }
 
-    /// One more, or None where the task has 2^40 references already.
+    /// Makes one more waker, or None where the task has 2^40 references already.
     fn clone(&self) -> Option<Self>
         ensures same { IfSome result (λ copy. IsOfOneTask copy self.now) }
         ensures handle { IfSome result (λ copy. copy ≡ self.now) }
@@ -219,8 +219,7 @@ where
         }
     }
 
-    /// Whether both wake the same. Of two wakers of tasks it is known; of one of a task and one
-    /// from outside it never is.
+    /// Whether both wake the same. Of two wakers of tasks that is known; of one of a task and one from outside it never is.
     fn will_wake(&self, other: &Self) -> bool
         ensures yes { IsTrue result → WakeTheSame W.is_same self.now other.now }
         ensures tells { Tells W.is_same self.now other.now result }

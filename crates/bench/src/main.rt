@@ -52,7 +52,7 @@ fn main(rt: HostRuntime) -> ExitCode {
     match ended {
         Ok(()) => ExitCode::SUCCESS,
         Err(fault) => {
-            // A fault that can't be told still has its status.
+            // A fault that can't be printed still has its status.
             let _ = eprintln!(rt; "{fault}");
             ExitCode::from(fault.status())
         }
@@ -98,7 +98,7 @@ fn list<R: Print>(rt: &R) -> Result<(), Fault> {
     Ok(())
 }
 
-/// Runs a workload, and prints its line. What it moved is told on standard error, so that no compiler leaves it out.
+/// Runs a workload, and prints its line. What it moved is printed on standard error, so that no compiler leaves it out.
 fn time<L, P, J, R>(rt: &R, realms: &Realms<R>, workload: Workload, ops: u64) -> Result<(), Fault>
 where
     L: Chain<R> + Future<Waker<R>, Output = u64> + Drop,

@@ -55,8 +55,8 @@ where
     }
 }
 
-/// Polls the future on this thread until it is ready, and answers its output. Between two polls the thread parks until
-/// its waker is woken. For want of memory for the parker the future comes back, never polled.
+/// Polls the future on this thread until it is ready, and answers its output. Between two polls the thread parks until its waker
+/// is woken. For want of memory for the parker the future comes back, never polled.
 pub fn block_on<K, F, R: Wait>(rt: &R, alloc: Global, future: F) -> Result<F::Output, F>
 where
     K: From<ThreadWaker> + Drop,
@@ -78,15 +78,15 @@ where
     unreachable!()
 }
 
-/// What a thread sees to between two polls of its future, before it parks: a timer, say.
+/// What a thread drives between two polls of its future, before it parks: a timer, for example.
 pub trait Beside<K> {
-    /// Sees to it, without a wait. Answers for how long the thread may park at most. Where something is to be seen to before that,
-    /// the waker is woken.
+    /// Drives it, without a wait. Answers for how long the thread may park at most. Where it has to be driven before that, the
+    /// waker is woken.
     fn turn(&self, waker: &K) -> Option<Duration>;
 }
 
-/// `block_on` on a thread that sees to something else between two polls. It parks until its waker is woken, and no longer than that
-/// says.
+/// As `block_on`, on a thread that drives something else between two polls. It parks until its waker is woken, and at most as long
+/// as that says.
 pub fn block_on_beside<K, F, B: Beside<K>, R: Wait + Clock>(
     rt: &R,
     alloc: Global,

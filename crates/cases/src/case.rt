@@ -1,4 +1,4 @@
-//! One script, and what is owed for it.
+//! One script, and what it has to show.
 
 ghost use Rattle.std.specs.Prelude.{◌≡◌, ◌↔◌, true};
 ghost use Rattle.cases.specs.Owed.{Meets};
@@ -32,7 +32,7 @@ impl<'a> Case<'a> {
         Some((case, rest))
     }
 
-    /// Whether what was shown is what is owed.
+    /// Whether what was shown is what the script has to show.
     pub fn is_met_by(&self, shown: &Shown) -> bool
         ensures { (result ≡ true) ↔ Meets self.now.text.now self.now.bad_line shown.now }
     {

@@ -1,8 +1,8 @@
-//! Plays scripts with what is owed for them, by families, and says how many show it.
+//! Plays scripts beside what they have to show, by families, and says how many show it.
 //!
-//! `cases` plays all of its `data/`, a line a family, and the first script of a family that doesn't show what is owed, with
-//! both texts; then lists that seeds make, of which each executor shows what the step machine does; then, of each family, a few
-//! scripts of which one has a wrong line, and lists of which one is wrong. `cases FAMILY FILE` plays one file, `cases lists` the lists.
+//! `cases` plays all of its `data/`, a line a family, and the first script of a family that doesn't show what it has to, with both
+//! texts; then lists that seeds make, of which each executor shows what the step machine does; then, of each family, a few scripts
+//! of which one has a wrong line, and lists of which one is wrong. `cases FAMILY FILE` plays one file, `cases lists` the lists.
 #![tactic(auto)]
 
 mod case;
@@ -52,7 +52,7 @@ fn main(rt: HostRuntime) -> ExitCode {
     match ended {
         Ok(()) => ExitCode::SUCCESS,
         Err(fault) => {
-            // A fault that can't be told still has its status.
+            // A fault that can't be printed still has its status.
             let _ = eprintln!(rt; "{fault}");
             ExitCode::from(fault.status())
         }
@@ -120,7 +120,7 @@ fn is_all_alike(ended: Result<(), Fault>) -> Result<bool, Fault> {
     }
 }
 
-/// Plays the scripts of files, one file behind the other. The error is `Differs` where one doesn't show what is owed.
+/// Plays the scripts of files, one file behind the other. The error is `Differs` where one doesn't show what it has to.
 fn play_files<E, T, R>(
     rt: R,
     players: &mut Players<E, T>,

@@ -1,4 +1,4 @@
-//! How many scripts of a text show what is owed, and the first that doesn't.
+//! How many scripts of a text show what they have to, and the first that doesn't.
 
 use crate::case::Case;
 use crate::family::Family;
@@ -17,11 +17,11 @@ use std::sync::Wait;
 pub struct Verdict<'a> {
     pub agreed: u64,
     pub all: u64,
-    /// The first that doesn't show what is owed.
+    /// The first that doesn't show what it has to.
     pub first: Option<Difference<'a>>,
 }
 
-/// A script that shows something else than is owed.
+/// A script that shows something else than it has to.
 #[derive(Drop)]
 pub struct Difference<'a> {
     /// Which one of its file, from 1 on.

@@ -6,8 +6,8 @@ use Rattle.combinators.specs.declared.first_of_three.Either3.{Either3}
 use Rattle.combinators.specs.declared.first_of_three.Either3.TheVariants.{First, Second, Third}
 
 module _ {A X B Y C Z : Type 0} where
-  -- pending, and three are kept; or one is ready, and none is kept: those behind it come back as they were, unpolled. Polled once
-  -- more it is pending
+  -- pending, and all three are kept; or one is ready, and none is kept: those after it come back as they were, unpolled. Polled
+  -- once more it is pending
   abbrev pub HasSelected3 :
       Option (A × B × C) → Option (A × B × C) → Poll (Either3 (X × B × C) (Y × A × C) (Z × A × B)) → Type 0
   HasSelected3 None new answer = (answer ≡ Pending) × (new ≡ None)

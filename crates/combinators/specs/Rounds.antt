@@ -12,7 +12,7 @@ module _ {F : Type 0} where
   abbrev pub HasCome : ℕ → F → List (Numbered F) → List (Numbered F) → Type 0
   HasCome number future old new = new ≡ old ++ record { number = number; future = future } ∷ []
 
-  -- so many from the front were polled, are pending, and come last now, in their order. Those behind them are as they were
+  -- this many from the front were polled, are pending, and come last now, in their order. Those after them are as they were
   pub record HaveGone (count : ℕ) (old new : List (Numbered F)) : Type 0 where
     pub polled : List (Numbered F)
     pub behind : List (Numbered F)
@@ -22,8 +22,8 @@ module _ {F : Type 0} where
     pub same : numbers pending ≡ numbers polled
     pub counted : length polled ≡ count
 
-  -- the future of this number is gone. Those before it were polled, are pending, and come last now, in their order. Those behind it are
-  -- as they were
+  -- the future of this number is gone. Those before it were polled, are pending, and come last now, in their order. Those after it
+  -- are as they were
   pub record HasGone (number : ℕ) (old new : List (Numbered F)) : Type 0 where
     pub polled : List (Numbered F)
     pub done : Numbered F

@@ -4,8 +4,9 @@ use crate::part::{give, go_on, is_done};
 use async_task::{Future, Poll};
 use waiting::Awaited;
 
-/// Is ready once all four are, with their outputs. A poll polls each that isn't ready yet, in order. A future is dropped as soon as
-/// its output came, which is kept until all are there. Polled again it is pending. Dropped, it drops what it has.
+/// A future that is ready once all four are ready, with their outputs. A poll polls each that isn't ready yet, in order. A future
+/// is dropped as soon as its output came, which is kept until all are there. Polled again it is pending. Dropped, it drops what it
+/// has.
 #[derive(Drop)]
 pub struct Join4<A, X, B, Y, C, Z, D, V> {
     pub(crate) first: Awaited<A, X>,

@@ -9,11 +9,11 @@ pub enum RecvTimeoutError {
     Stopped,
     /// The channel is closed, and no message is left.
     Closed,
-    /// There was no memory for a place among those who wait.
+    /// There was no memory for a place among the waiters.
     NoMemory,
 }
 
-/// So that `?` takes it to an `io::Result`.
+/// Lets `?` convert it to an `io::Error`.
 impl From<RecvTimeoutError> for io::Error {
     ghost use Rattle.combinators.specs.Receiving.{kind_of};
     ghost use Rattle.std.specs.IoError.{error_kind};

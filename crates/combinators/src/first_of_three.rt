@@ -10,12 +10,12 @@ pub enum Either3<A, B, C> {
     Third(C),
 }
 
-/// What `Select3` is ready with: one's output, and the two others in their order.
+/// The output of `Select3`: that of one future, and the two others in their order.
 type Selected<A, X, B, Y, C, Z> = Either3<(X, B, C), (Y, A, C), (Z, A, B)>;
 
-/// Is ready as soon as one of three is, with its output and the two others in their order, which may be awaited on. Where several are
-/// ready it answers the one that comes first here, and doesn't poll those behind it. That one is dropped at once. Polled again it is
-/// pending. Dropped, it drops all three.
+/// A future that is ready as soon as one of three is ready, with its output and the two others in their order, which may be
+/// awaited on. Where several are ready it answers with the one that comes first here, and doesn't poll those after it. That one is
+/// dropped at once. Polled again it is pending. Dropped, it drops all three.
 #[derive(Drop)]
 pub struct Select3<A, B, C> {
     pub(crate) all: Option<(A, B, C)>,

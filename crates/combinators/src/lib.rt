@@ -1,5 +1,5 @@
-//! Several futures at once, for any waker: all of three or four, all or the first error, the first of three, many in the order in
-//! which they are done; and a receive that has only so much time.
+//! Several futures at once, for any waker: all of three or four, all or the first error, the first of three, and many in the order
+//! in which they are done. There is also a receive with a time limit.
 #![tactic(auto)]
 
 mod all_of_four;

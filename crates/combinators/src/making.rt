@@ -1,4 +1,4 @@
-//! The futures by the names of their functions.
+//! Functions that make the futures.
 ghost use Rattle.std.specs.Prelude.{◌≡◌, Some};
 ghost use Rattle.waiting.specs.declared.both.Awaited.TheVariants as awaited;
 
@@ -117,7 +117,7 @@ pub fn select3<A, B, C>(first: A, second: B, third: C) -> Select3<A, B, C>
     }
 }
 
-/// Receives a message in the time that this sleep takes. Takes no memory.
+/// Receives a message within the time of this sleep. Takes no memory.
 ///
 /// ```
 /// let mut timed = recv_timeout(receiver, timer.sleep(Duration::ZERO)?);

@@ -1,4 +1,4 @@
-//! What each of these futures has for one that it awaits: the future, and then its output. It is `Awaited` of `waiting`.
+//! The state that each of these futures has for one that it awaits: the future, and then its output. It is `Awaited` of `waiting`.
 ghost use Rattle.combinators.specs.Parts.{GoesOn, HasAsked, HasTried, is_done};
 ghost use Rattle.std.specs.Prelude.{◌≡◌, Some};
 ghost use Rattle.waiting.specs.Both.{output_of};
@@ -8,7 +8,7 @@ use async_task::{Future, Poll};
 use std::mem;
 use waiting::Awaited;
 
-/// Polls the future, where its output hasn't come yet. With its output it goes, at once.
+/// Polls the future, where its output hasn't come yet. With its output the future goes, at once.
 fn ask<K, F, T: Drop>(part: &mut Awaited<F, T>, waker: &K) -> Option<F::Output>
 where
     F: Future<K> + Drop,
@@ -34,7 +34,7 @@ where
     }
 }
 
-/// The same of a future that may fail: it keeps what is there, and answers an error.
+/// The same for a future that may fail: it keeps an output, and answers an error.
 pub fn try_to_go_on<K, F, T: Drop, E>(part: &mut Awaited<F, T>, waker: &K) -> Result<(), E>
 where
     F: Future<K, Output = Result<T, E>> + Drop,

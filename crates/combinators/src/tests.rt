@@ -1,4 +1,5 @@
-//! What no clause says: which futures a poll polls, when each is dropped, and that who gives up leaves all others as they were.
+//! What no clause says: which futures a poll polls, when each is dropped, and that a receiver that gives up leaves all others as
+//! they were.
 mod bell;
 mod children;
 mod joins;

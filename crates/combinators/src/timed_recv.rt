@@ -1,4 +1,4 @@
-//! A receive that has only so much time.
+//! A receive with a time limit.
 ghost use Rattle.async_task.specs.declared.poll.Poll.TheVariants as poll;
 ghost use Rattle.combinators.specs.Receiving.{HasReceived};
 ghost use Rattle.std.specs.Prelude.{◌≡◌, Err, None};
@@ -10,11 +10,11 @@ use timer::{Sleep, Stopped};
 use waiting::channel::{Receiver, RecvError};
 
 /// Receives a message within the time of a sleep: a future that is ready with the message, or with an error. It has the receiver
-/// itself, and so lies in a field of another. Where both are so it answers the message.
+/// itself, and so lies in a field of another. Where the message is there and the time is up, it answers the message.
 ///
-/// Once it is ready it waits no more: a call that came for it went on to the next who waits. It may be polled again: then it receives
-/// the next message, in the time that is left, or in that of `set_sleep`. `give_up` is for who was told to wait and won't poll again
-/// yet. Dropped, it leaves those who wait and those who sleep.
+/// Once it is ready it waits no more: a notification that came for it went on to the next waiter. It may be polled again: then it
+/// receives the next message, in the time that is left, or in that of `set_sleep`. After a pending poll, a caller that won't poll
+/// again yet calls `give_up`. Dropped, it leaves the waiters and the sleepers.
 #[derive(Drop)]
 pub struct RecvTimeout<T: Drop, A: Wake + Drop, B: Wake + Drop, R: Wait + Copy + Drop> {
     pub(crate) receiver: Receiver<T, A, B, R>,
@@ -22,7 +22,7 @@ pub struct RecvTimeout<T: Drop, A: Wake + Drop, B: Wake + Drop, R: Wait + Copy +
 }
 
 impl<T: Drop, A: Wake + Drop, B: Wake + Drop, R: Wait + Copy + Drop> RecvTimeout<T, A, B, R> {
-    /// Another sleep limits what is received from now on. The one before is dropped. It takes no memory.
+    /// Another sleep limits the receives from now on. The sleep before is dropped. It takes no memory.
     pub fn set_sleep(&mut self, sleep: Sleep<B, R>)
         ensures sleep { self.new.sleep ≡ sleep }
         ensures same { self.new.receiver ≡ self.old.receiver }
@@ -30,7 +30,8 @@ impl<T: Drop, A: Wake + Drop, B: Wake + Drop, R: Wait + Copy + Drop> RecvTimeout
         self.sleep = sleep;
     }
 
-    /// Waits for no message any more: a call that came for it goes on to the next who waits. It may receive again. It takes no memory.
+    /// Waits for no message any more: a notification that came for it goes on to the next waiter. It may receive again. It takes
+    /// no memory.
     pub fn give_up(&mut self)
         ensures waits_not { self.new.receiver.waiting ≡ None }
         ensures channel { (self.new.receiver.shared ≡ self.old.receiver.shared) × (self.new.receiver.ended ≡ self.old.receiver.ended) }
@@ -50,7 +51,7 @@ impl<T: Drop, A: Wake + Drop, B: Wake + Drop, R: Wait + Copy + Drop> RecvTimeout
         Poll::Ready(Err(error))
     }
 
-    /// The receiver, which waits for no message. It takes no memory.
+    /// Takes out the receiver, which waits for no message. It takes no memory.
     pub fn into_receiver(self) -> Receiver<T, A, B, R>
         ensures waits_not { result.waiting ≡ None }
         ensures same { result.shared ≡ self.receiver.shared }
@@ -69,7 +70,7 @@ impl<T: Drop, A: Wake + Drop, B: Wake + Drop, R: Wait + Copy + Drop> Future<B>
     for RecvTimeout<T, A, B, R> {
     type Output = Result<T, RecvTimeoutError>;
 
-    /// It takes memory where it has to wait.
+    /// A poll takes memory where it has to wait.
     fn poll(&mut self, waker: &B) -> Poll<Result<T, RecvTimeoutError>>
         ensures { HasReceived self.new.receiver.waiting self.new.sleep self.new.receiver.ended result }
     {

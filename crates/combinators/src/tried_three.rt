@@ -6,9 +6,10 @@ use crate::part::{give, is_done, try_to_go_on};
 use async_task::{Future, Poll};
 use waiting::Awaited;
 
-/// Is ready once all three are, with their outputs; or at the first error, with that, and then it drops at once the other futures, and
-/// what came of them. A poll polls each that isn't ready yet, in order, up to one that fails. A future is dropped as soon as its
-/// output came, which is kept until all are there. Polled again it is pending. Dropped, it drops what it has.
+/// A future that is ready once all three are ready, with their outputs; or at the first error, with that. Then it drops the other
+/// futures at once, and what came of them. A poll polls each that isn't ready yet, in order, up to one that fails. A future is
+/// dropped as soon as its output came, which is kept until all are there. Polled again it is pending. Dropped, it drops what it
+/// has.
 #[derive(Drop)]
 pub struct TryJoin3<A, X, B, Y, C, Z> {
     pub(crate) first: Awaited<A, X>,

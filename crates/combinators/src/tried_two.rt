@@ -6,9 +6,9 @@ use crate::part::{give, is_done, try_to_go_on};
 use async_task::{Future, Poll};
 use waiting::Awaited;
 
-/// Is ready once both are, with both outputs; or at the first error, with that, and then it drops at once the other future, or what
-/// came of it. A poll polls each that isn't ready yet, in order, up to one that fails. A future is dropped as soon as its output came,
-/// which is kept until both are there. Polled again it is pending. Dropped, it drops what it has.
+/// A future that is ready once both are ready, with both outputs; or at the first error, with that. Then it drops the other future
+/// at once, or what came of it. A poll polls each that isn't ready yet, in order, up to one that fails. A future is dropped as
+/// soon as its output came, which is kept until both are there. Polled again it is pending. Dropped, it drops what it has.
 #[derive(Drop)]
 pub struct TryJoin<A, X, B, Y> {
     pub(crate) first: Awaited<A, X>,

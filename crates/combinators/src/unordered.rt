@@ -13,12 +13,12 @@ pub struct Numbered<F> {
     pub future: F,
 }
 
-/// Futures of one type, whose outputs come in the order in which they are done. After `FuturesUnordered` of `futures`, and what `JoinSet`
-/// of `tokio` is used for. Each has a number, which its output comes with.
+/// Futures of one type, whose outputs come in the order in which they are done. After `FuturesUnordered` of `futures`, and what
+/// `JoinSet` of `tokio` is used for. Each has a number, with which its output comes.
 ///
-/// A poll polls one after the other, until one is ready: that one is dropped at once. Each that is pending goes behind all others, so
-/// those that weren't polled come first at the next poll. Where none is ready it has polled each once. So it does at each wake, since
-/// all are polled with the one waker of who awaits them. Dropped, it drops those that are left.
+/// A poll polls one after the other, until one is ready: that one is dropped at once. Each that is pending goes to the end, so
+/// those that weren't polled come first at the next poll. Where none is ready it has polled each once. It does so at each wake,
+/// since all are polled with the one waker of the task that awaits them. Dropped, it drops those that are left.
 ///
 /// ```
 /// let mut futures = FuturesUnordered::new(rt.alloc());
@@ -30,20 +30,20 @@ pub struct Numbered<F> {
 /// ```
 #[derive(Drop)]
 pub struct FuturesUnordered<F> {
-    // The one that is polled next is the first.
+    // The future that is polled next is the first.
     futures: VecDeque<Numbered<F>>,
     next: u64,
 }
 
-/// Awaits the next that is done: a future that is ready with its number and output, or with None where there is no future. Dropped, it
-/// leaves all there.
+/// Awaits the next future that is done. It is ready with that one's number and output, or with None where there is no future.
+/// Dropped, it leaves all there.
 #[derive(Drop)]
 pub struct Next<'a, F> {
     futures: &'a mut FuturesUnordered<F>,
 }
 
 impl<F: Drop> FuturesUnordered<F> {
-    /// With no future. It takes no memory.
+    /// Makes it with no future. It takes no memory.
     pub fn new(alloc: Global) -> Self
         ensures { result.futures.items ≡ [] }
     {
@@ -53,8 +53,8 @@ impl<F: Drop> FuturesUnordered<F> {
         }
     }
 
-    /// One more, which comes last. Answers its number, one above that of the one before. It takes memory; where there is none it comes
-    /// back, and so it does once 2^64 - 1 were pushed.
+    /// Appends a future. Answers its number, one above that of the one before. It takes memory; where there is none the future
+    /// comes back, and so it does once 2^64 - 1 were pushed.
     pub fn push(&mut self, future: F) -> Result<u64, F>
         ensures last { IfOk result (λ number. HasCome number future self.old.futures.items self.new.futures.items) }
         ensures number { IfOk result (λ number. (number ≡ self.old.next) × (number < self.new.next)) }
@@ -72,14 +72,14 @@ impl<F: Drop> FuturesUnordered<F> {
         Ok(number)
     }
 
-    /// How many there are.
+    /// How many futures there are.
     pub fn len(&self) -> usize
         ensures { result ≡ length self.now.futures.items }
     {
         self.futures.len()
     }
 
-    /// Whether there is none.
+    /// Whether there is no future.
     pub fn is_empty(&self) -> bool
         ensures { result ≡ (length self.now.futures.items == 0) }
     {
@@ -106,8 +106,8 @@ impl<F: Drop> FuturesUnordered<F> {
         }
     }
 
-    /// Polls them in turn until one is ready, for a future that has them in a field: its number and output. None where there is no
-    /// future. It takes no memory.
+    /// Polls them in turn until one is ready, for a future that has them in a field. Answers its number and output, or None where
+    /// there is no future. It takes no memory.
     pub fn poll_next<K>(&mut self, waker: &K) -> Poll<Option<(u64, F::Output)>>
     where
         F: Future<K>,
@@ -126,7 +126,7 @@ impl<F: Drop> FuturesUnordered<F> {
         }
     }
 
-    /// Awaits the next that is done.
+    /// Awaits the next future that is done.
     pub fn next(&mut self) -> Next<'_, F> {
         Next { futures: self }
     }

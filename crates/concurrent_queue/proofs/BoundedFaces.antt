@@ -1,4 +1,4 @@
--- What equal words of a ring tell of the counts. n is the number of places, m the mark above their indexes.
+-- What equal words of a ring say of the counts. n is the number of places, m the mark above their indexes.
 use Rattle.std.proofs.Common.{◌≡◌, ℕ, zero, ◌+◌, ◌*◌, ◌/◌, ◌%◌, ◌<◌, ◌≤◌, ◌-◌, ◌==◌, ◌^◌, suc, nat_lt, bit_or, bit_and, Bool, if◌then◌else◌}
 use Rattle.std.proofs.Common.{true, false, sym, refl, ap, ap₂, ◌∙◌, subst, mod-lt, zero-mul, div-add-mod', arith}
 use native.Mathlib.Nat.{add-mod_right}

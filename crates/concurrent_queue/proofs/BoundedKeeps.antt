@@ -27,8 +27,8 @@ use Rattle.concurrent_queue.proofs.BoundedCells.{put_here, holder, rank, at_most
 use Rattle.concurrent_queue.proofs.BoundedCells.{seats_stay, views_keep}
 
 module _ (n m : ℕ) (s : IsShape n m) where
-  -- what the stamp of a place tells of its round: none is below a free one, none whose item was written is below a full one,
-  -- and none of the lap before is below one that a displacement finds
+  -- what the stamp of a place says of its round: none is below a free one, none whose item was written is below a full one, and
+  -- none of the lap before is below one that a displacement finds
   free_tells : (p x q : ℕ) → q % n ≡ p % n → (ph : Phase) → x + back m ph ≡ word_at n m q + above ph → x ≡ word_at n m p → p ≤ q
   free_tells p x q same free e is = let z = (one_place n m s p q 0 0 same (omega arith) (omega arith) (omega arith)).0 in omega arith
   free_tells p x q same (writing j) e is = let z = (one_place n m s p q 0 0 same (omega arith) (omega arith) (omega arith)).0 in omega arith
@@ -280,7 +280,7 @@ module _ {T : Type 0} (n m : ℕ) where
       then (doing SawHead r.popped 0 y 0 me.0.mark me.0.closed (me.0.found ++ y ∷ [])) (le_refl r.popped, r.head_is)
       (r.each_view id me.0 at) ((λ hit. absurd (miss hit)), λ _. (r.popped, refl)))
 
-  -- the ring is full at this moment, and its oldest item is taken for an append that is owed
+  -- the ring is full at this moment, and its oldest item is taken for an append that has to follow
   pub displaces : (c id : ℕ) (me : Known T) (old new : ℕ) → me.0.stage ≡ SawStamp → old + 2 * m ≡ me.0.word
       → me.0.stamp + 2 * m ≡ me.0.word + 1 → new ≡ next_at n m old
       → Allows (BoundedRule {T = T} n m) c id me 16 (λ y. either (eqb y old) new y) (displaced old me)
@@ -327,7 +327,7 @@ module _ {T : Type 0} (n m : ℕ) where
       then (record me.0 { found = me.0.found ++ y ∷ [] }) (r.each_seat id me.0 at) (r.each_view id me.0 at)
       ((λ hit. absurd (miss hit)), λ _. refl))
 
-  -- the append that is owed: the tail is still where the displacement saw it, with its mark or without
+  -- the append that has to follow: the tail is still where the displacement saw it, with its mark or without
   pub advances : (c id : ℕ) (me : Known T) (by : ℕ) → me.0.stage ≡ Forcing → me.0.word + by ≡ next_at n m me.0.word
       → IsPlaceWord n m me.0.word
       → Allows (BoundedRule {T = T} n m) c id me 0 (λ y. (y + by) % 18446744073709551616) (advanced me)

@@ -1,6 +1,6 @@
--- The rule of the ring that threads share, and what each of its steps tells. n is the number of places, m the mark.
--- Word 0 is the tail, word 16 the head, and word i + 32 the stamp of the place i. Each place is in some round p with
--- p % n = i, and its stamp is what `shows` says.
+-- The rule of the ring that threads share, and what each of its steps shows. n is the number of places, m the mark. Word 0 is the
+-- tail, word 16 the head, and word i + 32 the stamp of the place i. Each place is in some round p with p % n = i, and its stamp is
+-- what `shows` says.
 use Rattle.std.specs.Prelude.{◌≡◌, ◌≢◌, ℕ, ◌+◌, ◌-◌, ◌*◌, ◌%◌, ◌<◌, ◌≤◌, Bool, true, List, [], ◌∷◌, ◌++◌, length, Option, Some, None}
 use Rattle.std.specs.Prelude.{slice_index_or}
 use mathlib.Core.Option.{some}
@@ -166,7 +166,7 @@ module _ {T : Type 0} where
   displaced old me r me' =
       (r ≡ old → (x : T) × (me' ≡ (entered Forcing me r, (me.0.place, Some x) ∷ me.1))) × (r ≢ old → looked me r me')
 
-  -- the append that a displacement owed
+  -- the append that has to follow a displacement
   abbrev pub advanced : Known T → ℕ → Known T → Type 0
   advanced me r me' = (me' ≡ (record (entered Swapping me r) { closed = is_marked me.0.mark r }, me.1)) × IsStillShut me r
 

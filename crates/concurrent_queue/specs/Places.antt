@@ -13,7 +13,7 @@ pub record AreLeft (filled : List Bool) (at left : ℕ) : Type 0 where
       → slice_index_or filled k false ≡ false
 
 module _ {T : Type 0} where
-  -- the items of so many places from this one on, of n in all
+  -- the items of this many places from this one on, of n in all
   abbrev pub items_from : List (Option T) → ℕ → ℕ → ℕ → List T
   items_from places n at zero = []
   items_from places n at (suc left) =

@@ -1,5 +1,4 @@
--- The rule of the single slot that threads share, and what each of its steps tells. A word is a sum: locked 1, pushed 2,
--- closed 4.
+-- The rule of the single slot that threads share, and what each of its steps shows. A word is a sum: locked 1, pushed 2, closed 4.
 use Rattle.std.specs.Prelude.{◌≡◌, ◌≢◌, ℕ, ◌+◌, ◌*◌, ◌≤◌, nat_lt, Bool, true, false, if◌then◌else◌, List, [], ◌∷◌, ◌++◌, Option, Some, None}
 use mathlib.Core.Option.{some, none}
 use mathlib.Core.Option as maybe

@@ -49,7 +49,7 @@ fn new_words(alloc: Global, capacity: usize) -> Result<Vec<u64>, NoMemory>
 }
 
 impl<T> Bounded<T> {
-    /// A ring of so many places. One of 2^60 places is larger than any memory.
+    /// Makes a ring of this many places. One of 2^60 places is larger than any memory.
     pub fn new(alloc: Global, capacity: usize) -> Result<Bounded<T>, NoMemory>
         requires { 0 < capacity }
         ensures { IfOk result (λ ring. ring.shape.capacity ≡ capacity) }
@@ -65,7 +65,7 @@ impl<T> Bounded<T> {
         Ok(Bounded { board, shape })
     }
 
-    /// A new seat, for calls of `seated::bounded`. It has no bytes.
+    /// Makes a new seat, for calls of `seated::bounded`. It has no bytes.
     ///
     /// The word that it is taken by is one that no call writes, so that a pop doesn't look where pushes write.
     #[inline(always)]
@@ -137,8 +137,8 @@ impl<T> Bounded<T> {
         Places::new(self.board.close(), first)
     }
 
-    /// Its length and whether it is closed, each read at a moment of its own. It waits for nobody, and answers `None`
-    /// where the tail moved at each of many tries.
+    /// Its length and whether it is closed, each read at its own moment. It waits for nobody, and answers `None` where the tail
+    /// moved at each of many tries.
     pub(crate) fn glimpse(&self) -> Option<Glimpse>
         ensures { IfSome result (λ glimpse. glimpse.len ≤ self.now.shape.capacity) }
     {

@@ -19,9 +19,9 @@ use std::sync::Wait;
 /// It moves between threads, and is shared by them, where `T` moves. A contract sees its capacity alone, since other
 /// threads may change the rest at any moment. Its drop drops each item that is left, once.
 ///
-/// `bounded` asks for the allocator and a capacity from 1 to 2^60 - 1, and takes all places. `unbounded` takes memory at pushes. Most
-/// calls ask for a runtime value, `R: Wait`, since they may wait for another thread. A push is refused by a full queue, by a closed
-/// one and for want of memory, and gives its item back. A ring or a chain accepts 2^61 items in its life: the push of one more closes
+/// `bounded` asks for the allocator and a capacity from 1 to 2^60 - 1, and takes all places. `unbounded` takes memory at pushes.
+/// Most calls ask for a runtime value, `R: Wait`, since they may wait for another thread. A full queue, a closed queue and want of
+/// memory refuse a push, and its item comes back. A ring or a chain accepts 2^61 items in its life: the push of one more closes
 /// it.
 ///
 /// From `queue` of `examples`:
@@ -40,7 +40,7 @@ pub struct ConcurrentQueue<T> {
     kept: Kept<T>,
 }
 
-// Written out, so that crates above call it, and prove the drops of all its parts no second time.
+// Written out, so that crates above call it, and don't prove the drops of all its parts once more.
 impl<T: Drop> Drop for ConcurrentQueue<T> {
     fn drop(self) {
         let ConcurrentQueue { kept } = self;
@@ -66,7 +66,7 @@ impl<T> Model for ConcurrentQueue<T> {
 }
 
 impl<T> ConcurrentQueue<T> {
-    /// A queue that holds at most `cap` items, whose places are taken here: a single slot for 1, a ring for more.
+    /// Makes a queue that holds at most `cap` items, whose places are taken here: a single slot for 1, a ring for more.
     ///
     /// A capacity that no buffer can have is refused as want of memory too.
     pub fn bounded(alloc: Global, cap: usize) -> Result<ConcurrentQueue<T>, NoMemory>
@@ -81,7 +81,7 @@ impl<T> ConcurrentQueue<T> {
         Ok(ConcurrentQueue { kept })
     }
 
-    /// A queue without a limit, in blocks of 31 items. It takes no memory until the first push.
+    /// Makes a queue without a limit, in blocks of 31 items. It takes no memory until the first push.
     pub fn unbounded(alloc: Global) -> ConcurrentQueue<T>
         ensures { result.capacity ≡ None }
     {
@@ -92,7 +92,7 @@ impl<T> ConcurrentQueue<T> {
 
     /// Appends a value. A refused value comes back, and this call has changed nothing.
     ///
-    /// A closed queue answers `Closed`, also where it is full, and else a full one `Full`. Only an unbounded queue takes
+    /// A closed queue answers `Closed`, also where it is full; a full open one answers `Full`. Only an unbounded queue takes
     /// memory, and answers `NoMemory` where there is none. The push of item 2^61 + 1 closes a ring or a chain instead.
     #[inline]
     pub fn push<R: Wait>(&self, rt: &R, value: T) -> Result<(), PushError<T>>
@@ -130,7 +130,7 @@ impl<T> ConcurrentQueue<T> {
         }
     }
 
-    /// Closes the queue to pushes, and says whether this call did so. The items stay, and may be popped.
+    /// Closes the queue to pushes, and answers whether this call did so. The items stay, and may be popped.
     pub fn close<R: Wait>(&self, rt: &R) -> bool {
         match &self.kept {
             Kept::Single(slot) => slot.close(),
@@ -179,7 +179,7 @@ impl<T> ConcurrentQueue<T> {
         }
     }
 
-    /// How many items the queue may hold, as `bounded` was told, or `None` where it is unbounded.
+    /// How many items the queue may hold, as `bounded` was passed, or `None` where it is unbounded.
     pub fn capacity(&self) -> Option<usize>
         ensures { result ≡ self.now.capacity }
     {
@@ -190,15 +190,15 @@ impl<T> ConcurrentQueue<T> {
         }
     }
 
-    /// An iterator that pops. It takes nothing out by itself, and several may walk beside one another.
+    /// An iterator that pops. It takes out an item only at `next`, and several iterators may walk at the same time.
     pub fn try_iter<'a, R: Wait>(&'a self, rt: &'a R) -> TryIter<'a, T, R>
         ensures { walked_queue result ≡ self.now }
     {
         TryIter::new(self, rt)
     }
 
-    /// Takes the queue apart. What it still held comes, oldest first, and then its memory goes back: this ends a queue also
-    /// where items may not be dropped.
+    /// Takes the queue apart. It answers what the queue still held, oldest first, and then gives the memory back. This also ends a
+    /// queue whose items may not be dropped.
     pub fn take_apart(self) -> Remains<T> {
         let ConcurrentQueue { kept } = self;
         match kept {

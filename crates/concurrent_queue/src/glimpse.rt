@@ -1,4 +1,4 @@
-//! What the text of a queue shows of it, without waiting.
+//! What the text of a queue shows of it, without a wait.
 ghost use Rattle.std.specs.Prelude.{◌≡◌, length};
 
 use queue_steps::Representation;
@@ -41,7 +41,7 @@ impl Glimpse {
     }
 }
 
-/// Stands in a text for what is under a lock that isn't free.
+/// Stands in a text for a value under a lock that isn't free.
 pub struct Locked;
 
 impl fmt::Debug for Locked {

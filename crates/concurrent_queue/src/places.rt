@@ -7,7 +7,7 @@ use atomic_table::Closed;
 use std::alloc::Global;
 use std::marker::Model;
 
-/// The places, of which so many from `at` on were not looked at yet.
+/// The places, of which this many from `at` on were not looked at yet.
 pub struct Places<T> {
     closed: Closed<Option<T>, Global>,
     at: usize,

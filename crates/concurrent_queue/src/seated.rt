@@ -1,7 +1,7 @@
 //! The running calls of slot and ring, each lent the queue, which has the table, and a seat at it.
 //!
-//! A seat's view keeps the words that the steps of its call found, and each call answers what `steps` gives for them. It
-//! keeps too what its calls found closed or closed: that stays closed, and nothing is accepted by such a seat.
+//! A seat's view keeps the words that the steps of its call found, and each call answers what `steps` gives for them. It also
+//! keeps whether its calls found the queue closed or closed it. That stays so, and nothing is accepted through such a seat.
 //!
 //! A `Single` or a `Bounded` has the table, its field `board`, and gives seats, as in `queue` of `examples`:
 //!

@@ -30,7 +30,7 @@ pub struct Single<T> {
 }
 
 impl<T> Single<T> {
-    /// An empty slot.
+    /// Makes an empty slot.
     pub fn new(alloc: Global) -> Result<Single<T>, NoMemory> {
         match Table::vacant(alloc, &[0], 1, &()) {
             Ok((board, _)) => Ok(Single { board }),
@@ -38,7 +38,7 @@ impl<T> Single<T> {
         }
     }
 
-    /// A new seat, for calls of `seated::single`. It has no bytes.
+    /// Makes a new seat, for calls of `seated::single`. It has no bytes.
     #[inline(always)]
     pub fn seat(&self) -> Pass<T>
         ensures { IsSeatOf self.now.board.shared result }
@@ -95,7 +95,7 @@ impl<T> Single<T> {
         Places::new(self.board.close(), 0)
     }
 
-    /// Its length and whether it is closed, each read at a moment of its own.
+    /// Its length and whether it is closed, each read at its own moment.
     pub(crate) fn glimpse(&self) -> Glimpse
         ensures { result.len ≤ 1 }
     {

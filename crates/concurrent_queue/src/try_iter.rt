@@ -15,7 +15,7 @@ use std::sync::{Forever, Wait};
 pub struct TryIter<'a, T, R: Wait> {
     queue: &'a ConcurrentQueue<T>,
     rt: &'a R,
-    // The measure of a loop over it, which no run uses up.
+    // The measure of a loop over it, which no run of the loop uses up.
     turns: Forever<'a, R>,
 }
 

@@ -1,4 +1,4 @@
-//! The chain that threads share: that of `queue_steps` under a lock, of which each call is one section.
+//! The chain that threads share: the chain of `queue_steps` under a lock, of which each call is one section.
 ghost use Rattle.std.specs.Prelude.{◌≡◌, None, false};
 ghost use Rattle.concurrent_queue.specs.SharedQueue.{MayPush, MayForcePush};
 
@@ -18,14 +18,14 @@ pub struct Unbounded<T> {
 }
 
 impl<T> Unbounded<T> {
-    /// An empty chain, which has no block yet.
+    /// Makes an empty chain, which has no block yet.
     pub(crate) fn new(alloc: Global) -> Unbounded<T> {
         Unbounded {
             chain: Mutex::new(Chain::new(alloc)),
         }
     }
 
-    /// Takes the lock. It is tried first, where nothing waits.
+    /// Takes the lock. It tries first, which doesn't wait.
     #[inline(always)]
     fn locked<R: Wait>(&self, rt: &R) -> MutexGuard<'_, Chain<T>> {
         match self.chain.try_lock() {

@@ -41,8 +41,8 @@ impl Asks {
 }
 
 impl<F: Planned<R>, R: Runtime + Abort> Stage<F, R> {
-    /// Takes each lock of the executor when it is asked: the table's, the sleepers', and that of the runs' queues. Says whether it was
-    /// told to stop.
+    /// Takes each lock of the executor when it is asked: the table's, the sleepers', and that of the runs' queues. Answers whether
+    /// it was asked to stop.
     pub fn takes_locks(&self) -> bool {
         let asks = &self.notes.asks;
         for _ in 0..MOST_TURNS {
@@ -88,7 +88,7 @@ impl<F: Planned<R>, R: Runtime + Abort> Stage<F, R> {
         is_well & self.try_tick() & self.is_empty()
     }
 
-    /// Lets a tick lie down and be told, cancels what it polled, and says whether all was as it has to be.
+    /// Lets a tick fall asleep and be notified, cancels what it polled, and answers whether all was as it has to be.
     fn tick_and_ask(&self) -> bool {
         let mut tick = self.tick();
         let lies = (self.poll(&mut tick) == End::Pending) & (self.poll(&mut tick) == End::Pending);

@@ -50,7 +50,7 @@ fn the_text_of_an_executor(rt: HostRuntime) -> Result<(), Fail> {
     Ok(())
 }
 
-/// Uses each lock of the executor again and again until it is told to stop, and says whether it was.
+/// Uses each lock of the executor again and again until it is asked to stop, and answers whether it was.
 fn use_locks<F: Planned<R>, R: Runtime + Abort>(stage: &Stage<F, R>, is_over: &AtomicBool) -> bool {
     for _ in 0..MOST_TURNS {
         if is_over.load(SeqCst) {

@@ -12,7 +12,7 @@ use Rattle.jobs.specs.declared.job.Answer.{Answer}
 use Rattle.jobs.specs.declared.results.Back.{Back}
 use Rattle.jobs.specs.declared.results.Back.TheVariants.{Never, Once}
 
--- the jobs in front of this place came back once each, with these answers
+-- the jobs before this place came back once each, with these answers
 pub record AreAnswered (jobs : List Job) (backs : List Back) (index : ℕ) (answers : List Answer) : Type 0 where
   pub counted : length answers ≡ index
   pub back : (k : ℕ) → k < index → IsBack backs k
@@ -35,7 +35,7 @@ AreAnswered-push jobs backs index answers answer all_right all so_far here =
 pub AreAnswered-all : (jobs : List Job) (backs : List Back) (index : ℕ) (answers : List Answer) → length jobs ≤ index → AreAnswered jobs backs index answers → answers ≡ map answer_of jobs
 AreAnswered-all jobs backs index answers all so_far = so_far.right ∙ ap (map answer_of) (take_all index jobs all)
 
--- of none of them anything came back
+-- for none of them anything came back
 pub never : (count number : ℕ) → number < count → slice_get (replicate count Never) number ≡ Some Never
 never count number within =
     slice_get-get_or (replicate count Never) number Never (rw length-replicate within) ∙ ap Some (get_or-replicate count number Never Never within)

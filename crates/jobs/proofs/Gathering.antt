@@ -14,7 +14,7 @@ use Rattle.jobs.specs.declared.job.Solved.{Solved}
 use Rattle.jobs.specs.declared.results.Back.{Back}
 use Rattle.jobs.specs.declared.results.Back.TheVariants.{Never, Once, Often}
 
--- the test of two jobs tells which is so
+-- the test of two jobs says which holds
 abbrev Told : Bool → Job → Job → Type 0
 Told true there job = there ≡ job
 Told false there job = there ≢ job
@@ -35,7 +35,7 @@ told (Mul a b) (Mul c d) = go (nat_eq a c) refl (nat_eq b d) refl
     go false first true second = λ same. grind (arith, nat_tests, first, same)
     go false first false second = λ same. grind (arith, nat_tests, first, same)
 
--- a job that comes back once more is told of once more
+-- a job that comes back once more is noted once more
 tells_more : (answer : Answer) (back : Back) (times : ℕ) → Tells back times → Tells (once_more answer back) (times + 1)
 tells_more answer Never times told = omega (arith, told)
 tells_more answer (Once before) times told = omega (arith, told)
@@ -123,7 +123,7 @@ AreCounts-next_list jobs now new times returned index item items same within is 
 pub AreCounts-all : (backs : List Back) (times more : ℕ → ℕ) → ((number : ℕ) → times number ≡ more number) → AreCounts backs times → AreCounts backs more
 AreCounts-all backs times more same counts = λ number back at. Tells-same back (times number) (more number) (same number) (counts number back at)
 
--- what is noted of none is told of none
+-- what is noted of none is counted for none
 pub AreCounts-never : (backs : List Back) (count : ℕ) → length backs ≡ count → ((number : ℕ) → number < count → slice_get backs number ≡ Some Never) → AreCounts backs (λ number. 0)
 AreCounts-never backs count all never = λ number back at.
     let within : number < count = omega (arith, all, slice_get_within backs number back at) in

@@ -10,7 +10,7 @@ use Rattle.text_lines.proofs.Zipping.{length-AllZip}
 use Rattle.jobs.specs.declared.job.Job.{Job}
 use Rattle.jobs.specs.Lines.{Spells, IsShort, Says, IsGood, IsFirstBadLine}
 
--- the good lines of a text in front of those that are left, and what they say
+-- the good lines of a text before those that are left, and what they say
 pub record HasParsed (jobs : List Job) (text : List ℕ) (left : List (List ℕ)) : Type 0 where
   pub front : List (List ℕ)
   pub parts : lines_of text ≡ front ++ left

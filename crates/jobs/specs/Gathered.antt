@@ -37,12 +37,12 @@ pub record IsLeastMissing (jobs : List Job) (returned : List (Vec Solved Global)
   pub missing : times_back jobs returned number ≢ 1
   pub before : (earlier : ℕ) → earlier < number → times_back jobs returned earlier ≡ 1
 
--- what is noted of a job that came back so often
+-- what is noted of a job that came back this often
 abbrev pub Tells : Back → ℕ → Type 0
 Tells Never times = times ≡ 0
 Tells (Once answer) times = times ≡ 1
 Tells Often times = 2 ≤ times
 
--- what is noted of each job, where it came back so often
+-- what is noted of each job, where it came back this often
 abbrev pub AreCounts : List Back → (ℕ → ℕ) → Type 0
 AreCounts backs times = (number : ℕ) (back : Back) → slice_get backs number ≡ Some back → Tells back (times number)

@@ -39,7 +39,7 @@ pub record Says (text : List ℕ) (jobs : List Job) : Type 0 where
   pub short : All IsShort (lines_of text)
   pub few : length (lines_of text) ≤ 100000
 
--- a line says a job behind this many others
+-- a line says a job after this many others
 pub record IsGood (before : ℕ) (line : List ℕ) : Type 0 where
   pub within : before < 100000
   pub short : IsShort line

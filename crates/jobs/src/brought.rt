@@ -1,4 +1,4 @@
-//! What came back to a worker, which only what its desk brought can be.
+//! What came back to a worker. Only what its desk brought can be among it.
 use crate::Solved;
 use crate::desk::{Awaits, Desk};
 use async_task::{NoMemory, Poll};
@@ -34,7 +34,7 @@ pub struct Log<D: Desk + Drop> {
 }
 
 impl<D: Desk + Drop> Log<D> {
-    /// Of this desk, from which nothing came back yet.
+    /// Makes a log for this desk, from which nothing came back yet.
     pub fn new(alloc: Global, desk: D) -> Self {
         Log {
             alloc,

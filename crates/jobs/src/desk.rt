@@ -1,5 +1,5 @@
-//! What a worker's future knows of the place where it begins jobs and awaits them. A `Worker` is proved for any such place, so
-//! what it answers came from there.
+//! What a worker's future knows of the place where it begins jobs and awaits them. A `Worker` is proved for any such place, so its
+//! answers came from there.
 use crate::Solved;
 use async_task::{NoMemory, Poll};
 
@@ -25,7 +25,7 @@ pub trait Awaits<K>: Desk {
     ghost use Rattle.jobs.specs.declared.job.Solved.{Solved};
     ghost use Rattle.jobs.specs.Bringing.{given_by};
 
-    /// Awaits the handle of the job that was begun last, where one is awaited: the job that came back, once it did.
+    /// Awaits the handle of the job that was begun last, where one is awaited. Answers the job that came back, once it did.
     fn bring(&mut self, waker: &K) -> Poll<Result<Option<Solved>, NoMemory>>
         ensures kept { (before : List Solved) → Self.has_brought self.old before → Self.has_brought self.new before }
         ensures came { (before : List Solved) → Self.has_brought self.old before →

@@ -1,4 +1,4 @@
-/// Why a list of jobs has no answers. Where several causes are there, the first of these is told.
+/// Why a list of jobs has no answers. Where there are several causes, it is the first of these.
 #[derive(Clone, Copy, Debug, PartialEq, Eq)]
 pub enum JobsError {
     /// A worker's thread couldn't be started.

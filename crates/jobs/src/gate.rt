@@ -1,4 +1,4 @@
-/// What stands at the first poll of each job.
+/// What each job meets at its first poll.
 pub trait Gate {
     /// Is called once for each job, by the worker that polls it first.
     fn meet(&self, job: u64);

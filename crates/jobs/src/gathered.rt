@@ -9,7 +9,7 @@ use crate::job::{Answer, Job, Solved};
 use crate::results::Results;
 use std::alloc::Global;
 
-/// The answers of these jobs, in order, where each came back once in all of these lists, else the first that didn't.
+/// The answers of these jobs, in order, where each came back once in all of these lists; else the first job that didn't.
 pub fn gather(
     alloc: Global,
     jobs: &[Job],

@@ -2,7 +2,7 @@
 ghost use Rattle.std.specs.Prelude.{◌≡◌, ◌≤◌, ℕ};
 ghost use Rattle.jobs.specs.Answers.{answer_of};
 
-/// What is to be worked out.
+/// The work of a job.
 #[derive(Clone, Copy, Debug, PartialEq, Eq)]
 pub enum Job {
     /// 0 + 1 + .. + n, for an n of at most `LARGEST_SUM`.
@@ -14,11 +14,11 @@ pub enum Job {
 /// The largest n of a sum.
 pub const LARGEST_SUM: u64 = 1_000_000;
 
-/// What a job comes to.
+/// The result of a job.
 #[derive(Clone, Copy, Debug, PartialEq, Eq)]
 pub enum Answer {
     Value(u64),
-    /// The answer is no u64.
+    /// The answer doesn't fit a u64.
     TooLarge,
 }
 

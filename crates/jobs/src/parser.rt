@@ -14,9 +14,9 @@ const LONGEST_LINE: usize = 256;
 /// How many lines there may be.
 const MOST_LINES: usize = 100_000;
 
-/// The jobs that a text says, one a line: `sum <n>`, with an n of at most 1,000,000, or `mul <a> <b>`, with two u64; one blank
-/// between words, digits alone, at most 20 of them. There are at most 100,000 lines of at most 256 bytes; the last may lack its
-/// newline. `BadLine` names the first bad line.
+/// The jobs of a text, one a line: `sum <n>`, with an n of at most 1,000,000, or `mul <a> <b>`, with two u64. There is one blank
+/// between words, and numbers have digits alone, at most 20 of them. There are at most 100,000 lines of at most 256 bytes; the
+/// last may lack its newline. `BadLine` names the first bad line.
 pub fn parse(alloc: Global, text: &[u8]) -> Result<Vec<Job>, ParseError>
     ensures jobs { IfOk result (λ jobs. Says text.now jobs.items) }
     ensures only { (jobs : List Job) → Says text.now jobs → IfOk result (λ read. read.items ≡ jobs) }
@@ -55,7 +55,7 @@ fn read_line(line: &[u8]) -> Option<Job>
     }
 }
 
-/// The job that these words say behind `sum`, where they say one.
+/// The job that these words after `sum` say, where they say one.
 fn read_sum(mut words: Words<'_>) -> Option<Job>
     ensures found { IfSome result (λ job. IsSpelled job (codes "sum" ∷ words.entry)) }
     ensures none { IfNone result ((job : Job) → ¬ (IsSpelled job (codes "sum" ∷ words.entry))) }
@@ -64,7 +64,7 @@ fn read_sum(mut words: Words<'_>) -> Option<Job>
     (words.is_empty() && last <= LARGEST_SUM).then_some(Job::Sum(last))
 }
 
-/// The job that these words say behind `mul`, where they say one.
+/// The job that these words after `mul` say, where they say one.
 fn read_product(mut words: Words<'_>) -> Option<Job>
     ensures found { IfSome result (λ job. IsSpelled job (codes "mul" ∷ words.entry)) }
     ensures none { IfNone result ((job : Job) → ¬ (IsSpelled job (codes "mul" ∷ words.entry))) }

@@ -1,6 +1,6 @@
-//! Where jobs are done, as code over any runtime type may know it. Such code gets no proof of calls with what holds handles,
-//! nor of threads that call what holds a realm: so it is generic over a `JobSite`, and a program that has its runtime value says
-//! which that is.
+//! Where jobs are done, as code over any runtime type may know it. Rattle proves no calls of such code with what holds handles,
+//! nor threads that call what holds a realm. So the code is generic over a `JobSite`, and a program that has its runtime value
+//! says which that is.
 ghost use Rattle.std.specs.Prelude.{All};
 ghost use Rattle.jobs.specs.Answers.{IsInRange};
 
@@ -32,7 +32,7 @@ pub trait Labor<R: Wait> {
 
 /// Where jobs are done.
 pub trait JobSite<R: Runtime>: Labor<R> {
-    /// What stands at the first poll of each job.
+    /// What each job meets at its first poll.
     type Gate: Gate;
 
     /// A place with these jobs, numbered from 0, none of which is begun.

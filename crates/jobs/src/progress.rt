@@ -28,7 +28,7 @@ struct Sum {
 }
 
 impl Progress {
-    /// Of this job nothing is worked out yet.
+    /// Makes the progress of this job, of which nothing is worked out yet.
     pub fn new(number: u64, job: Job) -> Self
         requires { IsInRange job }
         ensures number { result.number ≡ number }
@@ -49,8 +49,8 @@ impl Progress {
         self.number
     }
 
-    /// Works out a product, or adds the next 1,000 terms of a sum, or what is left of them. The job with its answer, once that
-    /// is there.
+    /// Works out a product, or adds the next 1,000 terms of a sum, or what is left of them. Answers the job with its answer, once
+    /// that is there.
     pub fn step(&mut self) -> Option<Solved>
         ensures solved { IfSome result (λ solved.
             (solved.number ≡ self.old.number) × (solved.job ≡ self.old.job)) }
@@ -105,7 +105,7 @@ impl Sum {
     }
 }
 
-/// So many terms from this one on, added up: half the sum of the first and the last, for each of them.
+/// This many terms from this one on, added up: half the sum of the first and the last, for each of them.
 fn sum_of_terms(first: u64, count: u64) -> u64
     requires first { first ≤ 1000000 }
     requires count { count ≤ 1000 }

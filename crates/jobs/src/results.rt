@@ -26,7 +26,7 @@ pub struct Results<'a> {
 }
 
 impl<'a> Results<'a> {
-    /// Of these jobs nothing came back yet.
+    /// Notes of these jobs, of which nothing came back yet.
     pub fn new(alloc: Global, jobs: &'a [Job]) -> Result<Self, AllocError>
         ensures jobs { IfOk result (λ results. results.jobs.now ≡ jobs.now) }
         ensures none { IfOk result (λ results.

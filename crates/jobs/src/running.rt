@@ -13,7 +13,7 @@ use std::marker::PhantomData;
 use std::sync::Wait;
 use std::thread::{self, Promise, Threads};
 
-/// Does jobs on worker threads, and answers what each comes to, in order. At most 100,000 jobs and 1 to 64 workers.
+/// Does jobs on worker threads, and answers the result of each, in order. At most 100,000 jobs and 1 to 64 workers.
 ///
 /// 1. The jobs are pushed into an unbounded queue, which is closed. Each worker's thread runs a future that pops a job, spawns
 ///    it on one executor, awaits its handle and pops the next.
@@ -53,7 +53,7 @@ enum Refusal {
     NoMemory,
 }
 
-/// That a thread comes back with what this place brings.
+/// The promise that a thread comes back with what this place brings.
 struct WorkOf<'a, P, R>(&'a P, PhantomData<R>);
 
 impl<P, R> Drop for WorkOf<'_, P, R> {
@@ -68,7 +68,7 @@ impl<P: Labor<R>, R: Wait> Promise<Result<Vec<Solved>, NoMemory>> for WorkOf<'_,
     ghost kept_by = { λ promise ended. IfOk ended (P.brings promise.0.now) };
 }
 
-/// Starts the workers, and joins those that were started. What came back to each.
+/// Starts the workers, and joins those that were started. Answers what came back to each.
 fn work_together<P: Labor<R> + Sync, R: Threads + Sync + Wait>(
     rt: &R,
     alloc: Global,

@@ -15,7 +15,7 @@ use std::sync::Wait;
 /// Where the jobs of executors lie. One is enough for a program.
 pub type JobRealm<R> = ExRealm<Solved, ThreadWaker, R>;
 
-/// What workers are polled with.
+/// The wakers that workers are polled with.
 pub type JobWaker<R> = ExWaker<Solved, ThreadWaker, R>;
 
 /// A job and its number.
@@ -43,9 +43,9 @@ pub(crate) struct Awaited {
     number: u64,
 }
 
-/// What a worker finds where it looks for its next job.
+/// What a worker finds when it looks for its next job.
 pub(crate) enum Next {
-    /// It was spawned, and is to be awaited.
+    /// The job was spawned, and has to be awaited.
     Begun(Awaited),
     /// None is left.
     NoneLeft,
@@ -81,7 +81,7 @@ impl<G: Gate + Copy + Drop, R: Runtime> Site<G, R> {
         }
     }
 
-    /// Polls a job that was begun and is due, if one is, and says whether one was.
+    /// Polls a begun job that has to be polled, if there is one, and answers whether there was.
     pub fn try_tick(&self) -> bool {
         self.executor.try_tick()
     }

@@ -17,7 +17,7 @@ pub struct SiteDesk<'e, G: Drop, R: Runtime> {
 }
 
 impl<'e, G: Drop, R: Runtime> SiteDesk<'e, G, R> {
-    /// At this site.
+    /// Makes a desk at this site.
     pub fn at(site: &'e Site<G, R>) -> Self {
         SiteDesk {
             site,

@@ -4,8 +4,8 @@ use async_task::{Future, NoMemory, Poll};
 use std::alloc::Global;
 use std::sync::Wait;
 
-/// A worker's future: it begins a job, awaits its handle, and begins the next. Where no job is left it is ready, with those that
-/// came back to it; where it met a want of memory it is ready with that.
+/// A worker's future: it begins a job, awaits its handle, and begins the next. Where no job is left it is ready, with the jobs
+/// that came back to it. Where memory was lacking it is ready with that.
 #[derive(Drop)]
 pub struct Worker<D: Desk + Drop, R> {
     rt: R,
@@ -13,7 +13,7 @@ pub struct Worker<D: Desk + Drop, R> {
 }
 
 impl<D: Desk + Drop, R> Worker<D, R> {
-    /// At this desk.
+    /// Makes a worker at this desk.
     pub fn at(rt: R, alloc: Global, desk: D) -> Self {
         Worker {
             rt,

@@ -21,7 +21,7 @@ module _ {S O : Type 0} where
   IsAwaited may old new polls.Pending =
       IsSomeAnd old (λ before. IsSomeAnd new (λ after. (output : O) → may after output → may before output))
 
-  -- it waits, and is as it was; or nobody hears of it, and it is gone
+  -- it waits, and is as it was; or it can't be woken any more, and is gone
   abbrev pub IsLeft : S → Option S → Poll (Result O AwaitError) → Type 0
   IsLeft old new (polls.Ready (Ok output)) = ⊥
   IsLeft old new (polls.Ready (Err (awaits.Closed _))) = new ≡ None

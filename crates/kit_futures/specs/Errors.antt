@@ -1,4 +1,4 @@
--- What comes back of a refusal, and what an error is to a program whose errors are the library's.
+-- The future that comes back of a refusal, and what an error is to a program whose errors are the library's.
 use Rattle.std.specs.declared.io.ErrorKind.{ErrorKind}
 use Rattle.std.specs.declared.io.ErrorKind.TheVariants.{OutOfMemory, BrokenPipe, UnexpectedEof}
 use Rattle.kit_futures.specs.declared.errors.EnterError.{EnterError}

@@ -46,13 +46,13 @@ module _ {K : Type 0} where
   IsTaken (Some (seat.Woken _)) = ⊤
   IsTaken (Some (seat.Waits _)) = ⊥
 
-  -- who has this seat waits
+  -- the owner of this seat waits
   abbrev pub IsWaiting : Option (Seat K) → Type 0
   IsWaiting (Some (seat.Waits _)) = ⊤
   IsWaiting (Some (seat.Woken _)) = ⊥
   IsWaiting None = ⊥
 
-  -- who has this seat was woken
+  -- the owner of this seat was woken
   abbrev pub WasWoken : Option (Seat K) → Type 0
   WasWoken (Some (seat.Woken _)) = ⊤
   WasWoken (Some (seat.Waits _)) = ⊥
@@ -71,7 +71,7 @@ module _ {K : Type 0} where
   HasTaken number old new taken.Waits = IsWaiting (at old number) × Same old new
   HasTaken number old new (taken.Closed _) = (at old number ≡ None) × Same old new
 
-  -- the waker was left in the place of the one before; or its call is owed or it came back, and all is as before
+  -- the waker was left in the place of the one before; or it has to be called, or it came back, and all is as before
   abbrev pub HasWaited : ℕ → K → Seats K → Seats K → Waited K → Type 0
   HasWaited number waker old new (waited.Left before) =
       (at old number ≡ Some (seat.Waits before)) × OnlyAt number (Some (seat.Waits (Some waker))) old new

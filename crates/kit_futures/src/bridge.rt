@@ -11,13 +11,13 @@ use std::io::{self, ErrorKind};
 use std::random::RandomSource;
 use std::sync::{Arc, Wait};
 
-/// Where futures of the library's are awaited. One thread hears of their wakes, and calls who awaits them. The type of the wakers is
-/// `K`.
+/// Where futures of the library's are awaited. One thread receives their wakes, and wakes who awaits them. The type of the wakers
+/// is `K`.
 ///
 /// Wakers are called and dropped with no lock held.
 ///
-/// In `threads` of `kit_tests` one thread awaits 125 futures and lets each fifth go, another sends each of them a 3, and a third hears
-/// of the wakes:
+/// In `threads` of `kit_tests` one thread awaits 125 futures and drops each fifth. Another sends each of them a 3, and a third
+/// receives the wakes:
 ///
 /// ```
 /// let bridge = Bridge::leak(rt, alloc)?;
@@ -53,8 +53,8 @@ impl<K: Wake + Drop, R: Wait + Copy + Drop> Bridge<K, R> {
         })
     }
 
-    /// A bridge that lies there as long as the program runs. It takes memory, and the library's queue draws a number, by which wakers
-    /// tell queues apart.
+    /// Makes a bridge that lies there as long as the program runs. It takes memory, and the library's queue draws a number, by
+    /// which wakers tell queues apart.
     pub fn leak<'r>(rt: R, alloc: Global) -> io::Result<&'r Self>
     where
         K: 'r,
@@ -66,8 +66,8 @@ impl<K: Wake + Drop, R: Wait + Copy + Drop> Bridge<K, R> {
         Ok(Box::leak(bridge))
     }
 
-    /// Hears of wakes on this thread until the bridge is closed, and sleeps between. For want of memory it hears of none, and answers
-    /// so at once: close the bridge then, so that who awaits is told.
+    /// Receives wakes on this thread until the bridge is closed, and sleeps between. For want of memory it receives none, and
+    /// answers so at once: close the bridge then, so that who awaits is woken.
     pub fn hear(&'static self) -> Result<(), NoMemory> {
         let Ok(_hold) = self.queue.hold() else {
             return Err(NoMemory);
@@ -80,8 +80,8 @@ impl<K: Wake + Drop, R: Wait + Copy + Drop> Bridge<K, R> {
         unreachable!()
     }
 
-    /// Waits for one wake, and calls who awaits the future that was woken. False where the bridge is closed, or no future is there to
-    /// wait for. It takes no memory.
+    /// Waits for one wake, and wakes who awaits the future that was woken. False where the bridge is closed, or no future is there
+    /// to wait for. It takes no memory.
     pub fn turn(&'static self) -> bool {
         let Some(cx) = self.queue.next(&self.rt) else {
             return false;
@@ -94,7 +94,8 @@ impl<K: Wake + Drop, R: Wait + Copy + Drop> Bridge<K, R> {
         true
     }
 
-    /// Closes the bridge: who awaits is called and told, `hear` returns, and nothing is awaited here any more. It takes no memory.
+    /// Closes the bridge: whoever awaits is woken and gets an error, `hear` returns, and nothing is awaited here any more. It
+    /// takes no memory.
     pub fn close(&self) {
         let seats = self.table.lock(&self.rt).close(self.alloc);
         self.queue.shut_down();
@@ -103,7 +104,7 @@ impl<K: Wake + Drop, R: Wait + Copy + Drop> Bridge<K, R> {
         }
     }
 
-    /// A seat for one more future, which is woken at once, so that it is polled.
+    /// Makes a seat for one more future, which is woken at once, so that it is polled.
     pub(crate) fn enter(&self) -> Result<Place<K, R>, Refused>
         ensures { IfOk result (λ place. arc_value place.table ≡ arc_value self.now.table) }
     {

@@ -34,7 +34,7 @@ pub struct Compat<F: futures::Future, K: Wake + Drop, R: Wait + Copy + Drop> {
     awaited: Option<Awaited<F, K, R>>,
 }
 
-/// The seat goes before the future, so that nobody is called for the wakers that the future lets go.
+/// The seat goes before the future, so that nobody is called for the wakers that the future drops.
 #[derive(Drop)]
 struct Awaited<F: futures::Future, K: Wake + Drop, R: Wait + Copy + Drop> {
     place: Place<K, R>,

@@ -17,7 +17,7 @@ pub enum EnterError<F> {
 /// Why a future of the library's gives no output.
 #[derive(Debug, Drop, Error)]
 pub enum AwaitError {
-    /// Nobody hears of it any more. It was dropped.
+    /// The bridge is closed: no wake of the future arrives any more. It was dropped.
     #[error("the bridge is closed")]
     Closed(BridgeClosed),
     /// It gave its output, or an error, at an earlier poll.
@@ -38,7 +38,7 @@ impl<F> EnterError<F> {
     }
 }
 
-/// So that `?` takes it to an `io::Result`.
+/// Lets `?` convert it to an `io::Error`.
 impl<F: Drop> From<EnterError<F>> for io::Error {
     ghost use Rattle.kit_futures.specs.Errors.{kind_of_enter};
 
@@ -52,7 +52,7 @@ impl<F: Drop> From<EnterError<F>> for io::Error {
     }
 }
 
-/// So that `?` takes it to an `io::Result`.
+/// Lets `?` convert it to an `io::Error`.
 impl From<AwaitError> for io::Error {
     ghost use Rattle.kit_futures.specs.Errors.{kind_of_await};
 

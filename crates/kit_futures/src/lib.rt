@@ -1,4 +1,4 @@
-//! A future of the library's `futures`, awaited on an executor of these crates: one thread hears of the wakes of all of them.
+//! A future of the library's `futures`, awaited on an executor of these crates: one thread receives the wakes of all of them.
 #![tactic(auto)]
 
 mod bridge;

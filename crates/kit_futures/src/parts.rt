@@ -1,4 +1,4 @@
-//! What stands under a bridge's lock, and the tokens of its calls.
+//! The parts under a bridge's lock, and the tokens of its calls.
 mod carried;
 mod seats;
 mod turn;

@@ -1,4 +1,4 @@
-//! A future that may be polled. The library has the same of its own, not to be named here.
+//! A future that may be polled. The library has its own such type, which can't be named here.
 ghost use Rattle.std.specs.Prelude.{◌≡◌};
 
 use crate::parts::{Ended, Parked, Ticket, Turn};
@@ -12,12 +12,12 @@ pub struct Pollable<F: Future> {
     ghost can_poll: { ∥ F.can_poll future ∥₁ },
 }
 
-/// What a poll gave.
+/// The outcome of a poll.
 #[must_use]
 pub enum Polled<F, T> {
     /// The output. Its task is still to be ended.
     Ready(T, Ended),
-    /// None yet: the future comes back, and is woken when it is worth another.
+    /// None yet: the future comes back, and is woken when another poll is worth while.
     Pending(F, Parked),
 }
 
@@ -40,7 +40,7 @@ impl<F: Future> Pollable<F> {
         future
     }
 
-    /// Polls it at this turn, which is one of its own.
+    /// Polls it at this turn, which is its own.
     pub fn poll(self, ticket: &Ticket, turn: Turn) -> Polled<Pollable<F>, F::Output>
         requires { number_of turn ≡ ticket.now.number }
         ensures { IsPolled ticket.now.number (λ pollable output. F.gives pollable.future output) self result }

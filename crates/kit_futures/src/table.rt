@@ -5,7 +5,7 @@ use crate::parts::Seats;
 use std::alloc::Global;
 use std::sync::{Mutex, MutexGuard, Wait};
 
-/// The seats that a bridge has. Of a lock contracts see nothing, so the table has a name, by which they tell one from another.
+/// The seats that a bridge has. Contracts don't see through a lock, so the table has a name, by which they tell one from another.
 #[derive(Drop)]
 pub struct Table<K: Drop> {
     name: u8,
@@ -13,7 +13,7 @@ pub struct Table<K: Drop> {
 }
 
 impl<K: Drop> Table<K> {
-    /// A table of its own, with no seats. The clause says nothing of its name, so that no two can be shown to be one.
+    /// A table of its own, with no seats. The clause says nothing of its name, so no two can be shown to be the same.
     pub fn new(alloc: Global) -> Self
         ensures { result ≡ result }
     {

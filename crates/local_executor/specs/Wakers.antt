@@ -20,14 +20,15 @@ module _ {W R : Type 0} where
   abbrev pub IsOfOneTask : LocalWaker W R → LocalWaker W R → Type 0
   IsOfOneTask a b = (a.task ≡ b.task) × (a.link.id ≡ b.link.id)
 
-  -- two of tasks are of one task; two from outside are as those say; one of each aren't known to
+  -- two of tasks are of one task; two from outside are as those answer; for one of each nothing is known
   abbrev pub WakeTheSame : (W → W → Type 0) → LocalExWaker W R → LocalExWaker W R → Type 0
   WakeTheSame is_same (Task a) (Task b) = IsOfOneTask a b
   WakeTheSame is_same (Outside a) (Outside b) = is_same a b
   WakeTheSame is_same (Task a) (Outside b) = ⊥
   WakeTheSame is_same (Outside a) (Task b) = ⊥
 
-  -- of a task's, the executor of this number keeps the name where the task is its own; where it is another executor's it is called
+  -- where a waker is of the executor's own task, the executor of this number keeps the task's name; where it is of another
+  -- executor's it is called
   abbrev pub IsCopyFor : (W → W → Type 0) → ℕ → LocalExWaker W R → Copied W → Type 0
   IsCopyFor is_same id (Outside waker) copied = IsCopyOf is_same waker copied
   IsCopyFor is_same id (Task waker) (Kept kept) = (kept ≡ OfTask waker.task) × (waker.link.id ≡ id)

@@ -1,11 +1,11 @@
-//! What an executor that ends and one that never does have in common.
+//! What an executor that ends and one that never does share.
 use crate::link::Link;
 use crate::store::Store;
 use async_task::Wake;
 use std::alloc::Global;
 use std::sync::Wait;
 
-/// The way to the lock, and the futures.
+/// The link to the lock, and the futures.
 #[derive(Drop)]
 pub struct Body<F: Drop, T: Drop, W: Wake + Drop, R: Wait + Copy + Drop> {
     pub link: Link<W, R>,

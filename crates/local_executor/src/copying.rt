@@ -11,7 +11,7 @@ use std::sync::Wait;
 /// A copy of a waker, for an executor to keep.
 #[must_use]
 pub enum Copied<W> {
-    /// This is kept.
+    /// This copy is kept.
     Kept(SoloWaker<Foreign<W>>),
     /// It is of a task of another executor, and was called.
     Called,
@@ -19,7 +19,7 @@ pub enum Copied<W> {
     Refused,
 }
 
-/// A copy of a waker for the executor that this leads to.
+/// Makes a copy of a waker for the executor of this link.
 pub fn copy_for<W: Wake + Drop, R: Wait + Copy + Drop>(
     link: &Link<W, R>,
     waker: &LocalExWaker<W, R>,

@@ -6,7 +6,7 @@ use solo::Kind;
 use std::fmt;
 use std::sync::Wait;
 
-/// Stands in a text for what is under a lock that isn't free.
+/// Stands in a text for a value under a lock that isn't free.
 struct Locked;
 
 impl fmt::Debug for Locked {
@@ -22,8 +22,8 @@ pub struct LocalRunners<'a, W: Drop, R: Drop> {
 }
 
 impl<W: Drop, R: Wait + Copy + Drop> LocalRunners<'_, W, R> {
-    /// The length of the queue at this place of the list, which is read with the lock taken for it alone: whoever writes the
-    /// text may be a user's. Some(None) past the last, None where the lock isn't free.
+    /// The length of the queue at this place of the list. The lock is taken for this read alone, since whoever writes the text may
+    /// be a user's. Some(None) past the last, None where the lock isn't free.
     pub(crate) fn length_in(&self, at: usize, unlocked: &mut Unlocked) -> Option<Option<usize>> {
         match self.link.try_lock(unlocked) {
             Some(mut locked) => Some(locked.get().run_length(at)),
@@ -88,7 +88,7 @@ fn counts_in<W>(tasks: &Tasks<W>, kind: Kind) -> Counts {
     }
 }
 
-/// Writes what a handle of this name shows: whether its task is finished, where that was to be had.
+/// Writes what a handle of this name shows: whether its task is finished, where that could be read.
 pub fn show_handle<O: fmt::Write>(
     name: &str,
     is_finished: Option<bool>,

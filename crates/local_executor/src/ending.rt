@@ -10,11 +10,11 @@ use executor_parts::EntryPlace;
 use solo::Owed;
 use std::sync::Wait;
 
-/// An executor ends.
+/// Ends an executor.
 ///
 /// 1. Takes all its futures from its tasks, and drops each, in the order of acceptance.
 /// 2. Wakes each of their tasks, in that order: it is queued, or was before.
-/// 3. Closes the queue, and closes each task in it: who awaits it is called.
+/// 3. Closes the queue, and closes each task in it: its awaiter is called.
 pub fn end<F: Drop, T: Drop, W: Wake + Drop, R: Wait + Copy + Drop>(
     link: Link<W, R>,
     futures: Futures<F, T>,
@@ -32,7 +32,7 @@ pub fn end<F: Drop, T: Drop, W: Wake + Drop, R: Wait + Copy + Drop>(
     unreachable!()
 }
 
-/// An executor is leaked: it counts no wakers of its own any more. Each that it counted is called, in the order of acceptance: its
+/// Leaks an executor: it counts no wakers of its own any more. Each that it counted is called, in the order of acceptance. So its
 /// task is queued, or was before. It takes no memory.
 pub fn leak<W: Wake + Drop, R: Wait + Copy + Drop>(link: &Link<W, R>, unlocked: &mut Unlocked) {
     sections::leak(link.lock(unlocked).get());
@@ -46,7 +46,7 @@ pub fn leak<W: Wake + Drop, R: Wait + Copy + Drop>(link: &Link<W, R>, unlocked: 
     unreachable!()
 }
 
-/// Does what one step of the end has handed out.
+/// Does what one step of the end leaves to be done.
 fn end_one<F: Drop, T: Drop, W: Wake + Drop, R: Wait + Copy + Drop>(
     link: &Link<W, R>,
     futures: &mut Futures<F, T>,

@@ -1,5 +1,5 @@
-//! What a user has and calls. Each call begins with nothing locked or open, which it says by an `Unlocked`: none but these can
-//! make one.
+//! The types and calls of the user. Each call begins with nothing locked or open, and makes an `Unlocked` to say so. Only these
+//! calls can make one.
 ghost use Rattle.std.specs.Prelude.{◌≡◌, ◌<◌, Some, IsSome, IfOk, IfErr, length};
 ghost use Rattle.std.specs.Iterator.{IsFinite};
 ghost use Rattle.solo.specs.Solo.{refused};
@@ -30,15 +30,15 @@ pub use static_executor::StaticLocalExecutor;
 pub use tick::LocalTick;
 pub use wakers::{LocalExWaker, LocalWaker};
 
-/// Says that a party has nothing of an executor locked or open. It has no bytes: who takes the lock or opens a store has it lent
-/// for as long, and what calls, copies or drops a value of a user's is lent it.
+/// Says that a party has nothing of an executor locked or open. It has no bytes. It is lent to whoever takes the lock or opens a
+/// store, for as long as that lasts. It is lent, too, to whatever calls, copies or drops a value of a user's.
 #[derive(Drop)]
 pub struct Unlocked {
     own: (),
 }
 
 impl Unlocked {
-    /// At the beginning of a call.
+    /// Makes one at the beginning of a call.
     fn at_entry() -> Unlocked {
         Unlocked { own: () }
     }
@@ -77,9 +77,9 @@ impl<F, T: Drop, W: Wake + Drop, R: Wait + Copy + Drop> LocalExecutor<F, T, W, R
 where
     F: Future<LocalExWaker<W, R>, Output = T> + Drop,
 {
-    /// An executor with places for so many futures. It keeps the runtime value and the allocator for its calls. All places of its
-    /// queue and its futures are taken here. Its number is 64 bits that `rt` draws: two of one program have the same one with a
-    /// chance of 1 in 2^64.
+    /// Makes an executor with places for this many futures. It keeps the runtime value and the allocator for its calls. It takes
+    /// the memory for all places of its queue and its futures. Its number is 64 bits that `rt` draws: two executors of one program
+    /// have the same number with a chance of 1 in 2^64.
     pub fn new(rt: R, alloc: Global, limit: usize) -> Result<Self, LocalError>
     where
         R: RandomSource,
@@ -98,8 +98,8 @@ where
     }
 
     /// Hands the executor a plain future. Its task is queued, and the handle is answered: a future with the output, whose drop
-    /// cancels the task. `Full` where as many accepted futures as the limit are not dropped yet, and only then want of memory
-    /// for the task. The future comes back.
+    /// cancels the task. Refused, the future comes back: with `Full` where as many accepted futures as the limit are not dropped
+    /// yet, else with `NoMemory` for want of memory for the task.
     pub fn spawn(&self, future: F) -> Result<LocalHandle<T, W, R>, SpawnError<F>>
         ensures back { IfErr result (λ error. refused error ≡ future) }
         ensures here { IfOk result (λ handle. handle.held.link.id ≡ self.now.body.link.id) }
@@ -117,9 +117,9 @@ where
         self.body.hand_in(future, mark, &mut Unlocked::at_entry())
     }
 
-    /// Hands the executor one plain future after the other, until the iterator ends or one is refused. The handles of those that
-    /// were accepted come last among these, in order, and the refused future comes back with the cause; the rest stays in the
-    /// iterator. The room for a handle is asked for before its future is spawned.
+    /// Hands the executor one plain future after the other, until the iterator ends or a future is refused. It appends the handles
+    /// of the accepted futures to these, in order. The refused future comes back with the cause; the rest stays in the iterator.
+    /// The room for a handle is taken before its future is spawned.
     pub fn spawn_many<I: Iterator<Item = F>>(
         &self,
         futures: &mut I,
@@ -143,12 +143,12 @@ where
         unreachable!()
     }
 
-    /// Runs one task, where one is queued, and says whether it did. It doesn't wait for one, and takes no memory.
+    /// Runs one task, where one is queued, and answers whether it did. It doesn't wait for one, and takes no memory.
     pub fn try_tick(&self) -> bool {
         self.body.run_one(&mut Unlocked::at_entry())
     }
 
-    /// A future that waits for a future of the executor which is to be polled, and polls it once.
+    /// Makes a future that waits for a future of the executor which has to be polled, and polls it once.
     pub fn tick(&self) -> Result<LocalTick<'_, F, T, W, R>, NoMemory>
         ensures here { IfOk result (λ tick. tick.executor.now ≡ self.now.body) }
         ensures ticker { IfOk result (λ tick. IsSome tick.ticker) }
@@ -156,7 +156,7 @@ where
         self.body.make_tick(&mut Unlocked::at_entry())
     }
 
-    /// A future that runs the executor's futures until this one is ready, and has its output then. For want of memory the
+    /// Makes a future that runs the executor's futures until this one is ready, and then has its output. For want of memory the
     /// future comes back.
     pub fn run<G>(&self, future: G) -> Result<LocalRun<'_, F, T, W, R, G>, G>
     where
@@ -193,7 +193,7 @@ where
 }
 
 impl<F: Drop, T: Drop, W: Wake + Drop, R: Wait + Copy + Drop> Drop for LocalExecutor<F, T, W, R> {
-    /// Drops each future, in the order of acceptance, and closes each task that isn't over: who awaits it is called. It takes no
+    /// Drops each future, in the order of acceptance, and closes each task that isn't over: its awaiter is called. It takes no
     /// memory.
     fn drop(self) {
         let LocalExecutor { body } = self;
@@ -206,8 +206,8 @@ impl<F: Drop, T: Drop, W: Wake + Drop, R: Wait + Copy + Drop> Drop for LocalExec
     }
 }
 
-/// How many futures have a waker in the table, how many tasks stand in the two queues, how many in each run's own, and how many ticks
-/// and runs sleep; `<locked>` for each where the lock isn't free.
+/// It shows how many futures have a waker in the table, and how many ticks and runs sleep. It shows how many tasks stand in the
+/// two queues, and in each run's own. It has `<locked>` for each where the lock isn't free.
 impl<F: Drop, T: Drop, W: Wake + Drop, R: Wait + Copy + Drop> fmt::Debug
     for LocalExecutor<F, T, W, R> {
     fn fmt<O: fmt::Write>(&self, f: &mut fmt::Formatter<O>) -> fmt::Result {
@@ -218,7 +218,7 @@ impl<F: Drop, T: Drop, W: Wake + Drop, R: Wait + Copy + Drop> fmt::Debug
 }
 
 impl<W: Drop, R: Wait + Copy + Drop> LocalRunners<'_, W, R> {
-    /// The length of the queue at this place, as a text comes to it.
+    /// The length of the queue at this place, as a text reads it.
     pub(crate) fn length_at(&self, at: usize) -> Option<Option<usize>> {
         self.length_in(at, &mut Unlocked::at_entry())
     }

@@ -6,12 +6,12 @@ ghost use Rattle.local_executor.specs.Kinds.{of_making, of_run};
 use std::io::{self, ErrorKind};
 use thiserror::Error;
 
-/// Why there is no new executor.
+/// Why no new executor was made.
 #[derive(Clone, Copy, Debug, PartialEq, Eq, Drop, Error)]
 pub enum LocalError {
     #[error("out of memory")]
     NoMemory,
-    /// The system gave no random bytes, of which an executor has its number.
+    /// The system gave no random bytes, from which an executor gets its number.
     #[error("no random number")]
     NoRandom,
 }
@@ -25,7 +25,7 @@ pub enum RunError {
     Finished,
 }
 
-/// So that `?` takes it to an `io::Result`.
+/// Lets `?` convert it to an `io::Error`.
 impl From<LocalError> for io::Error {
     ghost from_gives = { λ why error. error_kind error ≡ of_making why };
 
@@ -37,7 +37,7 @@ impl From<LocalError> for io::Error {
     }
 }
 
-/// So that `?` takes it to an `io::Result`.
+/// Lets `?` convert it to an `io::Error`.
 impl From<RunError> for io::Error {
     ghost from_gives = { λ why error. error_kind error ≡ of_run why };
 

@@ -1,12 +1,12 @@
-//! Values of a user's, which came out from under the lock or out of a store.
+//! Values of a user's that came out from under the lock or out of a store.
 ghost use Rattle.std.specs.Prelude.{◌≡◌};
 
 use crate::entry::Unlocked;
 use async_task::{Future, Poll, Wake};
 use std::marker::Model;
 
-/// A value of a user's, whose code runs only while nothing is locked or open. It has no drop: it is let go, or called, by who
-/// is lent an `Unlocked`. A contract sees the value.
+/// A value of a user's, whose code runs only while nothing is locked or open. It has no drop: a party that is lent an `Unlocked`
+/// drops or calls it. A contract sees the value.
 #[must_use]
 pub struct Foreign<X> {
     value: X,
@@ -26,7 +26,7 @@ impl<X> Foreign<X> {
         Foreign { value }
     }
 
-    /// The value, which is put under the lock or into a store, where none of its code runs.
+    /// Takes the value, to be put under the lock or into a store, where none of its code runs.
     pub fn into_stored(self) -> X
         ensures { result ≡ self }
     {
@@ -34,7 +34,7 @@ impl<X> Foreign<X> {
         value
     }
 
-    /// The value, which is given to the user.
+    /// Takes the value, to be given to the user.
     pub fn into_given(self) -> X
         ensures { result ≡ self }
     {
@@ -74,7 +74,7 @@ impl<X> Foreign<X> {
     }
 }
 
-/// The value that came out, where one did.
+/// Wraps the value that came out, where one did.
 #[inline(always)]
 pub fn came_out<X>(value: Option<X>) -> Option<Foreign<X>>
     ensures { result ≡ value }

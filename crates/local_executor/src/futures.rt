@@ -10,7 +10,7 @@ use crate::output::Output;
 use async_task::{Future, Poll};
 use executor_parts::EntryPlace;
 
-/// A future that is out of its entry, with the place of that. It has no drop: it is put back there, or let go.
+/// A future that was taken out of its entry, with the entry's place. It has no drop: it is put back there, or dropped.
 #[must_use]
 pub struct TakenOut<F> {
     place: EntryPlace,
@@ -42,7 +42,7 @@ pub fn take<F, T>(futures: &mut Futures<F, T>, place: EntryPlace) -> Option<Take
     }
 }
 
-/// Puts a future back into the entry that it was taken out of. Answers what has no place then.
+/// Puts a future back into the entry that it was taken out of. A future that has no place then comes back.
 #[inline(always)]
 pub fn put_back<F, T>(futures: &mut Futures<F, T>, taken: TakenOut<F>) -> Option<Foreign<F>>
     ensures over { result ≡ displaced taken.future (entry_in taken.place futures.old.entries) }
@@ -53,7 +53,7 @@ pub fn put_back<F, T>(futures: &mut Futures<F, T>, taken: TakenOut<F>) -> Option
     came_out(futures.put_back(place, future.into_stored()))
 }
 
-/// The entry at this place goes.
+/// Removes the entry at this place.
 #[inline(always)]
 pub fn leave<F, T>(futures: &mut Futures<F, T>, place: EntryPlace) -> Option<Left<F, T>>
     ensures parts { IfSome result (λ left. parts_of (entry_in place futures.old.entries) ≡ Some (left.future, left.output)) }

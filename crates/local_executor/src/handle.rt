@@ -1,4 +1,4 @@
-//! What each kind of handle has and does.
+//! What handles of all kinds have and do.
 ghost use Rattle.std.specs.Prelude.{◌≡◌, is_some};
 
 use crate::copying::{Copied, copy_for};
@@ -77,7 +77,7 @@ impl<T: Drop, W: Wake + Drop, R: Wait + Copy + Drop> Held<T, W, R> {
         self.leave(unlocked);
     }
 
-    /// Polls the handle. Where there is an answer already no waker is copied, so that such a poll takes no memory.
+    /// Polls the handle. Where there is an answer already it copies no waker, so that such a poll takes no memory.
     pub fn poll(&self, waker: &LocalExWaker<W, R>, unlocked: &mut Unlocked) -> Found<T> {
         let answer = sections::answer(self.link.lock(unlocked).get(), self.task);
         match answer {
@@ -98,7 +98,7 @@ impl<T: Drop, W: Wake + Drop, R: Wait + Copy + Drop> Held<T, W, R> {
         }
     }
 
-    /// What a poll has found. The waker that it was made with is let go where it isn't kept, if it is one.
+    /// What a poll has found. Where the waker that it was made with isn't kept, it is dropped.
     fn found(
         &self,
         polled: Polled<(), SoloWaker<Foreign<W>>>,
@@ -136,7 +136,7 @@ impl<T: Drop, W: Wake + Drop, R: Wait + Copy + Drop> Held<T, W, R> {
     }
 }
 
-/// Whether an output is to be dropped.
+/// Whether an output has to be dropped.
 pub fn drops_output<F, W>(owed: &Owed<F, (), W>) -> bool
     ensures { result ≡ is_some owed.now.output }
 {

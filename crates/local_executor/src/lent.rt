@@ -6,8 +6,8 @@ use async_task::Wake;
 use solo::Task;
 use std::sync::Wait;
 
-/// The waker of a task that is polled. It counts as none, since the task is there for as long as the poll goes. So it has no
-/// drop: it is taken apart.
+/// The waker of a task that is polled. It isn't counted, since the task is there for as long as the poll goes. So it has no drop:
+/// it is taken apart.
 #[must_use]
 pub struct LentWaker<W: Wake + Drop, R: Wait + Copy + Drop> {
     waker: LocalExWaker<W, R>,
@@ -17,7 +17,7 @@ impl<W: Wake + Drop, R: Wait + Copy + Drop> LentWaker<W, R> {
     ghost use Rattle.std.specs.Prelude.{◌≡◌};
     ghost use Rattle.local_executor.specs.declared.entry.wakers.LocalExWaker.TheVariants as waker;
 
-    /// Of the task that is about to be polled.
+    /// Makes the waker of the task that is about to be polled.
     #[inline(always)]
     pub fn of(link: Link<W, R>, task: Task) -> Self
         ensures { result.waker ≡ waker.Task (record { link = link; task = task }) }
@@ -27,7 +27,7 @@ impl<W: Wake + Drop, R: Wait + Copy + Drop> LentWaker<W, R> {
         }
     }
 
-    /// What the poll is lent.
+    /// What is lent to the poll.
     #[inline(always)]
     pub fn waker(&self) -> &LocalExWaker<W, R>
         ensures { result.now ≡ self.now.waker }
@@ -35,7 +35,7 @@ impl<W: Wake + Drop, R: Wait + Copy + Drop> LentWaker<W, R> {
         &self.waker
     }
 
-    /// The poll is over.
+    /// Ends it, as the poll is over.
     #[inline(always)]
     pub fn end(self, unlocked: &Unlocked) {
         let LentWaker { waker } = self;

@@ -1,4 +1,4 @@
-//! The way to the lock, and what follows a section once the lock is given back.
+//! The link to the lock, and what follows a section once the lock is released.
 ghost use Rattle.std.specs.Prelude.{◌≡◌, ◌==◌, None};
 
 use crate::entry::Unlocked;
@@ -11,7 +11,7 @@ use executor_parts::EntryPlace;
 use solo::{Dropped, Lent, Owed, SoloWaker, Task, Told};
 use std::sync::{Arc, Wait};
 
-/// The way of an executor, a handle or a waker to what they share.
+/// The link of an executor, a handle or a waker to what they share.
 #[derive(Drop)]
 pub struct Link<W: Drop, R: Drop> {
     shared: Shared<W>,
@@ -20,11 +20,11 @@ pub struct Link<W: Drop, R: Drop> {
     rt: R,
 }
 
-/// What is left once all is called that a call on a task hands out.
+/// What is left after the wakers are called that a call on a task hands out.
 struct Paid {
     /// A task that the queue has turned away.
     returned: Option<Task>,
-    /// What is finished once the future is dropped.
+    /// What has to be finished once the future is dropped.
     rest: Option<Lent>,
 }
 
@@ -37,7 +37,7 @@ impl<W: Drop, R: Wait + Copy + Drop> Link<W, R> {
         Link { shared, id, rt }
     }
 
-    /// One more. A count of 2^63 of them is out of reach: this waits there.
+    /// Makes one link more. A count of 2^63 of them is out of reach: this waits there.
     #[inline(always)]
     pub fn share(&self) -> Self
         ensures id { result.id ≡ self.now.id }
@@ -62,7 +62,7 @@ impl<W: Drop, R: Wait + Copy + Drop> Link<W, R> {
         self.rt
     }
 
-    /// Whether both lead to one executor.
+    /// Whether both links lead to one executor.
     pub fn is_to_the_same(&self, other: &Self) -> bool
         ensures { result ≡ (self.now.id == other.now.id) }
     {
@@ -80,14 +80,14 @@ impl<W: Drop, R: Wait + Copy + Drop> Link<W, R> {
         self.shared.try_lock(unlocked)
     }
 
-    /// One waker of a task more. False from 2^40 references on.
+    /// Counts one more waker of a task. False from 2^40 references on.
     pub fn hold(&self, task: Task, unlocked: &mut Unlocked) -> bool {
         sections::hold(self.lock(unlocked).get(), task)
     }
 }
 
 impl<W: Wake + Drop, R: Wait + Copy + Drop> Link<W, R> {
-    /// Wakes a task, and calls who is told of it.
+    /// Wakes a task, and calls the waker of the sleeper that has to be notified.
     #[inline(always)]
     pub fn wake(&self, task: Task, unlocked: &mut Unlocked) {
         let told = sections::wake(self.lock(unlocked).get(), task);
@@ -100,7 +100,7 @@ impl<W: Wake + Drop, R: Wait + Copy + Drop> Link<W, R> {
         self.pay_told(told, unlocked);
     }
 
-    /// One waker of a task less.
+    /// Counts one waker of a task less.
     pub fn release(&self, task: Task, unlocked: &mut Unlocked) {
         let told = sections::release(self.lock(unlocked).get(), task);
         self.pay_told(told, unlocked);
@@ -118,22 +118,22 @@ impl<W: Wake + Drop, R: Wait + Copy + Drop> Link<W, R> {
         self.turn_away(next, unlocked);
     }
 
-    /// What a queueing leaves.
+    /// Does what a queueing leaves to be done.
     #[inline(always)]
     pub fn pay_told(&self, told: Told<Foreign<W>>, unlocked: &mut Unlocked) {
         let next = wake_told(told, unlocked);
         self.turn_away(next, unlocked);
     }
 
-    /// What a tick leaves that goes.
+    /// Does what a dropped tick leaves to be done.
     pub fn pay_dropped(&self, dropped: Dropped<Foreign<W>>, unlocked: &mut Unlocked) {
         let Dropped { old, told } = dropped;
         self.pay_told(told, unlocked);
         let_go(old, unlocked);
     }
 
-    /// What a call on a task leaves, beside a future and an output. What is to be finished once the future is dropped is the
-    /// answer.
+    /// Does what a call on a task leaves to be done, except for a future and an output. Answers what has to be finished once the
+    /// future is dropped.
     #[inline(always)]
     pub fn pay(
         &self,
@@ -147,7 +147,7 @@ impl<W: Wake + Drop, R: Wait + Copy + Drop> Link<W, R> {
         rest
     }
 
-    /// The same, where nothing is to be finished.
+    /// The same, where nothing has to be finished.
     #[inline(always)]
     pub fn pay_all(&self, owed: Owed<EntryPlace, (), Foreign<W>>, unlocked: &mut Unlocked)
         requires { owed.rest ≡ None }
@@ -212,7 +212,7 @@ impl<W: Wake + Drop, R: Wait + Copy + Drop> Link<W, R> {
         }
     }
 
-    /// A task that the queue has turned away, if one was, loses its turn.
+    /// Takes its turn from a task that the queue has turned away, if there is one.
     #[inline(always)]
     fn turn_away(&self, task: Option<Task>, unlocked: &mut Unlocked) {
         if let Some(task) = task {
@@ -253,7 +253,7 @@ impl<W: Wake + Drop, R: Wait + Copy + Drop> Link<W, R> {
         }
     }
 
-    /// First who sleeps is called, as the original does, and then who awaits the task, or its waker dropped: it is never both,
+    /// First the sleeper is called, as in the original. Then the task's awaiter is called, or its waker dropped: it is never both,
     /// nor are two tasks turned away.
     #[inline(always)]
     fn paid(&self, owed: Owed<EntryPlace, (), Foreign<W>>, unlocked: &mut Unlocked) -> Paid
@@ -278,7 +278,7 @@ impl<W: Wake + Drop, R: Wait + Copy + Drop> Link<W, R> {
     }
 }
 
-/// Calls who sleeps, and answers what the queue has turned away.
+/// Calls the sleeper, and answers what the queue has turned away.
 #[inline(always)]
 fn wake_told<W: Wake + Drop>(told: Told<Foreign<W>>, unlocked: &Unlocked) -> Option<Task> {
     let Told { sleeper, returned } = told;

@@ -1,14 +1,14 @@
-//! The lock that an executor, its handles and its wakers share: who takes it has an `Unlocked` lent for as long.
+//! The lock that an executor, its handles and its wakers share. An `Unlocked` is lent to its holder for as long as it is taken.
 use crate::entry::Unlocked;
 use std::sync::{Mutex, MutexGuard, Wait};
 
-/// What is guarded by a lock that one party has at a time.
+/// A value behind a lock that one party has at a time.
 #[derive(Drop)]
 pub struct Guarded<T> {
     lock: Mutex<T>,
 }
 
-/// What a `Guarded` guards, until this is dropped.
+/// The value of a `Guarded`, until this is dropped.
 pub struct Locked<'a, T> {
     guard: MutexGuard<'a, T>,
     unlocked: &'a mut Unlocked,
@@ -21,7 +21,7 @@ impl<T> Guarded<T> {
         }
     }
 
-    /// Takes the lock. It is tried here first, as it is free but where another thread has it.
+    /// Takes the lock. It is tried here first, as it is free unless another thread has it.
     #[inline(always)]
     pub fn lock<'a, R: Wait>(&'a self, rt: &R, unlocked: &'a mut Unlocked) -> Locked<'a, T> {
         let guard = match self.lock.try_lock() {
@@ -41,7 +41,7 @@ impl<T> Guarded<T> {
 }
 
 impl<T> Locked<'_, T> {
-    /// What the lock guards.
+    /// The value that the lock guards.
     #[inline(always)]
     pub fn get(&mut self) -> &mut T {
         &mut *self.guard
@@ -49,7 +49,7 @@ impl<T> Locked<'_, T> {
 }
 
 impl<T> Drop for Locked<'_, T> {
-    /// Gives the lock back.
+    /// Releases the lock.
     #[inline(always)]
     fn drop(self) {
         let Locked { guard, unlocked: _ } = self;

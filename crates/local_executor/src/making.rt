@@ -18,7 +18,7 @@ use std::alloc::Global;
 use std::random::RandomSource;
 use std::sync::{Arc, Wait};
 
-/// What a new executor has.
+/// The parts of a new executor.
 pub fn body<F: Drop, T: Drop, W: Wake + Drop, R: RandomSource + Wait + Copy + Drop>(
     rt: R,
     alloc: Global,
@@ -63,7 +63,7 @@ where
         sections::is_empty(self.link.lock(unlocked).get())
     }
 
-    /// A tick, which is awake.
+    /// Makes a tick, which is awake.
     pub(crate) fn make_tick(
         &self,
         unlocked: &mut Unlocked,
@@ -81,7 +81,7 @@ where
         }
     }
 
-    /// A run, which is awake. For want of memory the future comes back.
+    /// Makes a run, which is awake. For want of memory the future comes back.
     pub(crate) fn make_run<G>(
         &self,
         future: G,

@@ -6,8 +6,8 @@ use solo::Solo;
 use std::alloc::Global;
 use std::sync::Arc;
 
-/// What stands under the lock. Its futures are places in a store on the executor's thread, and its outputs only say that they are
-/// there: so it moves between threads where `W` does.
+/// The state under the lock. Its futures are places in a store on the executor's thread, and its outputs only say that they are
+/// there. So it moves between threads where `W` does.
 pub type Tasks<W> = Solo<EntryPlace, (), W>;
 
 /// What an executor, its handles and its wakers share.

@@ -1,4 +1,4 @@
-//! What the calls of `Solo` hand out, as it comes out from under the lock: the same, with each value of a user's as a `Foreign`.
+//! What the calls of `Solo` answer, as it comes out from under the lock: the same, with each value of a user's as a `Foreign`.
 ghost use Rattle.std.specs.Prelude.{◌≡◌};
 
 use crate::foreign::{Foreign, came_out};
@@ -38,7 +38,7 @@ pub fn if_waker_out<W>(waker: Option<SoloWaker<W>>) -> Option<SoloWaker<Foreign<
     }
 }
 
-/// What a queueing hands out.
+/// The answer of a queueing.
 #[inline(always)]
 pub fn told_out<W>(told: Told<W>) -> Told<Foreign<W>>
     ensures { result ≡ told }
@@ -50,7 +50,7 @@ pub fn told_out<W>(told: Told<W>) -> Told<Foreign<W>>
     }
 }
 
-/// What the end of a tick hands out.
+/// The answer of a tick's end.
 pub fn dropped_out<W>(dropped: Dropped<W>) -> Dropped<Foreign<W>>
     ensures { result ≡ dropped }
 {
@@ -61,7 +61,7 @@ pub fn dropped_out<W>(dropped: Dropped<W>) -> Dropped<Foreign<W>>
     }
 }
 
-/// What a take hands out.
+/// The answer of a take.
 #[inline(always)]
 pub fn taken_out<W>(taken: Taken<EntryPlace, W>) -> Taken<EntryPlace, Foreign<W>>
     ensures { result ≡ taken }
@@ -73,7 +73,7 @@ pub fn taken_out<W>(taken: Taken<EntryPlace, W>) -> Taken<EntryPlace, Foreign<W>
     }
 }
 
-/// What a tick's look hands out.
+/// The answer of a tick's look.
 pub fn ticked_out<W>(ticked: Ticked<EntryPlace, W>) -> Ticked<EntryPlace, Foreign<W>>
     ensures { result ≡ ticked }
 {
@@ -95,7 +95,7 @@ pub fn ticked_out<W>(ticked: Ticked<EntryPlace, W>) -> Ticked<EntryPlace, Foreig
     }
 }
 
-/// What a run's look hands out.
+/// The answer of a run's look.
 pub fn ran_out<W>(ran: Ran<EntryPlace, W>) -> Ran<EntryPlace, Foreign<W>>
     ensures { result ≡ ran }
 {
@@ -111,7 +111,7 @@ pub fn ran_out<W>(ran: Ran<EntryPlace, W>) -> Ran<EntryPlace, Foreign<W>>
     }
 }
 
-/// What a call on a task hands out.
+/// The answer of a call on a task.
 #[inline(always)]
 pub fn owed_out<W>(owed: Owed<EntryPlace, (), W>) -> Owed<EntryPlace, (), Foreign<W>>
     ensures { result ≡ owed }
@@ -136,7 +136,7 @@ pub fn owed_out<W>(owed: Owed<EntryPlace, (), W>) -> Owed<EntryPlace, (), Foreig
     }
 }
 
-/// What a poll of a handle answers.
+/// The answer of a handle's poll.
 pub fn polled_out<W>(polled: Polled<(), SoloWaker<W>>) -> Polled<(), SoloWaker<Foreign<W>>>
     ensures { result ≡ polled }
 {

@@ -14,7 +14,7 @@ pub struct Output<T> {
     place: Rc<Place<T>, Global>,
 }
 
-/// The place. Of what it holds contracts see nothing, so it has a name, by which they tell one from another.
+/// The place. Contracts don't see what it holds, so it has a name, by which they tell one from another.
 #[derive(Drop)]
 struct Place<T> {
     name: Snapshot<u64>,
@@ -22,7 +22,7 @@ struct Place<T> {
 }
 
 impl<T> Place<T> {
-    /// One of its own, and empty. The clause says nothing of its name, so that no two can be shown to be one.
+    /// Makes a place of its own, which is empty. The clause says nothing of its name, so no two can be shown to be the same.
     fn new() -> Self
         ensures { result ≡ result }
     {
@@ -34,7 +34,7 @@ impl<T> Place<T> {
 }
 
 impl<T> Output<T> {
-    /// An empty place, for the task and for its handle. None for want of memory.
+    /// Makes an empty place, for the task and for its handle. None for want of memory.
     pub fn pair(alloc: Global) -> Option<(Output<T>, Output<T>)>
     where
         T: Drop,
@@ -50,7 +50,7 @@ impl<T> Output<T> {
         }
     }
 
-    /// Puts an output there. What was there comes out.
+    /// Puts an output there. The output that was there comes out.
     pub fn put(&self, output: Foreign<T>) -> Option<Foreign<T>> {
         came_out(self.place.output.replace(Some(output.into_stored())))
     }

@@ -16,14 +16,14 @@ use solo::{Found, Missed, Ran, RunLeft, Runner, Ticker};
 use std::mem;
 use std::sync::Wait;
 
-/// A run, as what stands under the lock knows it. It has no drop: it leaves.
+/// A run, as the state under the lock knows it. It has no drop: it leaves.
 #[must_use]
 pub struct Running {
     pub runner: Runner,
     pub ticker: Ticker,
 }
 
-/// How far a poll of a run has come.
+/// How far a poll of a run has got.
 #[must_use]
 pub enum RunStep {
     /// It has taken this, and goes on once that is run.
@@ -38,7 +38,7 @@ pub enum RunStep {
     NoMemory,
 }
 
-/// A run, and how far its poll has come.
+/// A run, and how far its poll has got.
 #[must_use]
 pub struct Sought {
     running: Running,
@@ -176,7 +176,7 @@ impl<F: Drop, T: Drop, W: Wake + Drop, R: Wait + Copy + Drop> Body<F, T, W, R> {
         }
     }
 
-    /// What a look hands out is called and dropped.
+    /// Calls and drops the wakers that a look answers.
     fn ran(
         &self,
         runner: Runner,
@@ -223,7 +223,7 @@ fn call<W: Wake + Drop, R: Wait + Copy + Drop>(
     }
 }
 
-/// A run ends.
+/// Ends a run.
 ///
 /// 1. Drops its future.
 /// 2. Takes its own queue out of the list, and schedules each task that is left in the queue, in order.

@@ -1,5 +1,5 @@
-//! How a task is run: its future is polled, or dropped where the task is closed. Each look at the store, and each at what stands
-/// under the lock, is a section of its own.
+//! How a task is run: its future is polled, or dropped where the task is closed. Each look at the store, and each at the state
+//! under the lock, is a section of its own.
 use crate::body::Body;
 use crate::entry::{LocalExWaker, Unlocked};
 use crate::foreign::{Foreign, let_go};
@@ -16,10 +16,10 @@ impl<F, T: Drop, W: Wake + Drop, R: Wait + Copy + Drop> Body<F, T, W, R>
 where
     F: Future<LocalExWaker<W, R>, Output = T> + Drop,
 {
-    /// Runs one task, where one is queued, and says whether it did.
+    /// Runs one task, where one is queued, and answers whether it did.
     ///
     /// 1. Takes a task from the queue. Where there is none: false.
-    /// 2. Calls who sleeps and is told of the others.
+    /// 2. Calls the waker of the sleeper that has to be notified of the others.
     /// 3. Runs it: true.
     #[inline(always)]
     pub(crate) fn run_one(&self, unlocked: &mut Unlocked) -> bool {
@@ -30,7 +30,7 @@ where
         self.run_found(found, unlocked)
     }
 
-    /// Runs what was found, and says whether that was a task.
+    /// Runs what was found, and answers whether that was a task.
     #[inline(always)]
     pub(crate) fn run_found(&self, found: Found<EntryPlace>, unlocked: &mut Unlocked) -> bool {
         match found {

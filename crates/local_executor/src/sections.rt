@@ -19,7 +19,7 @@ use solo::{
 };
 use std::alloc::AllocError;
 
-/// The future at a place enters with this mark, and its task is queued. Refused, nothing changes.
+/// Enters the future at a place with this mark, and queues its task. A refusal changes nothing.
 pub fn spawn<W>(
     tasks: &mut Tasks<W>,
     place: EntryPlace,
@@ -36,7 +36,7 @@ pub fn spawn<W>(
     }
 }
 
-/// The task that a search finds leaves its queue.
+/// Takes the task that a search finds out of its queue.
 #[inline(always)]
 pub fn take<W>(tasks: &mut Tasks<W>) -> Taken<EntryPlace, Foreign<W>>
     ensures tasks { tasks.new ≡ solo.taken tasks.old }
@@ -66,7 +66,7 @@ pub fn finish<W>(tasks: &mut Tasks<W>, lent: Lent) -> Owed<EntryPlace, (), Forei
     owed_out(tasks.finish(lent))
 }
 
-/// A task that the queue has turned away loses its turn.
+/// Takes its turn from a task that the queue has turned away.
 pub fn retract<W>(tasks: &mut Tasks<W>, task: Task) -> Owed<EntryPlace, (), Foreign<W>>
     ensures tasks { tasks.new ≡ closing.retracted task tasks.old }
     ensures owed { result ≡ closing.retract_answer task tasks.old }
@@ -74,7 +74,7 @@ pub fn retract<W>(tasks: &mut Tasks<W>, task: Task) -> Owed<EntryPlace, (), Fore
     owed_out(tasks.retract(task))
 }
 
-/// A task is woken.
+/// Wakes a task.
 #[inline(always)]
 pub fn wake<W>(tasks: &mut Tasks<W>, task: Task) -> Told<Foreign<W>>
     ensures tasks { tasks.new ≡ solo.woken task tasks.old }
@@ -83,7 +83,7 @@ pub fn wake<W>(tasks: &mut Tasks<W>, task: Task) -> Told<Foreign<W>>
     told_out(tasks.wake(task))
 }
 
-/// A task is woken by a waker of its own, which goes.
+/// Wakes a task by a waker of its own, which goes.
 pub fn wake_and_release<W>(tasks: &mut Tasks<W>, task: Task) -> Told<Foreign<W>>
     ensures tasks { tasks.new ≡ solo.woken_and_released task tasks.old }
     ensures told { result ≡ solo.wake_and_release_answer task tasks.old }
@@ -91,7 +91,7 @@ pub fn wake_and_release<W>(tasks: &mut Tasks<W>, task: Task) -> Told<Foreign<W>>
     told_out(tasks.wake_and_release(task))
 }
 
-/// One waker more.
+/// Counts one waker more.
 pub fn hold<W>(tasks: &mut Tasks<W>, task: Task) -> bool
     ensures tasks { tasks.new ≡ solo.held task tasks.old }
     ensures few { result ≡ solo.may_hold task tasks.old }
@@ -99,7 +99,7 @@ pub fn hold<W>(tasks: &mut Tasks<W>, task: Task) -> bool
     tasks.hold(task)
 }
 
-/// One waker less.
+/// Counts one waker less.
 #[inline(always)]
 pub fn release<W>(tasks: &mut Tasks<W>, task: Task) -> Told<Foreign<W>>
     ensures tasks { tasks.new ≡ solo.released task tasks.old }
@@ -108,7 +108,7 @@ pub fn release<W>(tasks: &mut Tasks<W>, task: Task) -> Told<Foreign<W>>
     told_out(tasks.release(task))
 }
 
-/// A handle closes its task.
+/// Closes the task of a handle.
 pub fn cancel<W>(tasks: &mut Tasks<W>, task: Task) -> Owed<EntryPlace, (), Foreign<W>>
     ensures tasks { tasks.new ≡ solo.cancelled task tasks.old }
     ensures owed { result ≡ solo.cancel_answer task tasks.old }
@@ -116,7 +116,7 @@ pub fn cancel<W>(tasks: &mut Tasks<W>, task: Task) -> Owed<EntryPlace, (), Forei
     owed_out(tasks.cancel(task))
 }
 
-/// A handle is given up.
+/// Gives a handle up.
 pub fn detach<W>(tasks: &mut Tasks<W>, task: Task) -> Owed<EntryPlace, (), Foreign<W>>
     ensures tasks { tasks.new ≡ solo.detached task tasks.old }
     ensures owed { result ≡ solo.detach_answer task tasks.old }
@@ -124,7 +124,7 @@ pub fn detach<W>(tasks: &mut Tasks<W>, task: Task) -> Owed<EntryPlace, (), Forei
     owed_out(tasks.detach(task))
 }
 
-/// A handle is polled where it needs to leave no waker; else nothing is done. What stands for its waker counts as none.
+/// Polls a handle where it needs to leave no waker; else nothing is done. The stand-in for its waker isn't counted.
 pub fn answer<W>(tasks: &mut Tasks<W>, task: Task) -> Option<Polled<(), SoloWaker<Foreign<W>>>>
     ensures waits { is_none result ≡ solo.must_wait task tasks.old }
     ensures same { IfNone result (tasks.new ≡ tasks.old) }
@@ -137,7 +137,7 @@ pub fn answer<W>(tasks: &mut Tasks<W>, task: Task) -> Option<Polled<(), SoloWake
     Some(polled_out(tasks.poll(task, SoloWaker::Task(task))))
 }
 
-/// A handle is polled with a waker.
+/// Polls a handle with a waker.
 pub fn poll<W>(
     tasks: &mut Tasks<W>,
     task: Task,
@@ -163,14 +163,14 @@ pub fn is_empty<W>(tasks: &Tasks<W>) -> bool
     tasks.is_empty()
 }
 
-/// The end begins.
+/// Begins the end.
 pub fn close<W>(tasks: &mut Tasks<W>)
     ensures { tasks.new ≡ closing.closed tasks.old }
 {
     tasks.close();
 }
 
-/// One more of what is to be done at the end.
+/// Does one more step of the end.
 pub fn drain<W>(tasks: &mut Tasks<W>) -> Option<Owed<EntryPlace, (), Foreign<W>>>
     ensures tasks { tasks.new ≡ closing.drained tasks.old }
     ensures owed { result ≡ closing.drain_answer tasks.old }
@@ -181,7 +181,7 @@ pub fn drain<W>(tasks: &mut Tasks<W>) -> Option<Owed<EntryPlace, (), Foreign<W>>
     }
 }
 
-/// A new tick.
+/// Makes a new tick.
 pub fn tick<W>(tasks: &mut Tasks<W>) -> Result<Ticker, AllocError>
     ensures ok { OnOk result (tasks.new ≡ ticks.roomy tasks.old) }
     ensures err { IfErr result (λ _. tasks.new ≡ tasks.old) }
@@ -189,7 +189,7 @@ pub fn tick<W>(tasks: &mut Tasks<W>) -> Result<Ticker, AllocError>
     tasks.tick()
 }
 
-/// A tick looks for a task, and comes back where there is none.
+/// Looks for a task for a tick, which comes back where there is none.
 pub fn tick_search<W>(
     tasks: &mut Tasks<W>,
     ticker: Ticker,
@@ -203,7 +203,7 @@ pub fn tick_search<W>(
     }
 }
 
-/// A tick or run that has found no task falls asleep with a waker, unless one is queued by now.
+/// A tick or run that has found no task falls asleep with a waker, unless a task is queued by now.
 pub fn tick_sleep<W>(
     tasks: &mut Tasks<W>,
     ticker: Ticker,
@@ -223,14 +223,14 @@ pub fn tick_leave<W>(tasks: &mut Tasks<W>, ticker: Ticker) -> Dropped<Foreign<W>
     dropped_out(tasks.tick_leave(ticker))
 }
 
-/// It becomes a static executor.
+/// Makes it a static executor.
 pub fn leak<W>(tasks: &mut Tasks<W>)
     ensures { tasks.new ≡ closing.leaked tasks.old }
 {
     tasks.leak();
 }
 
-/// One more of the wakers that a leak has taken out is called.
+/// Calls one more of the wakers that a leak has taken out.
 pub fn leak_next<W>(tasks: &mut Tasks<W>) -> Option<Told<Foreign<W>>>
     ensures tasks { tasks.new ≡ closing.leak_woken tasks.old }
     ensures told { result ≡ closing.leak_answer tasks.old }
@@ -241,7 +241,7 @@ pub fn leak_next<W>(tasks: &mut Tasks<W>) -> Option<Told<Foreign<W>>>
     }
 }
 
-/// A new run.
+/// Makes a new run.
 pub fn run<W>(tasks: &mut Tasks<W>) -> Result<(Runner, Ticker), AllocError>
     ensures ok { OnOk result (tasks.new ≡ runs.made tasks.old) }
     ensures runner { IfOk result (λ both. both ≡ (runs.new_runner tasks.old.runs.made, runs.awake)) }
@@ -250,14 +250,14 @@ pub fn run<W>(tasks: &mut Tasks<W>) -> Result<(Runner, Ticker), AllocError>
     tasks.run()
 }
 
-/// The first poll of a run begins.
+/// Begins the first poll of a run.
 pub fn run_begin<W>(tasks: &mut Tasks<W>, runner: &Runner)
     ensures { tasks.new ≡ runs.begun runner.now tasks.old }
 {
     tasks.run_begin(runner);
 }
 
-/// A run looks for a task, and its ticker comes back where there is none.
+/// Looks for a task for a run, whose ticker comes back where there is none.
 pub fn run_search<W>(
     tasks: &mut Tasks<W>,
     runner: &mut Runner,
@@ -274,7 +274,7 @@ pub fn run_search<W>(
     }
 }
 
-/// A run begins to leave.
+/// Begins to end a run.
 pub fn run_leave<W>(tasks: &mut Tasks<W>, runner: Runner, ticker: Ticker) -> Leaving
     ensures tasks { tasks.new ≡ runs.left runner tasks.old }
     ensures leaving { result ≡ runs.leave_answer runner ticker tasks.old }
@@ -282,7 +282,7 @@ pub fn run_leave<W>(tasks: &mut Tasks<W>, runner: Runner, ticker: Ticker) -> Lea
     tasks.run_leave(runner, ticker)
 }
 
-/// One more of what a run that leaves has to do.
+/// Does one more step of a run's end.
 pub fn run_drain<W>(tasks: &mut Tasks<W>, leaving: Leaving) -> RunLeft<Foreign<W>>
     ensures tasks { tasks.new ≡ runs.drained leaving tasks.old }
     ensures left { result ≡ runs.drain_answer leaving tasks.old }

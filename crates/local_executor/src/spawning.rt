@@ -20,7 +20,7 @@ use std::sync::Wait;
 /// Accepts a future with this mark, while the store is open and the lock taken.
 ///
 /// 1. Tests the limit. Without memory for an entry, or for the place of an output, the future comes back.
-/// 2. Makes the task, and queues it. Refused, the future comes back.
+/// 2. Makes the task, and queues it. Where that is refused the future comes back.
 /// 3. Enters the future.
 fn accept<F: Drop, T: Drop, W>(
     futures: &mut Futures<F, T>,
@@ -76,7 +76,8 @@ impl<F, T: Drop, W: Wake + Drop, R: Wait + Copy + Drop> Body<F, T, W, R>
 where
     F: Future<LocalExWaker<W, R>, Output = T> + Drop,
 {
-    /// Accepts a future with this mark and queues its task, or refuses it. Then it calls who sleeps and is told.
+    /// Accepts a future with this mark and queues its task, or refuses it. Then it calls the waker of the sleeper that has to be
+    /// notified.
     pub(crate) fn hand_in(
         &self,
         future: F,

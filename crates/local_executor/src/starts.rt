@@ -15,7 +15,7 @@ pub struct Starts {
 }
 
 impl Starts {
-    /// Of a generator that is made of this number.
+    /// Makes the words of a generator that is made from this number.
     pub fn new(seed: u64) -> Starts
         ensures { result ≡ drawn (seeded seed) }
     {
@@ -41,7 +41,7 @@ impl Starts {
     }
 }
 
-/// The generator that is made of this number.
+/// The generator that is made from this number.
 fn words_of(seed: u64) -> Xoshiro256PlusPlus
     ensures { result ≡ seeded seed }
 {

@@ -1,5 +1,5 @@
-//! The futures of an executor, on its thread. Who looks at them has an `Unlocked` lent for as long, so no code of a user runs
-//! while they are open.
+//! The futures of an executor, on its thread. An `Unlocked` is lent to whoever looks at them for as long, so no code of a user
+//! runs while they are open.
 use crate::entry::Unlocked;
 use crate::link::Link;
 use crate::locks::Locked;
@@ -21,14 +21,14 @@ pub struct Opened<'a, F: Drop, T: Drop> {
     unlocked: &'a mut Unlocked,
 }
 
-/// The futures of a store, which is open until this is dropped, and what stands under the lock, which is taken as long.
+/// The futures of a store, which is open until this is dropped, and the state under the lock, which is held as long.
 pub struct Both<'a, F: Drop, T: Drop, W> {
     pub futures: RefMut<'a, Futures<F, T>>,
     pub locked: Locked<'a, Tasks<W>>,
 }
 
 impl<F: Drop, T: Drop> Store<F, T> {
-    /// With room for so many futures.
+    /// Makes a store with room for this many futures.
     pub fn new(alloc: Global, limit: usize) -> Result<Self, AllocError> {
         match Places::with_room(alloc, limit) {
             Ok(futures) => Ok(Store {
@@ -38,7 +38,7 @@ impl<F: Drop, T: Drop> Store<F, T> {
         }
     }
 
-    /// Opens it. It is closed whenever an `Unlocked` can be lent: where it were open this would wait.
+    /// Opens it. It is closed whenever an `Unlocked` can be lent: if it were open this would wait.
     #[inline(always)]
     fn borrow<R: Wait>(&self, rt: &R) -> RefMut<'_, Futures<F, T>> {
         for _ in rt.forever() {
@@ -98,7 +98,7 @@ impl<F: Drop, T: Drop> Drop for Opened<'_, F, T> {
 }
 
 impl<F: Drop, T: Drop, W> Drop for Both<'_, F, T, W> {
-    /// Closes the store, and gives the lock back.
+    /// Closes the store, and releases the lock.
     fn drop(self) {
         let Both { futures, locked } = self;
         drop(futures);

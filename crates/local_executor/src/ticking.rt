@@ -13,7 +13,7 @@ use solo::{Found, Look, Ticked, Ticker, Told};
 use std::mem;
 use std::sync::Wait;
 
-/// How far a poll of a tick has come.
+/// How far a poll of a tick has got.
 #[must_use]
 pub enum Step {
     /// It has taken this.
@@ -26,14 +26,14 @@ pub enum Step {
     NoMemory,
 }
 
-/// A tick, and how far its poll has come.
+/// A tick, and how far its poll has got.
 #[must_use]
 pub struct Looked {
     pub ticker: Ticker,
     pub step: Step,
 }
 
-/// A tick leaves.
+/// Ends a tick.
 pub fn leave<W: Wake + Drop, R: Wait + Copy + Drop>(
     link: &Link<W, R>,
     ticker: Ticker,
@@ -124,7 +124,7 @@ impl<F: Drop, T: Drop, W: Wake + Drop, R: Wait + Copy + Drop> Body<F, T, W, R> {
         }
     }
 
-    /// What a look hands out is called and dropped.
+    /// Calls and drops the wakers that a look answers.
     pub(crate) fn looked(
         &self,
         ticked: Ticked<EntryPlace, Foreign<W>>,

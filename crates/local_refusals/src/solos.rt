@@ -95,7 +95,7 @@ impl<R: Wait + Copy + Drop> Solos<R> {
     }
 }
 
-/// Whether nobody is told.
+/// Whether nobody has to be notified.
 fn is_silent(told: Told<u64>) -> bool {
     let Told { sleeper, returned } = told;
     sleeper.is_none() & returned.is_none()

@@ -1,4 +1,4 @@
--- What a poll answers of who hands work in and awaits its output.
+-- What a poll of a future answers that hands work in and awaits its output.
 use Rattle.std.specs.Prelude.{◌≡◌, Result, Err}
 use Rattle.async_task.specs.declared.poll.Poll.{Poll}
 use Rattle.async_task.specs.declared.poll.Poll.TheVariants.{Ready, Pending}

@@ -6,15 +6,15 @@ use async_task::{Future, Poll, Wake};
 use std::sync::Wait;
 use waiting::oneshot::{Canceled, Receiver};
 
-/// The output of work that was accepted: a future that is ready once it is done. `Canceled` says that it was dropped with the last
-/// handle before any thread took it. Dropped, it lets the output go, and the work is done all the same.
+/// The output of work that was accepted: a future that is ready once the work is done. `Canceled` says that the work was dropped
+/// with the last handle before any thread took it. Dropped, it drops the output, and the work is done all the same.
 ///
 /// Each poll leaves its waker in the place of the one before. Where no copy of the waker can be had it calls the waker, so that it is
 /// polled again. It takes no memory.
 #[derive(Drop)]
 pub struct Answer<T: Drop, K: Wake + Drop, R: Wait + Copy + Drop> {
     receiver: Receiver<T, K, R>,
-    // A thread was notified of the work.
+    // Proof that a thread was notified of the work.
     accepted: Accepted,
 }
 

@@ -18,15 +18,15 @@ pub enum TryRunError<J> {
 /// Why there is no output. Work that wasn't accepted comes back.
 #[derive(Debug, PartialEq, Eq, Drop)]
 pub enum RunError<J> {
-    /// It wasn't accepted, and none is any more.
+    /// It wasn't accepted, and no more work is.
     Closed(J),
-    /// It wasn't accepted: there was no memory for its output, or for a place among those who wait.
+    /// It wasn't accepted: there was no memory for its output, or for a place among the waiters.
     NoMemory(J),
     /// It was accepted, and dropped with the last handle before any thread took it.
     Canceled,
 }
 
-/// So that `?` takes it to an `io::Result`. The work is dropped.
+/// Lets `?` convert it to an `io::Error`. The work is dropped.
 impl<J: Drop> From<TryRunError<J>> for io::Error {
     ghost from_gives = { λ why error. error_kind error ≡ kind_of_try why };
 
@@ -39,7 +39,7 @@ impl<J: Drop> From<TryRunError<J>> for io::Error {
     }
 }
 
-/// So that `?` takes it to an `io::Result`. The work is dropped.
+/// Lets `?` convert it to an `io::Error`. The work is dropped.
 impl<J: Drop> From<RunError<J>> for io::Error {
     ghost from_gives = { λ why error. error_kind error ≡ kind_of_run why };
 

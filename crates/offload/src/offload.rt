@@ -16,12 +16,12 @@ use std::alloc::Global;
 use std::sync::{Arc, Wait};
 use waiting::channel::TrySendError;
 
-/// Accepts work that blocks. Threads that serve do it, in the order in which it came. This is a handle of one place; `clone` makes
-/// others. After `unblock` of `blocking` and `spawn_blocking` of `tokio`, with threads that the program starts. Those who await its
-/// outputs have wakers of the type `K`.
+/// Accepts work that blocks. Threads that serve do it, in the order in which it came. It is one handle; `clone` makes others of
+/// the same place. After `unblock` of `blocking` and `spawn_blocking` of `tokio`, with threads that the program starts. The
+/// futures that await its outputs have wakers of the type `K`.
 ///
 /// Its places are for work that no thread has taken yet. Wakers are called, work is done and values are dropped with no lock held.
-/// Threads serve by `serve`, until `close`; who has work awaits its output:
+/// Threads serve by `serve`, until `close`. A caller that has work awaits its output:
 ///
 /// ```
 /// let Ok(run) = self.offload.run(job) else {
@@ -37,7 +37,7 @@ pub struct Offload<J: Work + Drop, K: Wake + Drop, R: Wait + Copy + Drop> {
 }
 
 impl<J: Work + Drop, K: Wake + Drop, R: Wait + Copy + Drop> Offload<J, K, R> {
-    /// With so many places for work that no thread has taken yet. It takes memory for all of them.
+    /// Makes an offload with this many places for work that no thread has taken yet. It takes memory for all of them.
     pub fn new(rt: R, alloc: Global, places: usize) -> Result<Self, NoMemory>
         requires { 0 < places }
         ensures { IfOk result (λ offload. (arc_value (arc_value offload.shared).entrance.shared).line.queue.capacity ≡ Some places) }
@@ -52,7 +52,7 @@ impl<J: Work + Drop, K: Wake + Drop, R: Wait + Copy + Drop> Offload<J, K, R> {
         }
     }
 
-    /// One more handle, for another who hands work in or serves; refused where there are 2^63. It takes no memory.
+    /// Makes one more handle, to hand work in or to serve; refused where there are 2^63. It takes no memory.
     pub fn clone(&self) -> Result<Self, NoMemory>
         ensures same { IfOk result (λ offload. arc_value offload.shared ≡ arc_value self.now.shared) }
     {
@@ -66,8 +66,8 @@ impl<J: Work + Drop, K: Wake + Drop, R: Wait + Copy + Drop> Offload<J, K, R> {
         }
     }
 
-    /// Hands work in where a place is free, and notifies a thread. It takes memory for the output, once it found the place open and not
-    /// full. Work that isn't accepted comes back, and isn't done.
+    /// Hands work in where a place is free, and notifies a thread. It takes memory for the output, after it has found a free
+    /// place. Work that isn't accepted comes back, and isn't done.
     pub fn try_run(&self, job: J) -> Result<Answer<J::Output, K, R>, TryRunError<J>>
         ensures { IsRefused job result }
     {
@@ -89,8 +89,8 @@ impl<J: Work + Drop, K: Wake + Drop, R: Wait + Copy + Drop> Offload<J, K, R> {
         }
     }
 
-    /// Hands work in, waits for a place and then for the output: a future, which comes to those who wait at its first poll. It takes
-    /// memory for the output; where there is none, or there are 2^63 handles, the work comes back.
+    /// Makes a future that hands work in, waits for a place and then for the output. It joins the waiters at its first poll. It
+    /// takes memory for the output; where there is none, or there are 2^63 handles, the work comes back.
     pub fn run(&self, job: J) -> Result<Run<J, K, R>, RunError<J>>
         ensures refused { IfErr result (λ error. error ≡ run.NoMemory job) }
         ensures waits { IfOk result (λ made. (w : _) × (made.stage ≡ stage.Waits w) × (w.piece.job ≡ job) × (arc_value w.offload.shared ≡ arc_value self.now.shared)) }
@@ -104,24 +104,24 @@ impl<J: Work + Drop, K: Wake + Drop, R: Wait + Copy + Drop> Offload<J, K, R> {
         }
     }
 
-    /// Does what is accepted on this thread, until it is closed and all was taken. Several threads may serve at a time. It takes no
-    /// memory.
+    /// Does accepted work on this thread, until it is closed and all work was taken. Several threads may serve at a time. It takes
+    /// no memory.
     pub fn serve(&self) {
         let _over = work_until_over(&self.rt, &*self.shared);
     }
 
-    /// Does the oldest work that was accepted and that no thread has taken, where there is some, and waits for none. It takes no memory.
+    /// Does the oldest accepted work that no thread has taken, where there is some, and waits for none. It takes no memory.
     pub fn serve_once(&self) -> Served {
         work_once(&*self.shared)
     }
 
-    /// Accepts no more work. What was accepted is done, and then the threads that serve end. Who waits for a place is woken. Answers
-    /// whether it was open. It takes no memory.
+    /// Closes it: no more work is accepted. Accepted work is done, and then the threads that serve end. Callers that wait for a
+    /// place are woken. Answers whether it was open. It takes no memory.
     pub fn close(&self) -> bool {
         self.shared.close()
     }
 
-    /// Whether no more work is accepted: so it stays. It takes no memory.
+    /// Whether it is closed. It stays closed. It takes no memory.
     pub fn is_closed(&self) -> bool {
         self.shared.is_closed()
     }

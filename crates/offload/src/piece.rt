@@ -8,7 +8,7 @@ use std::alloc::Global;
 use std::sync::Wait;
 use waiting::oneshot::{self, Receiver, Sender};
 
-/// Work that nobody has taken yet, and by what its output is sent. Its drop wakes who awaits the output: none comes.
+/// Work that nobody has taken yet, and the sender of its output. Its drop wakes who awaits the output: none comes.
 #[derive(Drop)]
 pub struct Piece<J: Work + Drop, K: Wake + Drop, R: Wait + Copy + Drop> {
     job: J,
@@ -21,18 +21,18 @@ pub struct Taken<J: Work + Drop, K: Wake + Drop, R: Wait + Copy + Drop> {
     piece: Piece<J, K, R>,
 }
 
-/// What came of work. It has no drop: it is sent to who awaits it.
+/// The output of work. It has no drop: it is sent to who awaits it.
 #[must_use]
 pub struct Done<T: Drop, K: Wake + Drop, R: Wait + Copy + Drop> {
     output: T,
     sender: Sender<T, K, R>,
 }
 
-/// A piece, and by what its output is received.
+/// A piece, and the receiver of its output.
 pub type Made<J, T, K, R> = (Piece<J, K, R>, Receiver<T, K, R>);
 
 impl<J: Work + Drop, K: Wake + Drop, R: Wait + Copy + Drop> Piece<J, K, R> {
-    /// A place for the output of this work. It takes memory; where there is none the work comes back.
+    /// Makes a place for the output of this work. It takes memory; where there is none the work comes back.
     pub fn new(rt: R, alloc: Global, job: J) -> Result<Made<J, J::Output, K, R>, J>
         ensures job { IfOk result (λ made. made.0.job ≡ job) }
         ensures same { IfOk result (λ made. arc_value made.0.sender.slot ≡ arc_value made.1.slot) }

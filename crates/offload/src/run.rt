@@ -16,18 +16,18 @@ use std::sync::Wait;
 use waiting::oneshot::{Canceled, Receiver};
 
 /// Hands work in, and waits for a place and then for the output: a future that is ready with the output, or with an error. Once it
-/// was ready it is pending, and calls nobody.
+/// was ready it is pending, and calls no waker.
 ///
-/// Dropped before the work was accepted, it drops the work, and waits no more: a call for a place that came for it goes on to the next
-/// who waits. Dropped after, it lets the output go, and the work is done all the same.
+/// Dropped before the work was accepted, it drops the work, and waits no more: a notification of a free place that came for it
+/// goes on to the next waiter. Dropped after, it drops the output, and the work is done all the same.
 #[derive(Drop)]
 pub struct Run<J: Work + Drop, K: Wake + Drop, R: Wait + Copy + Drop> {
     stage: Stage<J, K, R>,
-    // Once it has answered that its work was dropped.
+    // Set once it has answered that its work was dropped.
     canceled: Option<Answer<J::Output, K, R>>,
 }
 
-/// How far it is.
+/// How far the future is.
 #[derive(Drop)]
 pub enum Stage<J: Work + Drop, K: Wake + Drop, R: Wait + Copy + Drop> {
     /// Its work isn't accepted yet.
@@ -38,7 +38,7 @@ pub enum Stage<J: Work + Drop, K: Wake + Drop, R: Wait + Copy + Drop> {
     Ended,
 }
 
-/// Work that isn't accepted yet, and who waits for a place for it.
+/// Work that isn't accepted yet, and the waiter for its place.
 #[derive(Drop)]
 pub struct Waiting<J: Work + Drop, K: Wake + Drop, R: Wait + Copy + Drop> {
     offload: Offload<J, K, R>,

@@ -1,21 +1,21 @@
-//! How threads do what was accepted.
+//! How threads do accepted work.
 use crate::shared::{Nothing, Over, Shared};
 use crate::work::Work;
 use async_task::Wake;
 use std::sync::Wait;
 
-/// What one found who serves and waits for no work.
+/// What a thread found that serves and waits for no work.
 #[derive(Clone, Copy, Debug, PartialEq, Eq, Drop)]
 pub enum Served {
     /// It did some.
     Worked,
     /// There was none.
     Nothing,
-    /// There was none, and none comes any more: so it stays.
+    /// There was none, and none comes any more. It stays so.
     Over,
 }
 
-/// Does the oldest work that was accepted and not taken yet, and waits for none.
+/// Does the oldest accepted work that no thread has taken, and waits for none.
 pub fn work_once<J: Work + Drop, K: Wake + Drop, R: Wait + Copy + Drop>(
     shared: &Shared<J, K, R>,
 ) -> Served {
@@ -32,11 +32,12 @@ pub fn work_once<J: Work + Drop, K: Wake + Drop, R: Wait + Copy + Drop>(
     }
 }
 
-/// Does what is accepted, until no more is and all was taken.
+/// Does accepted work, until no more is accepted and all work was taken.
 ///
 /// 1. Reads how many changes there were, so that one that comes later ends its wait.
 /// 2. Takes a piece, does the work and sends its output.
-/// 3. Where there is none it waits, also for a piece whose coming overlaps a close. So who finds the end notifies the others.
+/// 3. Where there is none it waits, also for a piece whose coming overlaps a close. So a thread that finds the end notifies the
+/// others.
 pub fn work_until_over<J: Work + Drop, K: Wake + Drop, R: Wait + Copy + Drop>(
     rt: &R,
     shared: &Shared<J, K, R>,

@@ -1,4 +1,4 @@
-//! What the threads that serve and those who hand them work have in common.
+//! What the threads that serve and the callers that hand work in share.
 ghost use Rattle.offload.specs.Putting.{HasPut, MayPut};
 ghost use Rattle.std.specs.Arc.{arc_value};
 ghost use Rattle.std.specs.Prelude.{◌≡◌, ◌<◌, IfOk, Some};
@@ -11,10 +11,11 @@ use std::sync::{Condvar, Wait};
 use std::time::Duration;
 use waiting::channel::{self, Receiver, SendError, Sender, TryRecvError, TrySendError};
 
-/// By what work is accepted.
+/// The entrance through which work is accepted.
 pub type Entrance<J, K, R> = Sender<Piece<J, K, R>, K, Nobody, R>;
 
-/// The work that was accepted and not taken yet, and the threads that wait for some. What a call answers has no drop: it notifies them.
+/// The work that was accepted and not taken yet, and the threads that wait for some. What a call answers has no drop: its owner
+/// notifies the threads with it.
 #[derive(Drop)]
 pub struct Shared<J: Work + Drop, K: Wake + Drop, R: Wait + Copy + Drop> {
     entrance: Entrance<J, K, R>,
@@ -23,32 +24,32 @@ pub struct Shared<J: Work + Drop, K: Wake + Drop, R: Wait + Copy + Drop> {
     changed: Condvar,
 }
 
-/// That a piece came: it has no drop, and a thread that waits is notified.
+/// Proof that a piece came. It has no drop: a thread that waits has to be notified.
 #[must_use]
 pub struct Came {
-    // None is made elsewhere.
+    // Only this module makes one.
     own: (),
 }
 
-/// That work was accepted, and a thread that waits was notified.
+/// Proof that work was accepted, and a thread that waits was notified.
 #[derive(Drop)]
 pub struct Accepted {
     own: (),
 }
 
-/// What one came to who may wait for a place.
+/// The outcome for a caller that may wait for a place.
 pub enum Put<T> {
-    /// It came.
+    /// The piece came.
     Came(Came),
-    /// No place is free, and the waker is called when one is.
+    /// No place is free. The waker is called when one is.
     Waits(T),
     /// No more is accepted.
     Closed(T),
-    /// There was no memory for a place among those who wait.
+    /// There was no memory for a place among the waiters.
     NoMemory(T),
 }
 
-/// That no more is accepted. It has no drop: all threads that wait are notified.
+/// Proof that no more is accepted. It has no drop: all threads that wait have to be notified.
 #[must_use]
 pub struct Shut {
     was_open: bool,
@@ -62,20 +63,20 @@ pub enum Nothing {
     Over(Ending),
 }
 
-/// That no piece was left, and none comes any more. It has no drop: all threads that wait are notified.
+/// Proof that no piece was left, and none comes any more. It has no drop: all threads that wait have to be notified.
 #[must_use]
 pub struct Ending {
     own: (),
 }
 
-/// That all that was accepted was taken, and no more is accepted: so it stays.
+/// Proof that all accepted work was taken, and no more is accepted. It stays so.
 #[derive(Drop)]
 pub struct Over {
     own: (),
 }
 
 impl<J: Work + Drop, K: Wake + Drop, R: Wait + Copy + Drop> Shared<J, K, R> {
-    /// With so many places. It takes memory for all of them.
+    /// Makes the shared part with this many places. It takes memory for all of them.
     pub fn new(rt: R, alloc: Global, places: usize) -> Result<Self, NoMemory>
         requires { 0 < places }
         ensures { IfOk result (λ shared. (arc_value shared.entrance.shared).line.queue.capacity ≡ Some places) }
@@ -90,7 +91,7 @@ impl<J: Work + Drop, K: Wake + Drop, R: Wait + Copy + Drop> Shared<J, K, R> {
         }
     }
 
-    /// One more entrance, which waits by itself. It takes no memory.
+    /// Makes one more entrance, which waits by itself. It takes no memory.
     pub fn entrance(&self) -> Result<Entrance<J, K, R>, NoMemory> {
         self.entrance.clone()
     }
@@ -105,29 +106,29 @@ impl<J: Work + Drop, K: Wake + Drop, R: Wait + Copy + Drop> Shared<J, K, R> {
         }
     }
 
-    /// Whether each place has a piece, which others may change at once.
+    /// Whether each place has a piece. Others may change that at once.
     pub fn is_full(&self) -> bool {
         self.entrance.is_full()
     }
 
-    /// Whether no more is accepted: so it stays.
+    /// Whether no more is accepted. It stays so.
     pub fn is_closed(&self) -> bool {
         self.entrance.is_closed()
     }
 
-    /// Accepts no more. All who wait for a place or for a piece are notified. Answers whether work was accepted until now.
+    /// Closes it. All who wait for a place or for a piece are notified. Answers whether work was accepted until now.
     pub fn close(&self) -> bool {
         self.shut().notify_all(&self.changed)
     }
 
-    /// Accepts no more, and wakes those who wait for a place.
+    /// Closes the entrance, and wakes those who wait for a place.
     fn shut(&self) -> Shut {
         Shut {
             was_open: self.entrance.close(),
         }
     }
 
-    /// Takes the oldest piece, and wakes one who waits for its place.
+    /// Takes the oldest piece, and wakes one who waits for a place.
     pub fn take(&self) -> Result<Taken<J, K, R>, Nothing> {
         match self.exit.try_recv() {
             Ok(piece) => Ok(piece.take()),
@@ -136,7 +137,7 @@ impl<J: Work + Drop, K: Wake + Drop, R: Wait + Copy + Drop> Shared<J, K, R> {
         }
     }
 
-    /// Waits until there is another change than those that were seen.
+    /// Waits until there is a change beyond those that were seen.
     pub fn wait(&self, rt: &R, seen: u64) {
         self.changed.sleep(rt, seen, Duration::MAX);
     }

@@ -1,6 +1,6 @@
 /// What a thread does. It may block.
 pub trait Work {
-    /// What comes of it.
+    /// Its output.
     type Output: Drop;
 
     /// Does it.

@@ -22,13 +22,13 @@ pub enum Act {
     PassIfRaised(usize),
     /// Listens to the event, from now on.
     Listen,
-    /// Waits until it is told.
+    /// Waits until it is notified.
     Await,
-    /// Is told of the event, as it believes, at its second poll: whoever woke it.
+    /// Believes at its second poll that the event notified it, whoever woke it.
     Believe,
-    /// Tells one who listens.
+    /// Notifies one listener.
     Notify,
-    /// Tells all who listen.
+    /// Notifies all listeners.
     NotifyAll,
     /// Waits for the permit of a lock.
     Take(Lock),
@@ -46,7 +46,7 @@ pub enum Act {
     Close,
     /// Falls asleep.
     Sleep,
-    /// Waits until it is told, or has slept.
+    /// Waits until it is notified, or has slept.
     AwaitOrSleep,
     /// Writes a digit behind those of the log.
     Note(u64),

@@ -21,7 +21,7 @@ pub trait Await<W>: Drop {
     fn poll(&mut self, waker: &W) -> Answer;
 }
 
-/// Twice the output of a handle's future, or 0 where it was cancelled; none where its poll told neither.
+/// Twice the output of a handle's future, or 0 where it was cancelled; none where its poll answered neither.
 pub fn doubled(answer: Answer) -> Option<u64> {
     match answer {
         Answer::Output(number) => Some(number.saturating_mul(2)),

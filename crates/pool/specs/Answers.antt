@@ -14,19 +14,19 @@ module _ {A : Type 0} where
   HasStepped old new Pending = (length new ≡ length old) × (drop 1 new ≡ drop 1 old)
 
 module _ {A X : Type 0} where
-  -- more outputs came, behind those that were there: one for each of the first answers. So many are left, and those behind the first
-  -- of these are as they were
+  -- more outputs came, after those that were there: one for each of the first answers. This many are left, and those after the
+  -- first of these are as they were
   abbrev pub HaveCome : List X → List A → List X → List A → Type 0
   HaveCome old waiting new left =
       (more : List X) × (new ≡ old ++ more) × (length left + length more ≡ length waiting)
       × (drop 1 left ≡ drop (length more + 1) waiting)
 
-  -- so, and the answer behind the first ones has no output to give: those behind it are left, as they were
+  -- so, and the answer after the first ones has no output to give: those after it are left, as they were
   abbrev pub HaveComeUntil : List X → List A → List X → List A → Type 0
   HaveComeUntil old waiting new left =
       (more : List X) × (new ≡ old ++ more) × (length more < length waiting) × (left ≡ drop (length more + 1) waiting)
 
-  -- behind the outputs that were there came one for each answer
+  -- after the outputs that were there came one for each answer
   abbrev pub AllHaveCome : List X → List A → List X → Type 0
   AllHaveCome old waiting new = (more : List X) × (new ≡ old ++ more) × (length more ≡ length waiting)
 

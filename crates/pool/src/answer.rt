@@ -1,14 +1,16 @@
-//! What is awaited for the output of a future in a pool.
+//! The future that is awaited for the output of a future in a pool.
 ghost use Rattle.async_task.specs.declared.poll.Poll.TheVariants as poll;
 ghost use Rattle.std.specs.Prelude.{◌≡◌, Err, IsSome};
 
 use async_task::{Future, Output, Poll, Runtime, Wake};
 use waiting::oneshot::{Canceled, Receiver};
 
-/// A future with the output of another one, that of a task: what receives it, and the task's handle `H`. Its drop cancels the task.
+/// A future with the output of another future, which a task runs: it has the output's receiver, and the task's handle `H`. Its
+/// drop cancels the task.
 ///
-/// It is ready with `Canceled` where none comes, since the pool went, or the output was given before. A future awaits it in a
-/// field, a thread by `Pool::run`, which runs the pool there, or by `Pool::block_on`, where other threads do. Polls take no memory.
+/// It is ready with `Canceled` where no output comes, since the pool went, or the output was given before. A future awaits it in a
+/// field. A thread awaits it by `Pool::run`, which runs the pool there, or by `Pool::block_on`, where other threads run it. Polls
+/// take no memory.
 #[derive(Drop)]
 #[must_use]
 pub struct Answer<X: Output, H: Drop, K: Wake + Drop, R: Runtime> {
@@ -17,7 +19,7 @@ pub struct Answer<X: Output, H: Drop, K: Wake + Drop, R: Runtime> {
 }
 
 impl<X: Output, H: Drop, K: Wake + Drop, R: Runtime> Answer<X, H, K, R> {
-    /// Of what `answering` made, and the task of the other half.
+    /// Makes an answer of what `answering` made, and the task of the other half.
     pub fn new(from: Receiver<X, K, R>, task: H) -> Self
         ensures from { result.from ≡ from }
         ensures task { result.task ≡ task }
@@ -25,7 +27,7 @@ impl<X: Output, H: Drop, K: Wake + Drop, R: Runtime> Answer<X, H, K, R> {
         Answer { from, task }
     }
 
-    /// The task's handle: detached, the future runs on, though nobody awaits it, and its output is dropped.
+    /// The task's handle. Detached, the future runs on, though nobody awaits it, and its output is dropped.
     pub fn into_task(self) -> H
         ensures { result ≡ self.task }
     {

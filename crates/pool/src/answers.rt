@@ -10,8 +10,8 @@ use waiting::oneshot::Canceled;
 
 /// Awaits answers one after the other: a future with their outputs, in order. Its drop cancels the tasks that are left.
 ///
-/// It is ready with `TaskClosed` at the first answer that is canceled, and with `NoMemory` where there is no room for an output. The
-/// outputs that came stay. Polled again, it goes on behind that answer, or with the same. In `jobs` of `first_week`:
+/// It is ready with `TaskClosed` at the first answer that is canceled, and with `NoMemory` where there is no room for an output.
+/// The outputs that came stay. Polled again, it goes on after that answer, or with the same. In `jobs` of `first_week`:
 ///
 /// ```
 /// let mut answers = Vec::with_capacity(alloc, 1_000)?;
@@ -28,7 +28,7 @@ pub struct Answers<A: Drop, X: Drop> {
 }
 
 impl<A: Drop, X: Drop> Answers<A, X> {
-    /// Of these, in this order. It takes no memory.
+    /// Makes a future over these answers, in this order. It takes no memory.
     pub fn new(alloc: Global, answers: Vec<A>) -> Self
         ensures waiting { result.waiting.items ≡ answers.items }
         ensures outputs { result.outputs.items ≡ [] }

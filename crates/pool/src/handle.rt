@@ -18,7 +18,7 @@ impl<R: Runtime> Handle<R> {
         Handle { task }
     }
 
-    /// Lets the future run on, though nobody awaits it. What it answers shows that the task was not cancelled, and may be let go.
+    /// Lets the future run on, though nobody awaits it. The answer shows that the task was not cancelled, and may be dropped.
     pub fn detach(self) -> Detached {
         let Handle { task } = self;
         task.detach()

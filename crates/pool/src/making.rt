@@ -7,8 +7,8 @@ use async_task::{NoMemory, Output, Runtime, Wake};
 use std::alloc::Global;
 use waiting::oneshot::{self, Receiver};
 
-/// A future that sends the output of this one, and what receives it. It takes memory for the place of the output; where there is
-/// none the future comes back.
+/// Makes a future that sends the output of this one, and the receiver of the output. It takes memory for the place of the output;
+/// where there is none the future comes back.
 ///
 /// A place takes it, and an `Answer` is made of the receiver and the task. `spawn_on` does both.
 pub fn answering<F: Drop, X: Output, K: Wake + Drop, R: Runtime>(

@@ -10,21 +10,21 @@ use async_executor::SpawnError;
 use async_task::{Future, Output, Runtime, Wake};
 use std::alloc::Global;
 
-/// What futures `F` are handed: a `Pool`, or an executor of a program's own.
+/// Takes futures `F`: a `Pool`, or an executor of a program's own.
 pub trait Place<F: Drop> {
     /// The handle of a task.
     type Task: Drop;
 
-    /// Hands in a future. It comes back where it is refused.
+    /// Takes a future. A future that is refused comes back.
     fn spawn_here(&self, future: F) -> Result<Self::Task, SpawnError<F>>
         ensures { IfErr result (λ error. refused error ≡ future) };
 }
 
-/// Hands a place a future of any output, and answers what is awaited for that. `F` is what lies there: an `Answering`, or an
-/// enum whose variants hold `Answering`s of several kinds, with a `From` for each.
+/// Spawns a future of any output at a place, and returns what is awaited for that output. `F` is what lies there: an `Answering`,
+/// or an enum whose variants hold `Answering`s of several kinds, with a `From` for each.
 ///
-/// `NoMemory` where there is none for the place of the output or for the task, `Full` where as many futures as the limit are not
-/// dropped yet. The future comes back in the form in which it would lie there: `into_inner` of an `Answering` takes it out.
+/// `NoMemory` where there is no memory for the place of the output or for the task. `Full` where as many futures as the limit are
+/// not dropped yet. The future comes back in the form in which it would lie there: `into_inner` of an `Answering` takes it out.
 pub fn spawn_on<P, F: Drop, A, X: Output, K: Wake + Drop, R: Runtime>(
     rt: R,
     alloc: Global,

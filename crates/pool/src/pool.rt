@@ -21,8 +21,8 @@ use workers::{Fault, run_until};
 /// An executor of a program's futures, which threads run while they wait in it. `F` is what lies in it: an `Answering`, or an enum
 /// whose variants hold `Answering`s of several kinds, with a `From` for each.
 ///
-/// A future may give anything: what lies here gives `()`, and sends the output to what `spawn` answers. So all pools, channels and
-/// timers of a program have one waker. In `sum` of `first_week`:
+/// A future may give anything: the form in which it lies here gives `()`, and sends the output to what `spawn` returns. So all
+/// pools, channels and timers of a program have one waker. In `sum` of `first_week`:
 ///
 /// ```
 /// let realm = Realm::leak(rt, rt.alloc())?;
@@ -61,8 +61,8 @@ impl<F, R: Runtime> Pool<F, R>
 where
     F: Future<Waker<R>, Output = ()> + Drop,
 {
-    /// A pool with places for so many futures, whose tasks lie in this realm: a program has one realm for all its pools. It keeps the
-    /// runtime value and the allocator for its calls. All places are taken here.
+    /// Makes a pool with places for this many futures, whose tasks lie in this realm. A program has one realm for all its pools.
+    /// It keeps the runtime value and the allocator for its calls. It takes the memory for all places.
     pub fn new(
         rt: R,
         alloc: Global,
@@ -84,9 +84,9 @@ where
         }
     }
 
-    /// Hands the pool a future, and answers what is awaited for its output. `NoMemory` where there is none for the place of the output or
-    /// for the task, `Full` where as many futures as the limit are not dropped yet. The future comes back, in the form in which it would
-    /// lie here: `into_inner` of an `Answering` takes it out.
+    /// Spawns a future, and returns what is awaited for its output. `NoMemory` where there is no memory for the place of the
+    /// output or for the task. `Full` where as many futures as the limit are not dropped yet. The future comes back, in the form
+    /// in which it would lie here: `into_inner` of an `Answering` takes it out.
     pub fn spawn<A, X: Output, K: Wake + Drop>(
         &self,
         future: A,
@@ -105,9 +105,9 @@ where
         }
     }
 
-    /// Runs the pool on this thread until the future is ready, and answers its output. The one fault is want of memory.
+    /// Runs the pool on this thread until the future is ready, and answers its output. The only fault is want of memory.
     ///
-    /// Of several threads that do so each had better take another seed: `run_from`.
+    /// Where several threads do so, each should take another seed: `run_from`.
     pub fn run<G>(&self, main: G) -> Result<G::Output, Fault>
     where
         G: Future<Waker<R>> + Drop,
@@ -117,7 +117,7 @@ where
         self.run_from(main, 0)
     }
 
-    /// `run`, which begins to look for work of other threads where the seed says.
+    /// As `run`, with a seed that says where it begins to look for work of other threads.
     pub fn run_from<G>(&self, main: G, seed: u64) -> Result<G::Output, Fault>
     where
         G: Future<Waker<R>> + Drop,
@@ -133,8 +133,8 @@ where
         )
     }
 
-    /// Waits on this thread until the future is ready, and answers its output, while other threads run the pool. The one fault is want
-    /// of memory.
+    /// Waits on this thread until the future is ready, and answers its output, while other threads run the pool. The only fault is
+    /// want of memory.
     pub fn block_on<G>(&self, future: G) -> Result<G::Output, Fault>
     where
         G: Future<Waker<R>> + Drop,
@@ -162,7 +162,7 @@ where
     }
 }
 
-/// The same refusal of what lay within.
+/// The same refusal, with the future that lay within.
 fn taken_out<F>(refusal: SpawnError<Through<F>>) -> SpawnError<F>
     ensures { refused result ≡ (refused refusal).future }
 {

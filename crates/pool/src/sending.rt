@@ -5,8 +5,8 @@ ghost use Rattle.pool.specs.Answering.{HasAnswered};
 use async_task::{Future, Output, Poll, Runtime, Wake};
 use waiting::oneshot::Sender;
 
-/// A future that polls one of output `X`, sends that, and gives `()`. Where nobody receives any more, the output is dropped. Its
-/// drop before that tells the receiver that nothing comes.
+/// A future that polls one of output `X`, sends the output, and gives `()`. Where nobody receives any more, the output is dropped.
+/// Dropped before that, it notifies the receiver that nothing comes.
 #[derive(Drop)]
 pub struct Answering<F: Drop, X: Output, K: Wake + Drop, R: Runtime> {
     future: F,
@@ -14,7 +14,7 @@ pub struct Answering<F: Drop, X: Output, K: Wake + Drop, R: Runtime> {
 }
 
 impl<F: Drop, X: Output, K: Wake + Drop, R: Runtime> Answering<F, X, K, R> {
-    /// One that sends its output there.
+    /// Makes one that sends its output there.
     pub(crate) fn to(future: F, to: Sender<X, K, R>) -> Self
         ensures future { result.future ≡ future }
         ensures to { result.to ≡ Some to }
@@ -25,7 +25,7 @@ impl<F: Drop, X: Output, K: Wake + Drop, R: Runtime> Answering<F, X, K, R> {
         }
     }
 
-    /// One whose output is dropped: what a refused spawn hands back.
+    /// Makes one whose output is dropped: a refused spawn hands it back.
     pub(crate) fn unanswered(future: F) -> Self
         ensures future { result.future ≡ future }
         ensures to { result.to ≡ None }
@@ -33,7 +33,7 @@ impl<F: Drop, X: Output, K: Wake + Drop, R: Runtime> Answering<F, X, K, R> {
         Answering { future, to: None }
     }
 
-    /// The future that it polls. The receiver is told that nothing comes.
+    /// The future that it polls. The receiver is notified that nothing comes.
     pub fn into_inner(self) -> F
         ensures { result ≡ self.future }
     {

@@ -33,7 +33,7 @@ where
 {
     type Output = F::Output;
 
-    /// Where no copy can be had the future isn't polled, and the waker is called: so it is polled again.
+    /// Where no copy can be had the future isn't polled, and the waker is called, so that it is polled again.
     fn poll(&mut self, waker: &ExWaker<(), ThreadWaker, R>) -> Poll<F::Output> {
         match Waker::of(waker) {
             Some(copy) => self.future.poll(&copy),

@@ -6,8 +6,8 @@ use async_executor::ExWaker;
 use async_task::{Runtime, Wake};
 use blocking::ThreadWaker;
 
-/// The waker of all futures in the pools of a program, and of each thread that waits there. Futures are written over any waker `K`, or
-/// over this one.
+/// The waker of all futures in the pools of a program, and of each thread that waits there. Futures are written for any waker `K`,
+/// or for this one.
 ///
 /// It has a type of its own: a `main` whose channels and futures name the waker of an executor, with all that an executor is made of,
 /// gets no proof.
@@ -16,7 +16,7 @@ pub struct Waker<R: Runtime> {
 }
 
 impl<R: Runtime> Waker<R> {
-    /// One that wakes what this one of an executor does, or None where no more can be had.
+    /// Makes one that wakes what this waker of an executor does, or None where no more can be had.
     pub(crate) fn of(waker: &ExWaker<(), ThreadWaker, R>) -> Option<Self>
         ensures { IfSome result (λ copy. WakeTheSame (λ x y. Unit {0}) copy.held waker.now) }
     {
@@ -27,7 +27,7 @@ impl<R: Runtime> Waker<R> {
     }
 }
 
-/// Of a thread that waits.
+/// Makes the waker of a thread that waits.
 impl<R: Runtime> From<ThreadWaker> for Waker<R> {
     fn from(thread: ThreadWaker) -> Self {
         Waker {
@@ -59,7 +59,7 @@ impl<R: Runtime> Wake for Waker<R> {
     }
 }
 
-// Written out, so that crates above call it, and prove the drops of its parts no second time.
+// Written out, so that crates above call it, and don't prove the drops of its parts once more.
 impl<R: Runtime> Drop for Waker<R> {
     fn drop(self) {
         let Waker { held: _held } = self;

@@ -19,7 +19,7 @@ pub fn try_waiting<R: Wait + Copy + Drop>(rt: R, alloc: Global, report: &mut Rep
         & take_turns(rt, alloc, report)
 }
 
-/// One who listens is told. The first who waits takes no memory. A `listen` that is refused leaves it alone among those who wait.
+/// A listener is notified. The first waiter takes no memory. A `listen` that is refused leaves it as the only waiter.
 fn listen<R: Wait + Copy + Drop>(rt: R, alloc: Global, report: &mut Report) -> bool {
     let mut made = Event::<Nobody, R>::new(rt, alloc);
     if made.is_err() {

@@ -38,7 +38,7 @@ fn a_future_that_wakes_itself_is_polled_until_it_is_ready(rt: HostRuntime) {
     }
 }
 
-/// Ready once it was told. Until then it leaves a copy of its waker in the box. It counts its polls.
+/// A future that is ready once it was woken. Until then it leaves a copy of its waker in the box. It counts its polls.
 #[derive(Drop)]
 struct Told<R> {
     rt: R,

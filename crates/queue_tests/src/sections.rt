@@ -52,7 +52,7 @@ impl Sleeper {
         other.at != At::Asleep || self.due < other.due
     }
 
-    /// It is told, and its waker comes out.
+    /// It is marked, and its waker comes out.
     fn is_told(&mut self, at: At) -> Option<u64> {
         self.at = at;
         self.waker.take()

@@ -50,7 +50,7 @@ fn each_producers_items_come_in_order_under_displacement(rt: HostRuntime) {
     all_play(&rt, &[2, 8], &roles, 1);
 }
 
-// One of four that close is told that it closed, and what was closed stays so to each thread.
+// Of four closing calls one answers that it closed the queue, which then stays closed for each thread.
 #[test]
 fn a_queue_closes_once_and_for_good(rt: HostRuntime) {
     for _ in 0..50 {

@@ -1,4 +1,4 @@
-//! A timer that is driven by turns and by a thread: who is told when, who is told that it was stopped, and ticks.
+//! A timer that is driven by turns and by a thread: who is woken when, who finds that it was stopped, and ticks.
 use async_task::{Future, Nobody, Poll, Wake};
 use std::alloc::Global;
 use std::sync::atomic::Ordering::SeqCst;

@@ -1,4 +1,4 @@
--- What came of a read or a write.
+-- The outcome of a read or a write.
 use Rattle.std.specs.Prelude.{◌≡◌, ◌<◌, ℕ, Result, Ok, Err}
 use Rattle.std.specs.IoError.{error_kind}
 use Rattle.std.specs.declared.io.Error.{Error}

@@ -9,7 +9,7 @@ use Rattle.reactor.specs.declared.parts.side.Looked.{Looked}
 use Rattle.reactor.specs.declared.parts.side.Looked.TheVariants as looked
 
 module _ {K : Type 0} where
-  -- the waker of who waits
+  -- the waker of the waiter
   abbrev pub waker_left : Readiness K → Option K
   waker_left (Waited waker) = Some waker
   waker_left _ = None
@@ -47,7 +47,7 @@ module _ {K : Type 0} where
   abbrev pub closed : Side K → Side K
   closed side = record side { readiness = Closed }
 
-  -- a read or a write would have blocked, whether one waits or not
+  -- a read or a write would have blocked, whether a waiter is there or not
   abbrev pub is_blocked : Readiness K → Bool
   is_blocked Blocked = true
   is_blocked (Waited _) = true
@@ -69,7 +69,7 @@ module _ {K : Type 0} where
   HasChecked side checked.Blocked = is_blocked side.readiness ≡ true
   HasChecked side (checked.Closed _) = side.readiness ≡ Closed
 
-  -- who wants to wait found it ready or closed, and all is as before; or it has left its waker in the place of the one before
+  -- a waiter found it ready or closed, and all is as before; or it has left its waker in the place of the one before
   abbrev pub HasLooked : K → Side K → Side K → Looked K → Type 0
   HasLooked waker old new (looked.Ready ready back) =
       (is_ready old.readiness ≡ true) × (new ≡ old) × (ready.tick ≡ old.tick) × (back ≡ waker)

@@ -5,7 +5,7 @@ use crate::parts::Over;
 use std::io::{self, ErrorKind};
 use thiserror::Error;
 
-/// Why there is no new source.
+/// Why no new source was made.
 #[derive(Clone, Copy, Debug, PartialEq, Eq, Drop, Error)]
 pub enum SourceError {
     /// Memory was wanted, and there was none. So too after 2^64 - 1 sources.
@@ -15,7 +15,7 @@ pub enum SourceError {
     Closed,
 }
 
-/// The reactor is closed: nobody hears of the source any more.
+/// The reactor is closed: it no longer notifies waiters of the source.
 #[derive(Debug, Drop, Error)]
 #[error("the reactor is closed")]
 pub struct ReactorClosed {
@@ -28,7 +28,7 @@ impl ReactorClosed {
     }
 }
 
-/// So that `?` takes it to an `io::Result`.
+/// Lets `?` convert it to an `io::Error`.
 impl From<SourceError> for io::Error {
     ghost use Rattle.reactor.specs.Errors.{of_source};
 
@@ -42,7 +42,7 @@ impl From<SourceError> for io::Error {
     }
 }
 
-/// So that `?` takes it to an `io::Result`.
+/// Lets `?` convert it to an `io::Error`.
 impl From<ReactorClosed> for io::Error {
     ghost use Rattle.std.specs.declared.io.ErrorKind.TheVariants.{BrokenPipe};
 

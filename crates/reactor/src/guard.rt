@@ -7,8 +7,8 @@ use async_task::Wake;
 use std::io;
 use std::sync::Wait;
 
-/// A way of a source that was ready when it was polled. It has no drop: who has it tries a read or a write, or says that the way
-/// stays ready. After `AsyncFdReadyGuard` of `tokio`.
+/// A way of a source that was ready when it was polled. It has no drop: its owner tries a read or a write, or says that the
+/// way stays ready. After `AsyncFdReadyGuard` of `tokio`.
 #[must_use]
 pub struct ReadyGuard<'a, K: Wake + Drop, R: Wait + Copy + Drop> {
     rt: R,
@@ -23,8 +23,8 @@ impl<'a, K: Wake + Drop, R: Wait + Copy + Drop> ReadyGuard<'a, K, R> {
         ReadyGuard { rt, lane, ready }
     }
 
-    /// Reads or writes, and answers what that gave. Where it would block, the way is ready no more, unless an event came since it
-    /// was polled: poll again. No lock is held meanwhile, and it takes no memory.
+    /// Reads or writes, and answers what that gave. Where it would block, the way is no longer ready, unless an event came
+    /// since it was polled: poll again. No lock is held meanwhile, and it takes no memory.
     pub fn try_io<T: Drop, F: FnOnce() -> io::Result<T>>(
         self,
         call: F,
@@ -40,8 +40,9 @@ impl<'a, K: Wake + Drop, R: Wait + Copy + Drop> ReadyGuard<'a, K, R> {
         }
     }
 
-    /// As `try_io`, for a read or a write of at most so many bytes. Where it moved some, and fewer, the next would block: so the way
-    /// is ready no more, unless an event came since it was polled or the last has come. That saves the call that would find it out.
+    /// As `try_io`, for a read or a write of at most this many bytes. A call that moved some bytes, and fewer than that, says that
+    /// the next would block. So the way is no longer ready, unless an event came since it was polled or the last has come.
+    /// That saves the call that would find it out.
     pub fn try_transfer<F: FnOnce() -> io::Result<usize>>(
         self,
         most: usize,

@@ -5,7 +5,7 @@ use crate::parts::Side;
 use crate::poller::Way;
 use std::sync::{Mutex, MutexGuard, Wait};
 
-/// One way of a source. Of a lock contracts see nothing, so which way it guards stands beside it.
+/// One way of a source. Contracts don't see through a lock, so which way it guards stands beside it.
 #[derive(Drop)]
 pub struct Lane<K: Drop> {
     way: Way,
@@ -39,7 +39,7 @@ impl<K: Drop> Lanes<K> {
     ghost use Rattle.reactor.specs.Lanes.{lane_of};
     ghost use Rattle.reactor.specs.declared.poller.Way.TheVariants.{Read, Write};
 
-    /// Both are ready.
+    /// Makes both ways, which are ready.
     pub fn new() -> Self
         ensures read { result.read.way ≡ Read }
         ensures write { result.write.way ≡ Write }

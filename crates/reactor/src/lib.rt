@@ -1,5 +1,5 @@
-//! Readiness: futures that wait until a way of a source is ready, and a thread that hears of it, over a poller that the program
-//! brings.
+//! Readiness: futures that wait until a way of a source is ready, and a thread that is notified of it, over a poller that
+//! the program brings.
 #![tactic(auto)]
 
 mod errors;

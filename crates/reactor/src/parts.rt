@@ -1,4 +1,4 @@
-//! What stands under the locks of a reactor, for one of your own.
+//! The parts under the locks of a reactor, for a reactor of your own.
 mod attempt;
 mod side;
 mod sources;

@@ -1,15 +1,15 @@
 use std::io;
 use std::time::Duration;
 
-/// A way of a source.
+/// A way of a source: to read from it, or to write to it.
 #[derive(Clone, Copy, Debug, PartialEq, Eq, Drop)]
 pub enum Way {
     Read,
     Write,
 }
 
-/// What a poller heard of a source. A source that has failed is ready each way, so that who waits finds out by its next read or
-/// write.
+/// An event of a source, as a poller reports it. A source that has failed is ready each way, so that a waiter finds out
+/// by its next read or write.
 #[derive(Clone, Copy, Debug, Drop)]
 pub struct Heard {
     /// The key of the source.
@@ -18,18 +18,19 @@ pub struct Heard {
     pub is_readable: bool,
     /// Whether it may be written to.
     pub is_writable: bool,
-    /// Whether it was closed from afar, so that reads give what is left and then the end: of this way no event comes any more.
+    /// Whether the other end closed it, so that reads give what is left and then the end: no event for reading comes any more.
     pub is_read_closed: bool,
-    /// Whether it was closed from afar for writes: of this way no event comes any more.
+    /// Whether the other end closed it for writes: no event for writing comes any more.
     pub is_write_closed: bool,
 }
 
-/// What hears of sources: in a program the system. It says of each way once that it became ready (by its edge), for a source that
-/// was made known to it under its key.
+/// What reports events of sources: in a program the system. It reports each way once when it becomes ready (by its edge),
+/// for a source that was registered with it under its key.
 pub trait Poller {
-    /// Waits until it hears of a source or is rung, at most so long; None is without end. A ring that came before ends it too.
+    /// Waits until there is an event or it is rung, at most this long; None is without end. A ring that came before ends the wait
+    /// too.
     fn wait(&mut self, longest: Option<Duration>) -> io::Result<()>;
 
-    /// Takes out one source of which it heard. None is there once all were taken.
+    /// Takes out one event. None is there once all were taken.
     fn heard(&mut self) -> Option<Heard>;
 }

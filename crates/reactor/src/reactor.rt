@@ -13,7 +13,7 @@ use std::io::{self, ErrorKind};
 use std::sync::{Arc, Wait};
 use std::time::Duration;
 
-/// Sources, and who waits for them. One thread drives it, with a poller. The type of the wakers is `K`.
+/// The sources and their waiters. One thread drives it, with a poller. The type of the wakers is `K`.
 ///
 /// Wakers are called and dropped with no lock held.
 #[derive(Drop)]
@@ -24,7 +24,7 @@ pub struct Reactor<K: Wake + Drop, R: Wait + Copy + Drop> {
 }
 
 impl<K: Wake + Drop, R: Wait + Copy + Drop> Reactor<K, R> {
-    /// A reactor without sources.
+    /// Makes a reactor without sources.
     pub fn new(rt: R, alloc: Global) -> Result<Self, NoMemory> {
         match Arc::new(alloc, Table::new(alloc)) {
             Ok(table) => Ok(Reactor { rt, alloc, table }),
@@ -32,7 +32,7 @@ impl<K: Wake + Drop, R: Wait + Copy + Drop> Reactor<K, R> {
         }
     }
 
-    /// The same reactor, for another who asks for sources; refused where too many have it already. Takes no memory.
+    /// Makes another handle of the same reactor, to ask for sources; refused where it has too many already. Takes no memory.
     pub fn clone(&self) -> Result<Self, NoMemory>
         ensures same { IfOk result (λ reactor. arc_value reactor.table ≡ arc_value self.now.table) }
     {
@@ -46,8 +46,8 @@ impl<K: Wake + Drop, R: Wait + Copy + Drop> Reactor<K, R> {
         }
     }
 
-    /// A new source, which is ready each way until a read or a write would block. Make it known to the poller under its key. It
-    /// takes memory for its ways and its place.
+    /// Makes a source, which is ready each way until a read or a write would block. Register it with the poller under its
+    /// key. It takes memory for its ways and its place.
     pub fn source(&self) -> Result<Source<K, R>, SourceError>
         ensures here { IfOk result (λ source. arc_value source.table ≡ arc_value self.now.table) }
     {
@@ -65,10 +65,11 @@ impl<K: Wake + Drop, R: Wait + Copy + Drop> Reactor<K, R> {
         }
     }
 
-    /// Waits once for the poller, at most so long, and calls who waits for what it heard of. None is without end. Answers whether
-    /// the reactor is open: closed, it doesn't wait. It takes no memory.
+    /// Waits once for the poller, at most this long, and wakes the waiters of the events. None is without end. Answers whether the
+    /// reactor is open: a closed one doesn't wait. It takes no memory.
     ///
-    /// A wait that was interrupted counts as one that heard nothing. Of what was heard before an error all are told.
+    /// A wait that was interrupted counts as one without events. Where the poller fails, the waiters of all events before the
+    /// error are woken.
     pub fn turn<P: Poller>(&self, poller: &mut P, longest: Option<Duration>) -> io::Result<bool> {
         if self.table.lock(&self.rt).is_closed() {
             return Ok(false);
@@ -87,8 +88,8 @@ impl<K: Wake + Drop, R: Wait + Copy + Drop> Reactor<K, R> {
     }
 
     /// Drives the reactor on this thread, until it is closed and its poller rung, or the poller fails. Before each wait it asks
-    /// how long that may take: as long as a timer's `turn` says, so that one thread has both. Where it fails close the reactor,
-    /// so that who waits is told.
+    /// how long that may take: as long as a timer's `turn` says, so that one thread drives both. Where it fails, close the
+    /// reactor, so that waiters are woken.
     pub fn drive<P: Poller, F: FnMut() -> Option<Duration>>(
         &self,
         poller: &mut P,
@@ -104,7 +105,7 @@ impl<K: Wake + Drop, R: Wait + Copy + Drop> Reactor<K, R> {
         unreachable!()
     }
 
-    /// Sets the flags of what was heard, under the locks, and then calls who waits, with no lock held.
+    /// Sets the flags for the events, under the locks, and then wakes the waiters, with no lock held.
     fn tell(&self, heard: Heard) {
         let table = self.table.lock(&self.rt);
         let (readers, writers) = match table.get(heard.key) {
@@ -131,8 +132,8 @@ impl<K: Wake + Drop, R: Wait + Copy + Drop> Reactor<K, R> {
         call(writers);
     }
 
-    /// Closes the reactor: all who wait are called, and their next poll says so; no source is to be had any more. Ring the poller
-    /// then, so that `drive` returns. It takes no memory.
+    /// Closes the reactor: all waiters are woken, and their next poll answers that it is closed; no source can be made any more.
+    /// Ring the poller then, so that `drive` returns. It takes no memory.
     pub fn close(&self) {
         let entries = self.table.lock(&self.rt).close(self.alloc);
         for lanes in entries.values() {

@@ -9,8 +9,8 @@ use crate::table::Table;
 use async_task::{Poll, Wake};
 use std::sync::{Arc, Wait};
 
-/// What a future reads from or writes to, as the reactor knows it: two ways, each of which is ready until a read or a write would
-/// block, and again from the next event on. Make it known to the poller under its key, by the edge, and let the poller forget it
+/// A source that a future reads from or writes to. It has two ways, each of which is ready until a read or a write would
+/// block, and again from the next event on. Register it with the poller under its key, by the edge, and let the poller forget it
 /// before it is dropped. Dropped, it leaves the reactor.
 pub struct Source<K: Wake + Drop, R: Wait + Copy + Drop> {
     rt: R,
@@ -36,16 +36,17 @@ impl<K: Wake + Drop, R: Wait + Copy + Drop> Source<K, R> {
         }
     }
 
-    /// Under which the poller is to know it. No other source of its reactor has this key, before or after, and none has 2^64 - 1.
+    /// The key under which the poller has to know it. No other source of its reactor has this key, before or after, and none has
+    /// 2^64 - 1.
     pub fn key(&self) -> usize
         ensures { result ≡ self.now.key.number }
     {
         self.key.number()
     }
 
-    /// Whether this way is ready, or the reactor closed. Where neither is so, leaves the waker in the place of the one that the
-    /// last poll of this way left: of two tasks that poll one way only the later is called. Where no copy of the waker can be
-    /// had it calls the waker, so that it is polled again. It takes no memory.
+    /// Whether this way is ready, or the reactor closed. Where neither holds, leaves the waker in the place of the one that
+    /// the last poll of this way left. Of two tasks that poll one way only the later is woken. Where no copy of the
+    /// waker can be had it calls the waker, so that it is polled again. It takes no memory.
     ///
     /// 1. Looks whether the way is ready, under its lock.
     /// 2. Where it isn't, takes a copy of the waker with no lock held, looks again, and leaves it.

@@ -6,7 +6,8 @@ use crate::parts::Sources;
 use std::alloc::Global;
 use std::sync::{Arc, Mutex, MutexGuard, Wait};
 
-/// The sources that a reactor has. Of a lock contracts see nothing, so the table has a name, by which they tell one from another.
+/// The sources that a reactor has. Contracts don't see through a lock, so the table has a name, by which they tell one from
+/// another.
 #[derive(Drop)]
 pub struct Table<K: Drop> {
     name: u8,
@@ -14,7 +15,7 @@ pub struct Table<K: Drop> {
 }
 
 impl<K: Drop> Table<K> {
-    /// A table of its own, with no sources. The clause says nothing of its name, so that no two can be shown to be one.
+    /// A table of its own, with no sources. The clause says nothing of its name, so no two can be shown to be the same.
     pub fn new(alloc: Global) -> Self
         ensures { result ≡ result }
     {

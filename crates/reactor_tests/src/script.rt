@@ -1,4 +1,4 @@
-//! A poller that hears what it is told.
+//! A poller that reports the events that it is given.
 use reactor::{Heard, Poller};
 use std::io::{self, ErrorKind};
 use std::time::Duration;

@@ -17,7 +17,7 @@ enum Next {
     Leave = 2,
     /// It waits until it is called.
     Wait = 3,
-    /// It has read, or was told of the close.
+    /// It has read, or found the close.
     Over = 4,
 }
 
@@ -27,7 +27,7 @@ pub struct Lane {
     side: Side<Bell>,
     pub to_come: u64,
     there: u64,
-    /// Whether something came of which the driver hasn't told.
+    /// Whether something came for which the driver hasn't woken anyone yet.
     pub is_news: bool,
     pub to_close: bool,
     is_closed: bool,

@@ -135,7 +135,7 @@ pub const ROWS: &[Row] = &[
     Row::Spawn(13, 1),
     Row::Turn(Turn::Drop),
     Row::Drain,
-    Row::Tick, // a tick that was told is dropped, and what it was told of is still due
+    Row::Tick, // a notified tick is dropped, and the task of which it was notified still has to be run
     Row::PollTick(Polled::Pending),
     Row::Spawn(14, 0),
     Row::Turn(Turn::Detach),

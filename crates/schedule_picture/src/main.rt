@@ -18,7 +18,7 @@ use std::process::ExitCode;
 fn main(rt: HostRuntime) -> io::Result<ExitCode> {
     let mut input = Vec::new(rt.alloc());
     rt.reader().read_to_end(&mut input)?;
-    // A script that isn't one is told of as `taskrun sim` does.
+    // A text that is no script is reported as `taskrun sim` does.
     match picture_of(rt.alloc(), input.as_slice()) {
         Ok(text) => {
             rt.print(text.as_str())?;

@@ -126,7 +126,7 @@ pub struct Line<R: Wait + Copy + Drop> {
 type Queued<R> = Scheduled<Countdown, u64, Line<R>, u64, Bell, R>;
 
 impl<R: Wait + Copy + Drop> Line<R> {
-    /// Queues a task, and wakes a sleeper, which is then owed to its schedule value.
+    /// Queues a task, and wakes a sleeper, which then has to be scheduled.
     fn push(&self, runnable: Queued<R>) -> Option<Queued<R>> {
         let (realm, counts) = (runnable.realm(), &self.counts);
         counts.schedules.fetch_add(1, SeqCst);

@@ -10,7 +10,7 @@ const IDLE: ScheduleInfo = ScheduleInfo {
 
 type TestDue<R> = Due<Countdown, u64, Line<R>, u64, Bell, R>;
 
-/// The Runnable that is owed to its schedule value, whose task was woken while nobody polled it.
+/// The Runnable that has to be scheduled, whose task was woken while nobody polled it.
 fn idle<R: Runtime + Abort>(stage: &Stage<R>, due: Option<TestDue<R>>) -> TestRunnable<R> {
     match due {
         Some(Due { runnable, info }) => {
@@ -38,7 +38,7 @@ fn a_stored_waker_wakes_its_task(rt: HostRuntime) {
     stage.seen((2, 0, 1, 1));
 }
 
-/// A task that its schedule value closes: its future is dropped, and who awaits it is owed to its own schedule value.
+/// A task that its schedule value closes: its future is dropped, and the task that awaits it has to be scheduled.
 #[test]
 fn a_task_is_closed_by_its_schedule_value(rt: HostRuntime) {
     let stage = Stage::new(rt, rt.alloc(), Tasks::leak(rt, rt.alloc()));

@@ -102,7 +102,7 @@ module _ {F T W : Type 0} {s : St F T W} {st : State} {rests : Bool} (r : Holds 
         over = λ l e. e;
       }) won told
 
-  -- somebody else is at the awaiter, who will call it
+  -- somebody else is calling or registering the awaiter, and will call it
   marks : st.notifying || st.registering ≡ true → (found new : ℕ) → new ≡ pack (record st { notifying = true }) rests
       → (won : Known F T W → Type 0) → won (view me.0.hold found new, me.1) → Goes s id me won new
   marks e found new is won told = let k = r.each_seat id me.0 at in

@@ -24,7 +24,7 @@ pub held_by : (hold : Hold) (vs : List View) (v : View) → holds vs ≡ hold �
 unfolding first_hold
 held_by hold vs v e is = ap first_hold (sym (ap holds is) ∙ e)
 
--- an awaiter is left, and no Runnable is owed
+-- an awaiter is left, and no Runnable has to be scheduled
 pub left_awaiter : {F T W : Type 0} (o : Option ScheduleInfo) (b : Bool) (seat : Seat (Slot F T W) View) → o ≡ None → b ≡ true
     → HasLeft o b seat → (w : W) × Is Emptying ((1, Some (Awaiter w)) ∷ []) seat.me
 left_awaiter o b seat eo eb h = subst (λ (z : Bool). HasLeft None z seat) eb (subst (λ (z : Option ScheduleInfo). HasLeft z b seat) eo h)

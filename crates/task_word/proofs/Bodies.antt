@@ -234,7 +234,7 @@ module _ {W : Type 0} where
   post_is P l g h u e (held Filling j) k = absurd k
   post_is P l g h u e (held Spending j) k = absurd k
 
-  -- nobody is at the awaiter
+  -- nobody is calling or registering the awaiter
   pub alone : (p : Post W) (s : State) → calling p ≡ 0 → handling p ≡ 0 → Reachable s
       → FitsPost p s.awaiter s.registering s.notifying → Emptied p s → (a : Option W) × (p ≡ lies a)
   alone p s c h t k e = post_is (λ q. calling q ≡ 0 → handling q ≡ 0 → Emptied q s → (a : Option W) × (q ≡ lies a))

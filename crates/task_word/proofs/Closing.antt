@@ -70,7 +70,7 @@ module _ {F T W : Type 0} (n id : ℕ) (me : Known F T W) (old new : ℕ) (st : 
       (f.0, f.1, f.2, shut_now) f.3 refl refl r.fits_post (refl, tt, tt) (λ l e. or_true _ _ shut_now)
       (Told dropped (moves.drop_runnable st) me old new) ((i.0, (refl, refl)), refl, refl))
 
--- a cancel that leaves the state owes nothing
+-- a cancel that leaves the state leaves nothing to be done
 still_by : {F T W : Type 0} (o run : Bool) (st : State) (seat : Seat (Slot F T W) View) → is_going st ≡ run
     → (cancel_by o run st).state ≡ st → Has Nothing seat → HasQueued (cancel_by o run st).owed.schedule seat
 still_by true run st seat er e h = h

@@ -292,7 +292,7 @@ module _ {F T W : Type 0} where
         (let l : room r.body ≤ 1 = little r.body in let b : st.references ≤ most + room r.body = r.bounded in omega (arith, a, l, b)),
       )
 
-  -- a step that leaves the state, and the seat as it was but for the words that it keeps
+  -- a step that leaves the state, and the seat as it was except the words that it keeps
   pub stays : {s : St F T W} {st : State} {rests : Bool} (r : Holds st rests s) (id : ℕ) (me : Known F T W) (found left new : ℕ)
       → new ≡ pack st rests → (won : Known F T W → Type 0) → get_elem? s.views id ≡ some me.0
       → won (view me.0.hold found left, me.1) → Goes s id me won new

@@ -154,7 +154,7 @@ pub left_now : {F T W : Type 0} (o : Option ScheduleInfo) (b : Bool) (c : List (
     → leaves o b c seat.me → HasLeft o b seat
 left_now o b c seat e h = subst (λ (z : List (ℕ × Slot _ _ _)). leaves o b z seat.me) e h
 
--- a wake that leaves the state owes nothing
+-- a wake that leaves the state leaves nothing to be done
 still_by : {F T W : Type 0} (o run : Bool) (st : State) (seat : Seat (Slot F T W) View) → is_over st || st.scheduled ≡ o
     → (wake_by_reference_by o run st).state ≡ st → Has Nothing seat → HasQueued (wake_by_reference_by o run st).owed.schedule seat
 still_by true run st seat eo e h = h

@@ -376,7 +376,7 @@ unfinished_by false true l st e = refl
 unfinished_by false false true st e = refl
 unfinished_by false false false st e = refl
 
--- a run of an open task has no move more to make
+-- a run of an open task has no further move to make
 pub unfinished : (st : State) (mv : Moved) → mv ≡ moves.end_pending st → st.closed ≡ false → mv.owed.next ≡ None
 unfinished st mv its e = ap (λ (z : Moved). z.owed.next) its ∙ unfinished_by _ _ _ st e
 

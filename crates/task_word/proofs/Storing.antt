@@ -20,7 +20,7 @@ plus_one : (y k : ℕ) → y ≡ k → k + 1 < 2 ^ 64 → (y + 1) % 2 ^ 64 ≡ k
 plus_one y k e small = omega arith
 
 module _ {F T W : Type 0} where
-  -- so many references and handles rest, where a seat has this view then, and knows of nothing else
+  -- this many references and handles rest, where a seat has this view then, and knows of nothing else
   rests_of : {s : St F T W} (c : Cell s) (id : ℕ) (me : Known F T W) → get_elem? s.views id ≡ some me.0 → (w : View)
       → Knows c.holds.body id w.hold × KnowsPost c.holds.post id w.hold × KnowsState c.state w.hold → (k value many whole : ℕ)
       → set s.words k value ≡ pack c.state c.rests ∷ many ∷ whole ∷ []

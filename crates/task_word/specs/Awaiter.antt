@@ -1,4 +1,4 @@
--- What the steps at the awaiter tell, and what a seat has of it.
+-- What the steps at the awaiter show, and what a seat has of it.
 use Rattle.std.specs.Prelude.{◌≡◌, ℕ, List, [], ◌∷◌, Bool, true, false, Option, Some, None}
 use Rattle.atomic_table.specs.Table.{rest}
 use Rattle.atomic_table.specs.declared.shared.Seat.{Seat}
@@ -12,7 +12,7 @@ use Rattle.task_word.specs.declared.rule.Content.TheVariants.{Awaiter}
 use Rattle.task_word.specs.Cell.{Slot}
 use Rattle.task_word.specs.Steps.{Known, Is, Logs}
 
--- the mover owes something at the awaiter's slot
+-- the mover has something to do at the awaiter's slot
 abbrev pub needs_slot : Option AwaiterDebt → Bool
 needs_slot (Some StoreCopy) = true
 needs_slot (Some TakeAwaiter) = true
@@ -64,7 +64,7 @@ module _ {F T W : Type 0} where
   abbrev pub emptied : ℕ → Known F T W → ℕ → Known F T W → Type 0
   emptied new m n m' = Is Nothing (rest m.1) m' × Logs n new m'
 
-  -- a seat has the awaiter's slot, where the mover owes something there
+  -- a seat has the awaiter's slot, where the mover has something to do there
   abbrev pub IsAtSlot : Option AwaiterDebt → Hold → Hold → Seat (Slot F T W) View → Type 0
   IsAtSlot debt hold without seat = at_slot (needs_slot debt) hold without [] seat.me
 

@@ -32,7 +32,7 @@ pub data Post (W : Type 0) : Type 0 where
   lies : Option W → Post W
   held : Hold → ℕ → Post W
 
--- from so many references on no copy is made
+-- from this many references on no copy is made
 abbrev pub most : ℕ
 most = 2 ^ 40
 

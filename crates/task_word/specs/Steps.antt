@@ -1,4 +1,4 @@
--- What each kind of step tells, and what a seat has.
+-- What each kind of step shows, and what a seat has.
 use Rattle.std.specs.Prelude.{◌≡◌, ◌≢◌, ℕ, ◌+◌, ◌≤◌, List, [], ◌∷◌, Bool, true, false, ◌&&◌, Option, Some, None, ◌==◌, not}
 use Rattle.atomic_table.specs.Table.{Me, rest}
 use Rattle.atomic_table.specs.declared.shared.Seat.{Seat}
@@ -33,7 +33,7 @@ parked_view hold found v = record v { hold = hold; stored = None; parked = Some 
 abbrev pub Known : Type 0 → Type 0 → Type 0 → Type 0
 Known F T W = Me (Slot F T W) View
 
--- the step of a call is this move: by the word that it found and the word that it left, and by what is owed
+-- the step of a call is this move: by the word that it found, the word that it left, and what it leaves to be done
 abbrev pub Makes : (State → Moved) → View → Owed → Type 0
 Makes move v owed = (st : State) × (rests : Bool) × (v.found ≡ pack st rests) × (v.left ≡ pack (move st).state rests) × (owed ≡ (move st).owed)
 
@@ -41,7 +41,7 @@ Makes move v owed = (st : State) × (rests : Bool) × (v.found ≡ pack st rests
 abbrev pub detached : State
 detached = (moves.detach moves.made).state
 
--- a copy, where somebody can reach the task: nobody has a waker of it else
+-- a copy, where somebody can reach the task: else nobody has a waker of it
 abbrev pub copy_by : Bool → State → Moved
 copy_by true s = moves.moved s (record moves.nothing { answer = Some Refused })
 copy_by false s = moves.copy s
@@ -111,7 +111,7 @@ module _ {F T W : Type 0} where
   abbrev pub tries : (State → Moved) → (Moved → Known F T W → Known F T W → Type 0) → ℕ → ℕ → Known F T W → ℕ → Known F T W → Type 0
   tries move effect old new m n m' = (n ≡ old → Won move effect old new m m') × (n ≢ old → keeps_all m m' × Logs n n m')
 
-  -- a Runnable, where one is owed
+  -- a Runnable, where one has to be scheduled
   abbrev pub queues : Option ScheduleInfo → Known F T W → Known F T W → Type 0
   queues (Some info) m m' = Is Queued m.1 m'
   queues None m m' = keeps_all m m'
@@ -119,7 +119,7 @@ module _ {F T W : Type 0} where
   abbrev pub woken : Moved → Known F T W → Known F T W → Type 0
   woken mv m m' = queues mv.owed.schedule m m'
 
-  -- a Runnable, where one is owed; the awaiter that is left in a cell that is emptied; or nothing
+  -- a Runnable, where one has to be scheduled; the awaiter that is left in a cell that is emptied; or nothing
   abbrev pub leaves : Option ScheduleInfo → Bool → List (ℕ × Slot F T W) → Known F T W → Type 0
   leaves (Some info) awaiter slots m' = Is Queued slots m'
   leaves None true slots m' = (w : W) × Is Emptying ((1, Some (Awaiter w)) ∷ slots) m'
@@ -134,7 +134,7 @@ module _ {F T W : Type 0} where
   abbrev pub began : Moved → Known F T W → Known F T W → Type 0
   began mv m m' = WithFuture Running m.1 m'
 
-  -- the future is to be dropped
+  -- the future has to be dropped
   abbrev pub dropped : Moved → Known F T W → Known F T W → Type 0
   dropped mv m m' = WithFuture Closing m.1 m'
 
@@ -232,16 +232,16 @@ module _ {F T W : Type 0} where
   abbrev pub HasPlace : Hold → Seat (Slot F T W) View → Type 0
   HasPlace hold seat = Is hold ((0, None) ∷ []) seat.me
 
-  -- a Runnable, where one is owed
+  -- a Runnable, where one has to be scheduled
   abbrev pub HasQueued : Option ScheduleInfo → Seat (Slot F T W) View → Type 0
   HasQueued (Some info) seat = Has Queued seat
   HasQueued None seat = Has Nothing seat
 
-  -- a Runnable, where one is owed; or the awaiter that is left, where one is
+  -- a Runnable, where one has to be scheduled; or the awaiter that is left, where one is
   abbrev pub HasLeft : Option ScheduleInfo → Bool → Seat (Slot F T W) View → Type 0
   HasLeft schedule awaiter seat = leaves schedule awaiter [] seat.me
 
-  -- the output, which is to be dropped; or what is left after the handle
+  -- the output, which has to be dropped; or what is left after the handle
   abbrev pub LetGo : Bool → Option ScheduleInfo → Bool → Seat (Slot F T W) View → Type 0
   LetGo true schedule awaiter seat = (t : T) × Is Spending ((0, Some (Output t)) ∷ []) seat.me
   LetGo false schedule awaiter seat = HasLeft schedule awaiter seat
@@ -275,17 +275,17 @@ module _ {F T W : Type 0} where
   abbrev pub FoundNotParked : Seat (Slot F T W) View → Type 0
   FoundNotParked seat = Has Nothing seat × (seat.me.0.parked ≡ Some 0)
 
-  -- a poll, or a future that is to be dropped
+  -- a poll, or a future that has to be dropped
   abbrev pub TakenUp : Option Move → Seat (Slot F T W) View → Type 0
   TakenUp (Some next) seat = HasFuture Closing seat
   TakenUp None seat = HasFuture Running seat
 
-  -- a future that is to be dropped; or a Runnable where one is owed, the awaiter that is left, or nothing
+  -- a future that has to be dropped; or a Runnable where one has to be scheduled, the awaiter that is left, or nothing
   abbrev pub Paused : Option Move → Option ScheduleInfo → Bool → Seat (Slot F T W) View → Type 0
   Paused (Some next) schedule awaiter seat = HasFuture Ending seat
   Paused None schedule awaiter seat = HasLeft schedule awaiter seat
 
--- the output comes back where it is to be dropped, and else stays in the cell
+-- the output comes back where it has to be dropped, and else stays in the cell
 abbrev pub IsHandedBack : {T : Type 0} → Bool → T → Option T → Type 0
 IsHandedBack true output back = back ≡ Some output
 IsHandedBack false output back = back ≡ None

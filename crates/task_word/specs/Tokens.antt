@@ -27,7 +27,7 @@ IsThere board claim = (claim.badge.table_id ≡ board.table_id) × (holds claim.
 abbrev pub Shows : {F T W K P : Type 0} → Shared (Slot F T W) View K P → (State → Moved) → Owed → Claim → Type 0
 Shows board move owed claim = (claim.badge.table_id ≡ board.table_id) × (v : View) × (claim.badge.views ≡ v ∷ []) × Makes move v owed
 
--- what some task owes after this move, where a later step of the call has written over what this one found
+-- what some task has to do after this move, where a later step of the call has written over what this one found
 abbrev pub Owes : (State → Moved) → Owed → Type 0
 Owes move owed = (st : State) × (owed ≡ (move st).owed)
 
@@ -45,7 +45,7 @@ abbrev pub FindsState : {F T W K P : Type 0} → Shared (Slot F T W) View K P �
 FindsState board st claim = (claim.badge.table_id ≡ board.table_id) × (v : View) × (claim.badge.views ≡ v ∷ []) × (rests : Bool)
     × (v.found ≡ pack st rests)
 
--- a notify, by which the claim's seat has taken the awaiter out, where nobody else was at it
+-- a notify, by which the claim's seat has taken the awaiter out, where nobody else was calling or registering it
 abbrev pub notifies_by : {F T W K P : Type 0} → Bool → Shared (Slot F T W) View K P → Owed → Claim → Type 0
 notifies_by true board owed claim = Owes moves.notify owed × (ended : Owed) × Shows board moves.end_notify ended claim
 notifies_by false board owed claim = Shows board moves.notify owed claim

@@ -21,7 +21,7 @@ pub struct Cell<F, T, W> {
 }
 
 impl<F, T, W> Cell<F, T, W> {
-    /// A cell with no task.
+    /// Makes a cell with no task.
     pub fn new(alloc: Global) -> Result<Self, AllocError> {
         match Table::vacant(alloc, &[EMPTY, 0, 0], 2, &()) {
             Ok((board, _)) => Ok(Cell { board }),
@@ -29,7 +29,7 @@ impl<F, T, W> Cell<F, T, W> {
         }
     }
 
-    /// The same, for as long as the program runs: what has something of its task has a reference to it.
+    /// Makes a cell with no task for as long as the program runs: whatever has something of its task has a reference to it.
     pub fn leak<'r>(alloc: Global) -> Result<&'r Self, AllocError>
     where
         F: Drop + 'r,
@@ -42,7 +42,7 @@ impl<F, T, W> Cell<F, T, W> {
         Ok(Box::leak(cell))
     }
 
-    /// What the steps are lent.
+    /// The board that steps are lent.
     #[inline(always)]
     pub fn board(&self) -> &Board<F, T, W>
         ensures { result.now ≡ self.now.board.shared }
@@ -50,7 +50,7 @@ impl<F, T, W> Cell<F, T, W> {
         &self.board.shared
     }
 
-    /// A seat with nothing.
+    /// Makes a seat with nothing.
     #[inline(always)]
     pub fn pass(&self) -> Pass<F, T, W>
         ensures { IsSeatOf self.now.board.shared result × Has Nothing result }
@@ -58,7 +58,7 @@ impl<F, T, W> Cell<F, T, W> {
         self.board.shared.load_new_seat::<Arrive>(0).1
     }
 
-    /// What the state is at this moment. It takes one load.
+    /// The state at this moment. It takes one load.
     #[inline(always)]
     pub fn look(&self) -> (State, Trace)
         ensures { FindsState self.now.board.shared result.0 result.1.claim }

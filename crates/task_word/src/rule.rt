@@ -1,5 +1,5 @@
-//! What a seat knows of a task's cell, and the kinds of step. Each kind that changes the state ties the new word to the
-//! table of moves.
+//! What a seat knows of a task's cell, and the kinds of step. Each kind that changes the state ties the new word to the table of
+//! moves.
 ghost use Rattle.task_moves.specs.Moves as moves;
 ghost use Rattle.task_word.specs.Cell.{Cell};
 ghost use Rattle.task_word.specs.Awaiter.{notified, end_notified, registered, end_registered, emptied};
@@ -92,21 +92,21 @@ impl<F, T, W> Play<Slot<F, T, W>, View> for Look {
     ghost then = { λ s m n m'. looked m n m' };
 }
 
-/// The load of who takes a task up. Where it is closed, its future is to be dropped.
+/// The load by which a task is taken up. Where it is closed, its future has to be dropped.
 pub struct LookUp;
 
 impl<F, T, W> Play<Slot<F, T, W>, View> for LookUp {
     ghost then = { λ s m n m'. looked_by turned_up m n m' };
 }
 
-/// The load of who ends a poll. Where the task is closed, its future is to be dropped.
+/// The load by which a poll ends. Where the task is closed, its future has to be dropped.
 pub struct LookBack;
 
 impl<F, T, W> Play<Slot<F, T, W>, View> for LookBack {
     ghost then = { λ s m n m'. looked_by turned_back m n m' };
 }
 
-/// A wake by reference. Of the kinds of exchange below, each changes nothing where it fails.
+/// A wake by reference. This and each kind of exchange below changes nothing where it fails.
 pub struct WakeByReference;
 
 impl<F, T, W> Play<Slot<F, T, W>, View> for WakeByReference {
@@ -204,14 +204,14 @@ impl<F, T, W> Play<Slot<F, T, W>, View> for LookAgain {
     ghost then = { λ s m n m'. tries moves.look_again polled s.first s.second m n m' };
 }
 
-/// The load of who has taken the output out. The empty slot goes home.
+/// The load after the output was taken out. The empty slot goes home.
 pub struct Spend;
 
 impl<F, T, W> Play<Slot<F, T, W>, View> for Spend {
     ghost then = { λ s m n m'. spent m n m' };
 }
 
-/// Somebody wants the awaiter called. Where nobody is at it, its slot is taken.
+/// Somebody wants the awaiter called. Where nobody is calling or registering it, its slot is taken.
 pub struct Notify;
 
 impl<F, T, W> Play<Slot<F, T, W>, View> for Notify {
@@ -260,7 +260,7 @@ impl<F, T, W> Play<Slot<F, T, W>, View> for Make {
     ghost then = { λ s m n m'. filled s.first m m' };
 }
 
-/// The same of a task that is detached.
+/// The same for a task that is detached.
 pub struct MakeDetached;
 
 impl<F, T, W> Play<Slot<F, T, W>, View> for MakeDetached {

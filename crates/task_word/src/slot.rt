@@ -1,4 +1,4 @@
-//! The slots, in the hand of the seat that has the right to them.
+//! The slots, as the seat uses them that has the right to them.
 ghost use Rattle.std.specs.Prelude.{◌≡◌, [], ◌∷◌, Some, None};
 ghost use Rattle.task_word.specs.Awaiter.{awaiter_slot, HoldsAwaiter};
 ghost use Rattle.task_word.specs.Steps.{HoldsFuture, IsSeatOf, IsSameSeat};

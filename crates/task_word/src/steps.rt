@@ -41,7 +41,7 @@ fn leaves_awaiter(moved: Moved) -> bool
     moved.owed.empty_cell && moved.state.awaiter
 }
 
-/// The mover owes something at the awaiter's slot.
+/// The mover has something to do at the awaiter's slot.
 #[inline(always)]
 pub(crate) fn needs_slot(owed: Owed) -> bool
     ensures { result ≡ awaiter_specs.needs_slot owed.awaiter }

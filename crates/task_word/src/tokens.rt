@@ -1,4 +1,4 @@
-//! What a thread has of a task, as values that can't be dropped: a Runnable is made of the right to the future alone, a waker of
+//! What a thread has of a task, as values that can't be dropped. A Runnable is made of the right to the future alone, a waker of
 //! one reference, a task of its handle. Each names its cell, and shows by its view the step that it came of.
 ghost use Rattle.std.specs.Prelude.{◌≡◌, [], ◌∷◌, false, is_some, is_ok, IfSome, MatchOption, MatchResult, ⊤};
 ghost use Rattle.task_word.specs.Badges.{holds};
@@ -142,8 +142,8 @@ impl Trace {
     }
 }
 
-/// What is left where a reference or the handle went: a Runnable, where one is owed, or the awaiter that nobody can reach any
-/// more. The cell may be taken for another task then.
+/// What is left where a reference or the handle went: a Runnable, where one has to be scheduled, or the awaiter that nobody can
+/// reach any more. The cell may be taken for another task then.
 pub struct Left<F: 'static, T: 'static, W: 'static> {
     pub runnable: Result<Runnable<F, T, W>, Trace>,
     pub awaiter: Option<Debt<W>>,

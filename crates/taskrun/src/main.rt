@@ -32,7 +32,7 @@ fn main(rt: HostRuntime) -> ExitCode {
     match ended {
         Ok(()) => ExitCode::SUCCESS,
         Err(fault) => {
-            // A fault that can't be told still has its status.
+            // A fault that can't be printed still has its status.
             let _ = eprintln!(rt; "{fault}");
             ExitCode::from(fault.status())
         }

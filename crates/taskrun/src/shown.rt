@@ -8,10 +8,10 @@ use std::alloc::Global;
 use std::marker::PhantomData;
 use std::sync::Wait;
 
-/// Of how many jobs on it is told how far they are.
+/// From this many jobs on their progress is printed.
 const MANY: u64 = 1_000;
 
-/// Tells on standard error of the first job and of each further tenth of them as it is begun, where there are many.
+/// Prints a line on standard error as the first job and each further tenth of the jobs is begun, where there are many.
 #[derive(Clone, Copy)]
 pub struct Teller<R> {
     rt: R,
@@ -21,7 +21,7 @@ pub struct Teller<R> {
 impl<R: Eprint> Gate for Teller<R> {
     fn meet(&self, job: u64) {
         if self.jobs >= MANY && job % (self.jobs / 10) == 0 {
-            // Who can't be told does the jobs nevertheless.
+            // Where it can't be printed the jobs are done nevertheless.
             let _ = eprintln!(self.rt; "{job} of {} jobs are begun", self.jobs);
         }
     }

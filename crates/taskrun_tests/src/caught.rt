@@ -138,7 +138,7 @@ fn is_dropped_once(trace: &[Event], future: u64) -> bool {
     drops == 1
 }
 
-// The waker of the last poll of the future's handle was called, where that was told to wait and the handle is there.
+// The waker of the last poll of the future's handle was called, where that poll was pending and the handle is there.
 fn is_told(trace: &[Event], future: u64) -> bool {
     let (mut asks, mut waits) = (None, None);
     for (place, event) in trace.iter().enumerate() {

@@ -131,7 +131,7 @@ const ROWS: &[Row] = &[
     Makes(2, Copy(0), &[], Reply::Made),
     Ends(1, &[], Reply::Done),
     Makes(2, DropWaker(0), &[], Reply::Done),
-    New, // a task polls a tick by its own waker, which wakes it where the tick is told
+    New, // a task polls a tick by its own waker, which wakes it where the tick is notified
     Makes(0, NewTick, &[], Reply::Made),
     Makes(0, Spawn(Mark::Plain), &[], Reply::Made),
     Polls(0, &[(PollTick(0, By::Mine), Reply::Pending)]),

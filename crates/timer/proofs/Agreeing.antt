@@ -1,4 +1,4 @@
--- Who sleeps at a place has a time, and nobody else.
+-- Exactly the places with a sleeper have a time.
 use Rattle.std.proofs.Common.{inl, inr, ◌≡◌, nat_lt, false, ℕ, List, Option, Some, None, arith, ap, refl, sym, ◌∙◌, length, set}
 use Rattle.std.proofs.Common.{get_or-set_same, get_or-set_other, subst}
 use Rattle.std.proofs.lemmas.Bool.{cases_eq, cases_order}

@@ -1,4 +1,4 @@
--- What a change of one place's time is to those who stand.
+-- What a change of one place's time means for the times that stand.
 use Rattle.std.proofs.Common.{zero, suc, ◌≡◌, ◌≢◌, ◌+◌, ◌≤◌, ◌<◌, ◌==◌, not, nat_lt, cond, true, false, Bool, ℕ, List, [], ◌∷◌, All}
 use Rattle.std.proofs.Common.{IsPermutation, arith, ap, refl, sym, ◌∙◌, length, drop, replicate, ◌-◌, set, get_or, get_or-set_same, subst}
 use Rattle.std.proofs.lemmas.Bool.Decides.{nat_tests}
@@ -21,7 +21,7 @@ here : (a b : Bool) (x y z : ℕ × ℕ) (list : List (ℕ × ℕ)) → a ≡ fa
     → IsPermutation (x ∷ cond a (z ∷ list) list) (cond b (y ∷ list) list)
 here a b x y z list none some same = rw (none, some, same) (IsPermutation-refl (y ∷ list))
 
--- who has a time now stands beside those who stood
+-- a new time stands beside those that stood
 pub entered : (ts : List ℕ) (from at place due : ℕ) → at < length ts → never ≤ time_of ts at → due < never → place ≡ from + at →
     IsPermutation ((due, place) ∷ standing_from from ts) (standing_from from (set ts at due))
 entered [] from at place due within old new e = absurd (omega arith)
@@ -33,7 +33,7 @@ entered (t ∷ ts) from zero place due within old new e =
 entered (t ∷ ts) from (suc at) place due within old new e =
     behind (nat_lt t never) (t, from) (due, place) _ _ (entered ts (from + 1) at place due (omega arith) old new (omega arith))
 
--- whoever the test lets stay, stays
+-- a time that the test lets stay, stays
 taken : (b : Bool) (x : ℕ × ℕ) (p : ℕ × ℕ → Bool) (list new : List (ℕ × ℕ)) → p x ≡ true → filter p list ≡ new
     → filter p (cond b (x ∷ list) list) ≡ cond b (x ∷ new) new
 taken false x p list new stays rest = rest
@@ -44,7 +44,7 @@ gone : (b c : Bool) (x y : ℕ × ℕ) (p : ℕ × ℕ → Bool) (list : List (�
 gone false c x y p list goes none rest = rw none rest
 gone true c x y p list goes none rest = rw (goes, none) rest
 
--- whoever stands at later places stays
+-- a time at a later place stays
 later : (ts : List ℕ) (from place : ℕ) → place < from
     → filter (λ other. not (other.1 == place)) (standing_from from ts) ≡ standing_from from ts
 later [] from place before = refl
@@ -52,7 +52,7 @@ later (t ∷ ts) from place before =
     let differs : (from == place) ≡ false = grind (arith, nat_tests) in
     taken (nat_lt t never) (t, from) _ _ _ (ap not differs) (later ts (from + 1) place (omega arith))
 
--- who has no time any more stands there no more, and all others do
+-- a removed time stands no more, and all others do
 pub left : (ts : List ℕ) (from at place : ℕ) → place ≡ from + at →
     filter (λ other. not (other.1 == place)) (standing_from from ts) ≡ standing_from from (set ts at never)
 left [] from at place e = refl
@@ -68,7 +68,7 @@ either : (b : Bool) (low t place : ℕ) (list : List (ℕ × ℕ)) → low ≤ t
 either false low t place list first rest = rest
 either true low t place list first rest = All-cons (λ other. low ≤ other.0) (t, place) list first rest
 
--- where no place has an earlier time, nobody who stands has
+-- where no place has an earlier time, no time that stands is earlier
 pub none_before : (ts : List ℕ) (from low : ℕ) → ((k : ℕ) → k < length ts → low ≤ get_or ts k 0)
     → All (λ other. low ≤ other.0) (standing_from from ts)
 none_before [] from low h = All-nil (λ other. low ≤ other.0)
@@ -78,7 +78,7 @@ none_before (t ∷ ts) from low h =
 none : (b : Bool) (x : ℕ × ℕ) (list : List (ℕ × ℕ)) → b ≡ false → list ≡ [] → cond b (x ∷ list) list ≡ []
 none b x list is rest = rw is rest
 
--- where no place has a time, nobody stands
+-- where no place has a time, none stands
 pub nobody : (ts : List ℕ) (from : ℕ) → ((k : ℕ) → k < length ts → never ≤ get_or ts k 0) → standing_from from ts ≡ []
 nobody [] from h = refl
 nobody (t ∷ ts) from h =
@@ -90,7 +90,7 @@ again [] at v w = refl
 again (t ∷ ts) zero v w = refl
 again (t ∷ ts) (suc at) v w = ap (λ l. t ∷ l) (again ts at v w)
 
--- the one whose turn it is goes, and all others stay
+-- the time whose turn it is goes, and all others stay
 pub popped : (ts : List ℕ) (at due : ℕ) → at < length ts → get_or ts at 0 ≡ due → due < never →
     IsPermutation (standing_from 0 ts) ((due, at) ∷ standing_from 0 (set ts at never))
 popped ts at due within is time =
@@ -100,7 +100,7 @@ popped ts at due within is time =
     let h = entered (set ts at never) 0 at at due inside (omega (arith, none_there)) time (omega arith) in
     IsPermutation-sym _ _ (subst (λ l. IsPermutation ((due, at) ∷ standing_from 0 (set ts at never)) (standing_from 0 l)) back h)
 
--- of a list of such times nobody stands
+-- in a list of such times none stands
 pub nobody_of : (room count from : ℕ) (items : List ℕ) → items ≡ replicate count never → standing_from from (drop room items) ≡ []
 nobody_of room count from items is =
     let left : drop room items ≡ replicate (count - room) never = ap (drop room) is ∙ drop-replicate room count never in
@@ -110,14 +110,14 @@ nobody_of room count from items is =
     ∙ get_or-replicate (count - room) k never 0 (omega arith) in
     omega arith)
 
--- where somebody has a time, somebody stands
+-- where some place has a time, some time stands
 pub somebody : (ts : List ℕ) (at due : ℕ) → at < length ts → get_or ts at 0 ≡ due → due < never → standing_from 0 ts ≢ []
 somebody ts at due within is time none =
     let found = length_permutation _ _ (popped ts at due within is time) in
     let empty = ap length none in
     absurd (omega arith)
 
--- who leaves stands no more, and all others do
+-- a time that leaves stands no more, and all others do
 pub stays : (old new : List ℕ) (place : ℕ) → new ≡ set old place never →
     IsPermutation (filter (λ other. not (other.1 == place)) (standing_from 0 old)) (standing_from 0 new)
 stays old new place is =

@@ -6,7 +6,7 @@ use Rattle.std.proofs.lemmas.Grind.{get_or_default_zero}
 use Rattle.std.proofs.lemmas.List.{length-set, length-drop, get_or-drop}
 use Rattle.timer.specs.Tree.{IsTree, HasLesser}
 
--- as a tree, but for one node that may have another time than the lesser of the two below it
+-- a tree, except one node that may have another time than the lesser of the two below it
 pub record IsTreeBut (room hole : ℕ) (nodes : List ℕ) : Type 0 where
   pub size : length nodes ≡ room + room
   pub lesser : (i : ℕ) → 0 < i → i < room → i ≢ hole → HasLesser nodes i
@@ -57,7 +57,7 @@ node_written room node v half nodes tree pos in_room e is =
       ];
     }
 
--- the root has the least time, by so many steps up
+-- the root has the least time, by this many steps up
 least_within : (steps room i : ℕ) (nodes : List ℕ) → IsTree room nodes → 0 < i → i ≤ steps → i < room + room
     → get_or nodes 1 0 ≤ get_or nodes i 0
 least_within zero room i nodes tree pos few within = absurd (omega arith)

@@ -4,11 +4,11 @@ ghost use Rattle.timer.specs.Tree.{IsTree};
 use crate::tree::{first_leaf, set_leaf};
 use std::alloc::{AllocError, Global};
 
-/// The time of a place at which nobody sleeps: later than any that a duration tells.
+/// The time of a place at which nobody sleeps: later than any that a duration can express.
 const NEVER: u128 = u128::MAX;
 
-/// When each of those who sleep is due, in nanoseconds, by the place at which it sleeps. A change takes a time that grows with
-/// the logarithm of the room. After the making nothing here takes memory.
+/// When each sleeper is due, in nanoseconds, by the place at which it sleeps. A change takes a time that grows with the logarithm
+/// of the room. Only `with_room` takes memory.
 #[derive(Drop)]
 pub struct Agenda {
     room: usize,
@@ -19,9 +19,9 @@ pub struct Agenda {
 
 /// Whose turn it is.
 pub enum Turn {
-    /// That of the one at this place, who is due, and stands here no more.
+    /// The turn of the sleeper at this place, which is due and was removed.
     Of(usize),
-    /// Nobody's before so many nanoseconds have passed.
+    /// Nobody's turn before this many nanoseconds have passed.
     In(u128),
     /// Nobody sleeps.
     Nobodys,
@@ -30,7 +30,7 @@ pub enum Turn {
 impl Agenda {
     ghost use Rattle.timer.specs.Order.{IsKnown, TimeGoes, Turns, entries, never, time_of, times};
 
-    /// With room for so many places, and for one at least.
+    /// Makes an agenda with this many places, and with one at least.
     pub fn with_room(alloc: Global, places: usize) -> Result<Self, AllocError>
         ensures nobody { IfOk result (λ agenda. entries agenda ≡ []) }
         ensures times { IfOk result (λ agenda. (place : ℕ) → never ≤ time_of (times agenda) place) }
@@ -44,7 +44,7 @@ impl Agenda {
         Ok(Agenda { room, nodes })
     }
 
-    /// Who sleeps at this place is due at this time.
+    /// Sets the time at which the sleeper at this place is due.
     pub fn set(&mut self, place: usize, due: u128)
         requires { place < self.old.room }
         ensures times { times self.new ≡ slice_set (times self.old) place due }
@@ -53,7 +53,7 @@ impl Agenda {
         set_leaf(self.nodes.as_mut_slice(), self.room, place, due);
     }
 
-    /// Nobody sleeps at this place any more.
+    /// Removes the sleeper at this place.
     pub fn forget(&mut self, place: usize)
         ensures times { times self.new ≡ slice_set (times self.old) place never }
         ensures room { self.new.room ≡ self.old.room }
@@ -70,7 +70,7 @@ impl Agenda {
         self.nodes[1] >= NEVER
     }
 
-    /// Takes the first out, where it is due by now.
+    /// Removes the first sleeper, where it is due by now.
     pub fn turn(&mut self, now: u128) -> Turn
         ensures turns { Turns now (entries self.old) (entries self.new) result }
         ensures times { TimeGoes (times self.old) (times self.new) result }

@@ -1,4 +1,4 @@
-//! Those who sleep, and when each is due.
+//! The sleepers, and when each is due.
 ghost use Rattle.std.specs.Prelude.{◌≡◌, ◌≤◌, ◌<◌, ◌↔◌, ◌∷◌, [], ℕ};
 ghost use Rattle.std.specs.Prelude.{Err, IfOk, IsOk, IsPermutation, IsTrue, None, OnErr, Some, false, min, nat_lt, true};
 ghost use Rattle.std.specs.Duration.{as_nanos};
@@ -14,17 +14,18 @@ use std::alloc::{AllocError, Global};
 use std::mem;
 use std::time::Duration;
 
-/// Later than any time that a duration tells.
+/// Later than any time that a duration can express.
 const NEVER: u128 = u128::MAX;
 
-/// Those who sleep, at most as many as the limit says: when each is due, and a place for each with the waker that it left last.
-/// Each call is one section of whoever locks it, and none but `with_room` takes memory. None calls or drops a waker: what comes
-/// out is to be called or dropped once the lock is given back.
+/// The sleepers, at most as many as the limit says: when each is due, and a place for each with the waker that it left last. Each
+/// call is one section of whoever locks it, and only `with_room` takes memory. No call calls or drops a waker: the caller calls or
+/// drops each waker that comes out, once it has released the lock.
 #[derive(Drop)]
 pub struct Deadlines<K> {
     limit: usize,
     is_closed: bool,
-    /// The time at which a driver looks again by itself, or of which it was told since: who is due earlier is news to it.
+    /// The time at which a driver looks again by itself, or of which it was notified since. A sleep that is due earlier is news to
+    /// it.
     watched: u128,
     agenda: Agenda,
     places: Slab<Place<K>>,
@@ -33,18 +34,18 @@ pub struct Deadlines<K> {
     ghost agreed: { (place : ℕ) → is_asleep (get places place) ≡ nat_lt (time_of (times agenda) place) never },
 }
 
-/// What stands at the place of one who sleeps.
+/// What stands at the place of a sleeper.
 #[derive(Drop)]
 pub enum Place<K> {
     /// It isn't due. The waker that it left last.
     Asleep(Option<K>),
     /// It is due.
     Due,
-    /// It was told that the timer is stopped.
+    /// The timer was stopped before it was due.
     Stopped,
 }
 
-/// The place of one who sleeps, as it has it. It has no drop: who has it looks or leaves.
+/// A sleeper's own record of its place. It has no drop: its owner looks or leaves.
 #[must_use]
 pub struct Entry {
     place: usize,
@@ -52,19 +53,19 @@ pub struct Entry {
     due: u128,
 }
 
-/// Why one may not sleep here.
+/// Why a sleep isn't taken.
 #[derive(Clone, Copy, Debug, PartialEq, Eq, Drop)]
 pub enum Refused {
-    /// As many sleep as the limit says.
+    /// As many sleep as the limit allows.
     Full,
     /// The timer is closed.
     Closed,
 }
 
-/// What one who sleeps found.
+/// What a sleeper found.
 #[must_use]
 pub enum Looked<K> {
-    /// It isn't due. The waker that it had left before, to be dropped once the lock is given back.
+    /// It isn't due. The waker that it had left before, to be dropped once the lock is released.
     Sleeps(Entry, Option<K>),
     /// It is due, and has left. The waker that it wanted to leave comes back.
     Due(Option<K>),
@@ -75,20 +76,20 @@ pub enum Looked<K> {
 /// Who is due next.
 #[must_use]
 pub enum Next<K> {
-    /// One was due, and is so marked. The waker that it left, to be called once the lock is given back.
+    /// One was due, and is marked so. The waker that it left, to be called once the lock is released.
     Told(Option<K>),
-    /// Nobody is due before so many nanoseconds have passed.
+    /// Nobody is due before this many nanoseconds have passed.
     In(u128),
     /// Nobody sleeps.
     Nobody,
-    /// Nobody sleeps, and nobody may any more.
+    /// Nobody sleeps, and no new sleep is taken.
     Closed,
 }
 
 impl<K: Drop> Deadlines<K> {
     ghost use Rattle.timer.specs.Sleeping.{HasDismissed, HasLooked, HasRoom, HasTold, IsWatched, SameTerms, sleepers};
 
-    /// Nobody sleeps. It takes memory for so many.
+    /// Makes a list with no sleeper. It takes memory for this many.
     pub fn with_room(alloc: Global, limit: usize) -> Result<Self, AllocError>
         ensures limit { IfOk result (λ s. s.limit ≡ limit) }
         ensures open { IfOk result (λ s. s.is_closed ≡ false) }
@@ -106,7 +107,7 @@ impl<K: Drop> Deadlines<K> {
         })
     }
 
-    /// One more sleeps, until it is due at this time.
+    /// Adds a sleeper that is due at this time.
     pub fn enter(&mut self, due: Duration) -> Result<Entry, Refused>
         ensures asleep { IfOk result (λ entry. Updates self.old.places self.new.places entry.place (Some (Asleep None))) }
         ensures new_place { IfOk result (λ entry. get self.old.places entry.place ≡ None) }
@@ -131,8 +132,8 @@ impl<K: Drop> Deadlines<K> {
         Ok(Entry { place, due })
     }
 
-    /// Whether this one is due before any driver looks again. Who is told so tells the drivers, and so they look in time from then
-    /// on.
+    /// Whether this one is due before any driver looks again. A caller that gets a yes has to notify the drivers, which from then
+    /// on look in time.
     pub fn is_news(&mut self, entry: &Entry) -> bool
         ensures news { IsTrue result ↔ (entry.now.due < self.old.watched) }
         ensures watched { self.new ≡ record self.old { watched = min entry.now.due self.old.watched } }
@@ -144,7 +145,7 @@ impl<K: Drop> Deadlines<K> {
         false
     }
 
-    /// Whether it is due. Where it isn't, it leaves this waker in the place of the one before.
+    /// Whether this sleeper is due. Where it isn't, it leaves this waker in the place of the one before.
     pub fn look(&mut self, entry: Entry, waker: Option<K>) -> Looked<K>
         ensures looked { HasLooked entry.place entry.due waker self.old.places self.new.places result }
         ensures others { sleepers self.new ≡ sleepers self.old }
@@ -161,7 +162,7 @@ impl<K: Drop> Deadlines<K> {
         }
     }
 
-    /// Leaves, due or not: its waker, to be dropped once the lock is given back.
+    /// Removes a sleeper, due or not. Answers its waker, to be dropped once the lock is released.
     pub fn leave(&mut self, entry: Entry) -> Option<K>
         ensures waker { result ≡ waker_at (get self.old.places entry.place) }
         ensures left { Updates self.old.places self.new.places entry.place None }
@@ -176,8 +177,8 @@ impl<K: Drop> Deadlines<K> {
         }
     }
 
-    /// Tells the one who is due first, where its time has come: it is marked as due. Who is told that nobody is due yet, or sleeps,
-    /// looks again by then, or once it is told of news.
+    /// Marks the first sleeper as due, where its time has come. A driver that finds that nobody is due yet, or nobody sleeps,
+    /// looks again by then, or once it is notified of news.
     pub fn tell(&mut self, now: Duration) -> Next<K>
         ensures told { HasTold (as_nanos now) self.old self.new result }
         ensures watched { IsWatched (as_nanos now) self.new result }
@@ -198,8 +199,8 @@ impl<K: Drop> Deadlines<K> {
         }
     }
 
-    /// Tells the one who is due first that the timer is stopped, before its time or not. The waker that it left, to be called once
-    /// the lock is given back. `None` where nobody sleeps.
+    /// Marks the first sleeper as stopped, before its time or not. Answers the waker that it left, to be called once the lock is
+    /// released. `None` where nobody sleeps.
     pub fn dismiss(&mut self) -> Option<Option<K>>
         ensures dismissed { HasDismissed self.old self.new result }
         ensures terms { SameTerms self.old self.new }
@@ -211,14 +212,14 @@ impl<K: Drop> Deadlines<K> {
         }
     }
 
-    /// Whether nobody sleeps, and nobody may any more.
+    /// Whether nobody sleeps, and no new sleep is taken.
     pub fn is_over(&self) -> bool
         ensures { IsTrue result ↔ ((self.now.is_closed ≡ true) × (sleepers self.now ≡ [])) }
     {
         self.is_closed && self.agenda.is_empty()
     }
 
-    /// Nobody more may sleep.
+    /// Closes the list: no new sleep is taken.
     pub fn close(&mut self)
         ensures { self.new ≡ record self.old { is_closed = true } }
     {
@@ -226,7 +227,7 @@ impl<K: Drop> Deadlines<K> {
     }
 }
 
-/// Marks who sleeps at this place: its waker.
+/// Marks the sleeper at this place, and answers its waker.
 fn mark<K: Drop>(places: &mut Slab<Place<K>>, place: usize, mark: Place<K>) -> Option<K>
     ensures places { Updates places.old places.new place (marked mark (get places.old place)) }
     ensures waker { result ≡ waker_at (get places.old place) }

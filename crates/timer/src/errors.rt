@@ -5,7 +5,7 @@ use crate::deadlines::Refused;
 use std::io::{self, ErrorKind};
 use thiserror::Error;
 
-/// Why there is no timer.
+/// Why no timer was made.
 #[derive(Clone, Copy, Debug, PartialEq, Eq, Drop, Error)]
 pub enum TimerError {
     #[error("out of memory")]
@@ -14,7 +14,7 @@ pub enum TimerError {
     NoClock,
 }
 
-/// Why one may not sleep.
+/// Why no sleep was made.
 #[derive(Clone, Copy, Debug, PartialEq, Eq, Drop, Error)]
 pub enum SleepError {
     #[error("the timer is full: as many sleep as it was made for")]
@@ -28,7 +28,7 @@ pub enum SleepError {
 #[error("the timer was stopped before the time had come")]
 pub struct Stopped;
 
-/// Why a future that has only so much time has no output.
+/// Why a future with a time limit has no output.
 #[derive(Clone, Copy, Debug, PartialEq, Eq, Drop, Error)]
 pub enum TimeoutError {
     #[error("the time is up")]
@@ -37,7 +37,7 @@ pub enum TimeoutError {
     Stopped,
 }
 
-/// So that `?` takes it to an `io::Result`.
+/// Lets `?` convert it to an `io::Error`.
 impl From<TimerError> for io::Error {
     ghost use Rattle.timer.specs.Errors.{of_timer};
 
@@ -51,7 +51,7 @@ impl From<TimerError> for io::Error {
     }
 }
 
-/// So that `?` takes it to an `io::Result`.
+/// Lets `?` convert it to an `io::Error`.
 impl From<SleepError> for io::Error {
     ghost use Rattle.timer.specs.Errors.{of_sleep};
 
@@ -65,7 +65,7 @@ impl From<SleepError> for io::Error {
     }
 }
 
-/// So that `?` takes it to an `io::Result`.
+/// Lets `?` convert it to an `io::Error`.
 impl From<Stopped> for io::Error {
     ghost use Rattle.std.specs.declared.io.ErrorKind.TheVariants.{BrokenPipe};
 
@@ -76,7 +76,7 @@ impl From<Stopped> for io::Error {
     }
 }
 
-/// So that `?` takes it to an `io::Result`.
+/// Lets `?` convert it to an `io::Error`.
 impl From<TimeoutError> for io::Error {
     ghost use Rattle.timer.specs.Errors.{of_timeout};
 

@@ -12,20 +12,20 @@ use std::mem;
 use std::sync::{Arc, Wait};
 use std::time::{Clock, Duration};
 
-/// Ticks once each period: a future that is ready once the next tick has come, and is then polled again for the one behind it. The
+/// Ticks once each period: a future that is ready once the next tick has come, and is then polled again for the tick after it. The
 /// first is due at once.
 ///
-/// **A tick that was missed comes late, and those behind it at once, until it has caught up**: each is due one period after the one
-/// before was due, whenever that was taken. That is `MissedTickBehavior::Burst` of `tokio`. With a period of no time each poll is a
-/// tick.
+/// **A tick that was missed comes late, and the ticks after it at once, until it has caught up.** Each is due one period after the
+/// one before was due, whenever that was taken. That is `MissedTickBehavior::Burst` of `tokio`. With a period of no time each poll
+/// is a tick.
 ///
-/// It has one place of its timer as long as it ticks. A timer that is closed gives the tick that was awaited, in its time, and then
-/// `Stopped`; one that is stopped gives `Stopped`. Dropped, it gives its place back.
+/// It has one place of its timer as long as it ticks. A closed timer gives the tick that was awaited, in its time, and then
+/// `Stopped`; a stopped timer gives `Stopped`. Dropped, it gives its place back.
 pub struct Interval<K: Wake + Drop, R: Wait + Clock + Copy + Drop> {
     shared: Arc<Shared<K>>,
     rt: R,
     period: Duration,
-    /// When the tick is due that is awaited, from the timer's start on.
+    /// When the awaited tick is due, as time from the timer's start.
     due: Duration,
     entry: Option<Entry>,
 }
@@ -51,14 +51,14 @@ impl<K: Wake + Drop, R: Wait + Clock + Copy + Drop> Interval<K, R> {
         }
     }
 
-    /// Each period it ticks.
+    /// Makes an interval with this period.
     pub fn period(&self) -> Duration
         ensures { result ≡ self.now.period }
     {
         self.period
     }
 
-    /// This is its place from now on.
+    /// Sets its place.
     fn hold(&mut self, entry: Option<Entry>)
         ensures { self.new ≡ record self.old { entry = entry } }
     {
@@ -67,7 +67,7 @@ impl<K: Wake + Drop, R: Wait + Clock + Copy + Drop> Interval<K, R> {
         }
     }
 
-    /// One tick has come, and the next is awaited, where the timer isn't closed.
+    /// Moves on by one tick: the next is awaited, where the timer isn't closed.
     fn tick(&mut self, entry: Entry)
         ensures next { as_nanos self.new.due ≡ min (as_nanos self.old.due + as_nanos self.old.period) max_nanos }
         ensures period { self.new.period ≡ self.old.period }

@@ -1,4 +1,4 @@
-//! Sleeping: a timer, whose thread calls those who sleep once their time has come, for any waker.
+//! Sleeping: a timer, whose thread wakes sleepers once their time has come, for any waker.
 #![tactic(auto)]
 
 mod agenda;

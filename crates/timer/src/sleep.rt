@@ -10,10 +10,10 @@ use async_task::{Future, Poll, Wake};
 use std::mem;
 use std::sync::{Arc, Wait};
 
-/// One who sleeps: a future that is ready once its time has come, and from then on. It is ready with an error where the timer was
-/// stopped before that. Each poll leaves its waker in the place of the one before. Where no copy of the waker can be had it calls
-/// the waker, so that it is polled again. Dropped, it gives its place back, in a time that grows with the logarithm of how many
-/// may sleep.
+/// A sleep: a future that is ready once its time has come, and from then on. It is ready with an error where the timer was stopped
+/// before that. Each poll leaves its waker in the place of the one before. Where no copy of the waker can be had it calls the
+/// waker, so that it is polled again. Dropped, it gives its place back, in a time that grows with the logarithm of how many may
+/// sleep.
 pub struct Sleep<K: Wake + Drop, R: Wait + Copy + Drop> {
     shared: Arc<Shared<K>>,
     rt: R,
@@ -35,7 +35,7 @@ impl<K: Wake + Drop, R: Wait + Copy + Drop> Sleep<K, R> {
         }
     }
 
-    /// What it is ready with, once it has its place no more.
+    /// What it is ready with, once it has given up its place.
     fn ended(&self) -> Result<(), Stopped>
         ensures { result ≡ woken self.now.is_stopped }
     {

@@ -1,4 +1,4 @@
-//! A future that has only so much time.
+//! A future with a time limit.
 ghost use Rattle.async_task.specs.declared.poll.Poll.TheVariants as poll;
 ghost use Rattle.std.specs.Prelude.{◌≡◌, Err, IsSome, None};
 ghost use Rattle.timer.specs.declared.errors.TimeoutError.{TimeoutError};
@@ -8,8 +8,8 @@ use crate::sleep::Sleep;
 use async_task::{Future, Poll, Wake};
 use std::sync::Wait;
 
-/// A future that is given so much time: its output, or that the time is up or the timer was stopped. Where both are so it answers
-/// the output. Dropped, it drops both.
+/// A future with a time limit. It answers the future's output, or that the time is up or the timer was stopped. Where both hold it
+/// answers the output. Dropped, it drops the future and the sleep.
 #[derive(Drop)]
 pub struct Timeout<F, K: Wake + Drop, R: Wait + Copy + Drop> {
     pub(crate) future: F,

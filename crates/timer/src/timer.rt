@@ -16,26 +16,26 @@ use std::alloc::Global;
 use std::sync::{Arc, Wait};
 use std::time::{Clock, Duration, Instant};
 
-/// What a turn of the driver left.
+/// The state that a turn of the driver left.
 #[derive(Clone, Copy, Debug, PartialEq, Eq, Drop)]
 pub enum Turned {
-    /// The next is due once so much time has passed.
+    /// The next sleep is due once this much time has passed.
     In(Duration),
     /// Nobody sleeps.
     Nobody,
-    /// Nobody sleeps, and nobody may any more.
+    /// Nobody sleeps, and no new sleep is taken.
     Closed,
 }
 
-/// A timer for so many who sleep at a time. One thread drives it, which calls each once its time has come. The type of their
-/// wakers is `K`.
+/// A timer for a number of sleepers at a time. One thread drives it, which wakes each sleeper once its time has come. The type of
+/// their wakers is `K`.
 ///
 /// Wakers are called and dropped with no lock held.
 ///
 /// `sleep`, `sleep_until`, `interval` and `timeout` have their names from `tokio::time`. A timer asks for a runtime value that may
 /// wait and reads the clock, the allocator, and the number of sleepers. `new` takes the memory for all of them; to sleep, close or
-/// stop takes none. One sleeper more is `Full`, and a closed timer answers `Closed`. Who sleeps is ready with `Stopped` where the
-/// timer is stopped before its time. This is a handle of one timer, and `clone` makes others.
+/// stop takes none. One sleeper too many gets `Full`, and a closed timer answers `Closed`. A sleep whose timer is stopped before
+/// its time is ready with `Stopped`. This is one handle of the timer, and `clone` makes others.
 ///
 /// In `sleepers` of `examples` the thread that runs the executor drives the timer too:
 ///
@@ -58,7 +58,7 @@ pub struct Timer<K: Wake + Drop, R: Wait + Copy + Drop> {
 }
 
 impl<K: Wake + Drop, R: Wait + Clock + Copy + Drop> Timer<K, R> {
-    /// A timer for so many who sleep at a time, for whom it takes all memory now.
+    /// Makes a timer for this many sleepers at a time, and takes the memory for all of them now.
     pub fn new(rt: R, alloc: Global, sleepers: usize) -> Result<Self, TimerError> {
         let Ok(start) = Instant::now(&rt) else {
             return Err(TimerError::NoClock);
@@ -75,7 +75,7 @@ impl<K: Wake + Drop, R: Wait + Clock + Copy + Drop> Timer<K, R> {
         }
     }
 
-    /// The same timer, for another who sleeps or drives; refused where it has too many already. It takes no memory.
+    /// Makes another handle of the same timer, to sleep or to drive it; refused where it has too many already. It takes no memory.
     pub fn clone(&self) -> Result<Self, NoMemory>
         ensures same { IfOk result (λ timer. arc_value timer.shared ≡ arc_value self.now.shared) }
     {
@@ -88,7 +88,7 @@ impl<K: Wake + Drop, R: Wait + Clock + Copy + Drop> Timer<K, R> {
         }
     }
 
-    /// A future that is ready once so much time has passed from now on. It takes no memory.
+    /// Makes a future that is ready once this much time has passed from now on. It takes no memory.
     pub fn sleep(&self, duration: Duration) -> Result<Sleep<K, R>, SleepError>
         ensures here { IfOk result (λ sleep. arc_value sleep.shared ≡ arc_value self.now.shared) }
         ensures waits { IfOk result (λ sleep. IsSome sleep.entry) }
@@ -99,7 +99,7 @@ impl<K: Wake + Drop, R: Wait + Clock + Copy + Drop> Timer<K, R> {
         self.sleep_till(due)
     }
 
-    /// A future that is ready once this time has come; at once, where it has come before. It takes no memory.
+    /// Makes a future that is ready once this time has come; at once, where it came before. It takes no memory.
     pub fn sleep_until(&self, deadline: Instant) -> Result<Sleep<K, R>, SleepError>
         ensures here { IfOk result (λ sleep. arc_value sleep.shared ≡ arc_value self.now.shared) }
         ensures waits { IfOk result (λ sleep. IsSome sleep.entry) }
@@ -110,8 +110,8 @@ impl<K: Wake + Drop, R: Wait + Clock + Copy + Drop> Timer<K, R> {
         self.sleep_till(due)
     }
 
-    /// Ticks once each period, the first time at once. It takes one place, and no memory. `Interval` says what becomes of a tick that
-    /// is missed.
+    /// Ticks once each period, the first time at once. It takes one place, and no memory. `Interval` says what becomes of a tick
+    /// that is missed.
     pub fn interval(&self, period: Duration) -> Result<Interval<K, R>, SleepError>
         ensures here { IfOk result (λ interval. arc_value interval.shared ≡ arc_value self.now.shared) }
         ensures waits { IfOk result (λ interval. IsSome interval.entry) }
@@ -128,7 +128,7 @@ impl<K: Wake + Drop, R: Wait + Clock + Copy + Drop> Timer<K, R> {
         }
     }
 
-    /// Sleeps until so much time has passed since the timer's start.
+    /// Sleeps until this much time has passed since the timer's start.
     fn sleep_till(&self, due: Duration) -> Result<Sleep<K, R>, SleepError>
         ensures here { IfOk result (λ sleep. arc_value sleep.shared ≡ arc_value self.now.shared) }
         ensures waits { IfOk result (λ sleep. IsSome sleep.entry) }
@@ -143,8 +143,9 @@ impl<K: Wake + Drop, R: Wait + Clock + Copy + Drop> Timer<K, R> {
         }
     }
 
-    /// One turn of the driver: tells all who are due by now, and waits for nobody. It says when the next is due. For a thread that
-    /// waits for several things, and for a clock of your own. Where the clock can't be read, it takes each for due.
+    /// Runs one turn of the driver: wakes all sleepers that are due by now, and waits for nobody. It answers when the next is due.
+    /// It is for a thread that waits for several things, and for a clock of your own. Where the clock can't be read, it takes each
+    /// sleeper as due.
     pub fn turn(&self) -> Turned {
         let passed = self.shared.passed(&self.rt);
         for _ in self.rt.forever() {
@@ -156,17 +157,17 @@ impl<K: Wake + Drop, R: Wait + Clock + Copy + Drop> Timer<K, R> {
         unreachable!()
     }
 
-    /// A turn of a driver that waits for other things too: the waker is called once someone is due before that, or nobody may sleep
-    /// any more. It stands in the place of the one before, until it is called.
+    /// Runs a turn of a driver that waits for other things too, and registers its waker. The waker is called once a sleeper is due
+    /// before the answered time, or the timer takes no new sleep. It stands in the place of the one before, until it is called.
     pub fn turn_for(&self, waker: &K) -> Turned {
         self.shared.leave_driver(&self.rt, waker);
         self.turn()
     }
 
-    /// Drives the timer on this thread, until it is closed or stopped and nobody sleeps any more. Where the clock can't be read, it
-    /// takes each for due.
+    /// Drives the timer on this thread, until it is closed or stopped and nobody sleeps any more. Where the clock can't be read,
+    /// it takes each sleeper as due.
     ///
-    /// 1. Reads how often it was told of a change, so that one that comes later ends its wait.
+    /// 1. Reads how often it was notified of a change, so that one that comes later ends its wait.
     /// 2. Marks those that are due, under the lock, and calls their wakers with no lock held.
     /// 3. Where none is left it waits, until the next is due or something changed.
     pub fn drive(&self) {
@@ -185,13 +186,13 @@ impl<K: Wake + Drop, R: Wait + Clock + Copy + Drop> Timer<K, R> {
         unreachable!()
     }
 
-    /// Nobody more may sleep; those who sleep are called in their time, and then a driver ends. It takes no memory.
+    /// Closes the timer: it takes no new sleep. Sleepers are woken in their time, and then a driver ends. It takes no memory.
     pub fn close(&self) {
         self.shared.close(&self.rt);
     }
 
-    /// Nobody more may sleep, and those who sleep are called now: they are ready with `Stopped`. A driver ends. Who was told before
-    /// that its time has come is ready as ever. It takes no memory.
+    /// Stops the timer: it takes no new sleep, and sleepers are woken now. They are ready with `Stopped`, and a driver ends. A
+    /// sleeper that was already woken since its time had come is ready without an error. It takes no memory.
     pub fn stop(&self) {
         self.shared.close(&self.rt);
         for _ in self.rt.forever() {
@@ -204,7 +205,7 @@ impl<K: Wake + Drop, R: Wait + Clock + Copy + Drop> Timer<K, R> {
     }
 }
 
-/// A thread that blocks on a future drives the timer too: `block_on_beside` of `blocking`, `run_until_beside` of `workers`.
+/// A thread that blocks on a future can drive the timer too: `block_on_beside` of `blocking`, `run_until_beside` of `workers`.
 impl<K: Wake + Drop, R: Wait + Clock + Copy + Drop> Beside<K> for Timer<K, R> {
     fn turn(&self, waker: &K) -> Option<Duration> {
         match self.turn_for(waker) {

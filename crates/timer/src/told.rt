@@ -1,24 +1,24 @@
-//! Those who are told in one section of a timer's lock.
+//! The sleepers that are woken by one section of a timer's lock.
 use crate::deadlines::{Deadlines, Next};
 use crate::timer::Turned;
 use async_task::Wake;
 use std::alloc::{AllocError, Global};
 use std::time::Duration;
 
-/// How many are told in one section at most, beside the first, so that others come to the lock between.
+/// How many are marked in one section at most, beside the first, so that others get the lock between sections.
 const AT_ONCE: usize = 32;
 
 /// Room for wakers that come out of one section.
 pub type Room<K> = Vec<Option<K>>;
 
-/// The wakers that came out of one section, which are called behind it: that of one, and of as many more as there is room for.
+/// The wakers that came out of one section, to be called after it: the first, and as many more as there is room for.
 #[derive(Drop)]
 pub struct Told<K> {
     first: Option<K>,
     others: Option<Room<K>>,
 }
 
-/// Takes memory for the wakers of one section, of so many who sleep.
+/// Takes memory for the wakers of one section of a timer with this many sleepers.
 pub fn room_of<K: Drop>(alloc: Global, sleepers: usize) -> Result<Room<K>, AllocError> {
     let count = sleepers.min(AT_ONCE);
     let mut room = Vec::with_capacity(alloc, count)?;
@@ -29,7 +29,7 @@ pub fn room_of<K: Drop>(alloc: Global, sleepers: usize) -> Result<Room<K>, Alloc
 }
 
 impl<K: Drop> Told<K> {
-    /// With this room, where another driver doesn't have it.
+    /// Uses this room, where another driver doesn't have it.
     pub fn with_room(room: Option<Room<K>>) -> Self {
         Told {
             first: None,
@@ -37,13 +37,13 @@ impl<K: Drop> Told<K> {
         }
     }
 
-    /// The room, which is empty again.
+    /// Gives back the room, which is empty again.
     pub fn into_room(self) -> Option<Room<K>> {
         self.others
     }
 
-    /// Tells those who are due by now, as many as there is room for their wakers. Answers whether more may be due, as `Turned::In` of
-    /// no time, or when a driver is to look again.
+    /// Marks the sleepers that are due by now, as many as there is room for their wakers. Answers when a driver has to look again;
+    /// where more may be due, `Turned::In` of no time.
     pub fn tell(&mut self, deadlines: &mut Deadlines<K>, passed: Duration) -> Turned {
         match deadlines.tell(passed) {
             Next::Told(waker) => self.first = waker,
@@ -60,7 +60,7 @@ impl<K: Drop> Told<K> {
         Turned::In(Duration::ZERO)
     }
 
-    /// Tells those who sleep that the timer is stopped, as many as there is room for their wakers. Answers whether nobody is left.
+    /// Marks sleepers as stopped, as many as there is room for their wakers. Answers whether nobody is left.
     pub fn dismiss(&mut self, deadlines: &mut Deadlines<K>) -> bool {
         match deadlines.dismiss() {
             Some(waker) => self.first = waker,
@@ -79,7 +79,7 @@ impl<K: Drop> Told<K> {
 }
 
 impl<K: Wake + Drop> Told<K> {
-    /// Calls each, in the order in which they were told.
+    /// Calls each waker, in the order in which the sleepers were marked.
     pub fn call(&mut self) {
         if let Some(waker) = self.first.take() {
             waker.wake();
@@ -94,7 +94,7 @@ impl<K: Wake + Drop> Told<K> {
     }
 }
 
-/// What an answer says that tells nobody.
+/// What a driver's turn answers where this turn wakes nobody.
 fn turned<K: Drop>(next: Next<K>) -> Turned {
     match next {
         Next::Told(_) => Turned::In(Duration::ZERO),

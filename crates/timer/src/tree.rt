@@ -1,9 +1,9 @@
-//! The least of many times by a tree of one slice: the leaf of place `p` stands at `room + p`, each node `i` below `room` has the
-//! lesser of those at `2 * i` and `2 * i + 1`, and so the one at 1 has the least of all.
+//! The least of many times, by a tree in one slice. The leaf of place `p` stands at `room + p`. Each node `i` below `room` has the
+//! lesser of those at `2 * i` and `2 * i + 1`, so the node at 1 has the least of all.
 ghost use Rattle.std.specs.Prelude.{◌≡◌, ℕ, ◌+◌, ◌<◌, ◌≤◌, drop, length, slice_index, slice_set};
 ghost use Rattle.timer.specs.Tree.{IsTree};
 
-/// Writes the time of this place, and then the nodes above that change by it.
+/// Writes the time of this place, and then updates the nodes above it.
 pub fn set_leaf(nodes: &mut [u128], room: usize, place: usize, time: u128)
     requires tree { IsTree room nodes.old }
     requires within { place < room }
@@ -24,7 +24,7 @@ pub fn set_leaf(nodes: &mut [u128], room: usize, place: usize, time: u128)
     }
 }
 
-/// The place of the least time, or of one of several that are as little.
+/// The place of the least time, or one of several where several are equal.
 pub fn first_leaf(nodes: &[u128], room: usize) -> usize
     requires tree { IsTree room nodes.now }
     requires some { 0 < room }

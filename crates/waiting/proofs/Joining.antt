@@ -1,4 +1,4 @@
--- Who joins those who wait is the last of them. Who isn't among them was told.
+-- A new waiter is the last of them. Who isn't among them was notified.
 use Rattle.std.proofs.Common.{◌≡◌, ℕ, ◌+◌, true, eqb, List, [], ◌∷◌, ◌++◌, length, Some, None, Option, refl}
 use Rattle.std.proofs.Common.{sym, ap, ◌∙◌, subst, arith}
 use Rattle.std.proofs.Math.Seq.{set-append_seam}
@@ -29,7 +29,7 @@ module _ {K : Type 0} where
       × (listening.number ≡ old.next) × (before ≡ None)
   HasJoined waker old new (Told _ _) = ⊥
 
-  -- who looks once it listens isn't told yet
+  -- a waiter that looks once it listens isn't notified yet
   pub has_joined :
       (waker : Option K) (old new : Waiters K) (result : Looked K)
       → HasLooked old.next waker (listened old) new result → HasJoined waker old new result
@@ -47,7 +47,7 @@ module _ {K : Type 0} where
   has_joined waker old new (Told call back) looked =
       let found : None ≡ Some (length old.waiting) = sym looked.0 ∙ last_found old.next None old.waiting in cc
 
-  -- the same, of one who has just listened
+  -- the same, of one that has just listened
   pub joins_at :
       (waker : Option K) (number : ℕ) (old mid new : Waiters K) (result : Looked K)
       → number ≡ old.next → mid ≡ listened old → HasLooked number waker mid new result → HasJoined waker old new result
@@ -67,7 +67,7 @@ module _ {K : Type 0} where
     last.2,
   )
 
-  -- who isn't in the list takes what was promised
+  -- a waiter that isn't in the list takes what was promised
   pub finds_told :
       (number : ℕ) (waker back : Option K) (old inside new : Permits K) (left : Waiters K) (result : Found K)
       → inside ≡ old → position_of number inside.waiters.waiting ≡ None → left ≡ inside.waiters → back ≡ waker
@@ -83,7 +83,7 @@ module _ {K : Type 0} where
       subst (λ (p : Permits K). position_of number p.waiters.waiting ≡ None) same none in
       subst (λ (o : Option ℕ). HasFoundAt o number waker old new result) (sym missing) whole
 
-  -- what was promised to who isn't in the list goes on
+  -- what was promised to a waiter that isn't in the list goes on
   pub goes_on :
       (number : ℕ) (waker : Option K) (old inside new : Permits K) (left : Waiters K)
       → inside ≡ old → position_of number inside.waiters.waiting ≡ None → left ≡ inside.waiters

@@ -1,4 +1,4 @@
--- What a poll of who wants a permit leaves and answers.
+-- What a poll of a future that wants a permit leaves and answers.
 use Rattle.std.specs.Prelude.{◌≡◌, Option, Some, None, Result, Ok, Err}
 use Rattle.async_task.specs.declared.poll.Poll.{Poll}
 use Rattle.async_task.specs.declared.poll.Poll.TheVariants.{Ready, Pending}
@@ -27,6 +27,6 @@ module _ {K : Type 0} {R : Type 0} where
   HasPolledOf (Some semaphore) new (Ready (Err _)) = new ≡ Comes semaphore
   HasPolledOf (Some semaphore) new Pending = WaitsFor semaphore new
 
-  -- what a poll leaves and answers. Who gave a permit is pending
+  -- what a poll leaves and answers. A future that gave a permit is pending
   abbrev pub HasPolled : Stage K R → Stage K R → Poll (Result (Permit K R) AcquireError) → Type 0
   HasPolled old new answer = HasPolledOf (semaphore_of old) new answer

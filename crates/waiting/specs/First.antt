@@ -6,8 +6,8 @@ use Rattle.waiting.specs.declared.first.Either.{Either}
 use Rattle.waiting.specs.declared.first.Either.TheVariants.{Left, Right}
 
 module _ {A X B Y : Type 0} where
-  -- pending, and two are kept; or one is ready, and none is kept: the second comes back of the first as it was, unpolled. Polled
-  -- once more it is pending
+  -- pending, and both are kept; or one is ready, and none is kept: beside the first's output the second comes back as it was,
+  -- unpolled. Polled once more it is pending
   abbrev pub HasSelected : Option (A × B) → Option (A × B) → Poll (Either (X × B) (Y × A)) → Type 0
   HasSelected None new answer = (answer ≡ Pending) × (new ≡ None)
   HasSelected (Some both) new Pending = IsSome new

@@ -12,14 +12,14 @@ use Rattle.waiting.specs.declared.permits.Refused.{Refused}
 use Rattle.waiting.specs.declared.permits.Refused.TheVariants as refused
 
 pub record Permits (K : Type 0) : Type 0 where
-  -- what who comes may take
+  -- what a new caller may take
   pub free : ℕ
-  -- what those may take who were told
+  -- what waiters may take that were notified
   pub promised : ℕ
   pub held : ℕ
   -- none is given any more
   pub is_closed : Bool
-  -- who waits
+  -- the waiters
   pub waiters : Waiters K
 
 -- stored as the tuple of its fields
@@ -36,8 +36,8 @@ permits_code {K} waker =
 abbrev pub most : ℕ
 most = 2 ^ 64 - 1
 
--- what permits keep: that their number has an end, that nobody waits while one is free, and that nobody waits, and none is promised,
--- once they are closed
+-- what permits keep: their number has an end; nobody waits while one is free; once they are closed nobody waits, and none is
+-- promised
 pub record IsWell {W : Type 0} (free promised held : ℕ) (is_closed : Bool) (waiting : List W) : Type 0 where
   pub within : free + promised + held ≤ most
   pub nobody : 0 < free → waiting ≡ []
@@ -48,7 +48,7 @@ module _ {K : Type 0} where
   abbrev pub all_of : Permits K → ℕ
   all_of p = p.free + p.promised + p.held
 
-  -- the waker that who came first left, if one waits
+  -- the waker that the first waiter left, if one waits
   abbrev pub first_left : List (ℕ × Option K) → Option K
   first_left [] = None
   first_left (e ∷ _) = e.1
@@ -69,7 +69,7 @@ module _ {K : Type 0} where
   given_where [] p = record p { free = p.free + 1 }
   given_where (_ ∷ _) p = record p { promised = p.promised + 1; waiters = told p.waiters }
 
-  -- one more is there: promised to who came first, who waits no more; or free where nobody waits
+  -- one more is there: promised to the first waiter, who waits no more; or free where nobody waits
   abbrev pub given : Permits K → Permits K
   given p = given_where p.waiters.waiting p
 
@@ -86,13 +86,13 @@ module _ {K : Type 0} where
   abbrev pub joined : Option K → Permits K → Permits K
   joined waker p = record p { waiters = record { next = p.waiters.next + 1; waiting = p.waiters.waiting ++ (p.waiters.next, waker) ∷ [] } }
 
-  -- one that was free is held; or it is told why not
+  -- a free one is held; or it is refused, with the reason
   abbrev pub HasTaken : Permits K → Permits K → Result Held Refused → Type 0
   HasTaken old new (Ok _) = (old.is_closed ≡ false) × (0 < old.free) × (new ≡ taken old)
   HasTaken old new (Err refused.NoPermits) = (old.is_closed ≡ false) × (old.free ≡ 0) × (new ≡ old)
   HasTaken old new (Err (refused.Closed _)) = (old.is_closed ≡ true) × (new ≡ old)
 
-  -- what one who comes finds: one that is free; or none, and it waits, or is told why not
+  -- what a new caller finds: a free one; or none, and it waits, or is refused with the reason
   abbrev pub HasCome : Option K → Permits K → Permits K → Found K → Type 0
   HasCome waker old new (found.Taken _ back) = (old.is_closed ≡ false) × (0 < old.free) × (new ≡ taken old) × (back ≡ waker)
   HasCome waker old new (found.Waits listening before) = (old.is_closed ≡ false) × (old.free ≡ 0) × (new ≡ joined waker old)
@@ -100,7 +100,7 @@ module _ {K : Type 0} where
   HasCome waker old new (found.Closed _ back) = (old.is_closed ≡ true) × (new ≡ old) × (back ≡ waker)
   HasCome waker old new (found.NoMemory back) = (old.is_closed ≡ false) × (old.free ≡ 0) × (new ≡ old) × (back ≡ waker)
 
-  -- one that was promised is taken; where none is, it is as who comes
+  -- a promised one is taken; where none is promised, it does as a new caller does
   abbrev pub HasRedeemed : ℕ → Option K → Permits K → Permits K → Found K → Type 0
   HasRedeemed zero waker old new result = HasCome waker old new result
   HasRedeemed (suc _) waker old new (found.Taken _ back) = (new ≡ redeemed old) × (back ≡ waker)
@@ -117,7 +117,7 @@ module _ {K : Type 0} where
   HasFoundAt (Some at) number waker old new result = WaitsOn number waker at old new result
   HasFoundAt None number waker old new result = HasRedeemed old.promised waker old new result
 
-  -- what one who waits finds: where it is in the list it waits on; else it was told, and takes what was promised
+  -- what a waiter finds: where it is in the list it waits on; else it was notified, and takes what was promised
   abbrev pub HasFound : ℕ → Option K → Permits K → Permits K → Found K → Type 0
   HasFound number waker old new result = HasFoundAt (position_of number old.waiters.waiting) number waker old new result
 
@@ -142,12 +142,12 @@ module _ {K : Type 0} where
   abbrev pub HasGivenBack : Permits K → Permits K → Option K → Type 0
   HasGivenBack old new waker = HasGivenBackOf old.held old new waker
 
-  -- so many more came: the first of them is promised where one waits, and the others are left; else all are free
+  -- this many more came: the first of them is promised where one waits, and the others are left; else all are free
   abbrev pub HasAddedOf : ℕ → List (ℕ × Option K) → Permits K → Permits K → Option K → ℕ → Type 0
   HasAddedOf zero waiting old new waker left = (new ≡ old) × (waker ≡ None) × (left ≡ 0)
   HasAddedOf (suc more) [] old new waker left = (new ≡ record old { free = old.free + suc more }) × (waker ≡ None) × (left ≡ 0)
   HasAddedOf (suc more) (first ∷ _) old new waker left = (new ≡ given old) × (waker ≡ first.1) × (left ≡ more)
 
-  -- so many more came, as far as there are no more than may be at a time
+  -- this many more came, as far as there are no more than may be at a time
   abbrev pub HasAdded : ℕ → Permits K → Permits K → Option K → ℕ → Type 0
   HasAdded permits old new waker left = HasAddedOf (min permits (most - all_of old)) old.waiters.waiting old new waker left

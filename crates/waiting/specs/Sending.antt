@@ -10,7 +10,7 @@ use Rattle.waiting.specs.declared.channel.sending.Tried.{Tried}
 use Rattle.waiting.specs.declared.channel.sending.Tried.TheVariants.{Sent, Refused, Waits, Again}
 
 module _ {T : Type 0} where
-  -- a try with this message, in a channel of so many places: a message that isn't sent comes back
+  -- a try with this message, in a channel with this many places: a message that isn't sent comes back
   abbrev pub MayTrySend : {X : Type 0} → Option ℕ → T → Result X (TrySendError T) → Type 0
   MayTrySend places message (Ok _) = Unit {0}
   MayTrySend places message (Err (tried.Full back)) = IsSome places × (back ≡ message)

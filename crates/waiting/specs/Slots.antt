@@ -28,7 +28,7 @@ module _ {T : Type 0} {K : Type 0} where
   waited_with (Some waker) = Waited waker
   waited_with None = Empty
 
-  -- what who waits found: the value, which is taken; or nothing, and it leaves its waker; or that none is to come
+  -- what the receiver found: the value, which is taken; or no value yet, and it leaves its waker; or that none is to come
   abbrev pub HasReceived : Option K → Slot T K → Slot T K → Received T K → Type 0
   HasReceived waker old new (Value value back) = (old ≡ Full value) × (new ≡ Closed) × (back ≡ waker)
   HasReceived waker old new (Waits before) = (old ≡ waited_with before) × (new ≡ waited_with waker)

@@ -10,9 +10,9 @@ use Rattle.waiting.specs.declared.waiters.Left.TheVariants.{Untold}
 use Rattle.std.specs.Coded.{Coded, code_by, coded×, coded_ℕ, coded_list, coded_option}
 
 pub record Waiters (K : Type 0) : Type 0 where
-  -- the number of the next who listens
+  -- the number of the next listener
   pub next : ℕ
-  -- who listens and wasn't told, with the waker that was left last, in the order in which they came
+  -- the listeners that weren't notified, each with the waker that it left last, in the order in which they came
   pub waiting : List (ℕ × Option K)
 
 -- stored as the tuple of its fields
@@ -37,7 +37,7 @@ module _ {W : Type 0} where
   position_of number (e ∷ es) = later (position_of number es) (elim (number == e.0) [ true ↦ Some 0 | false ↦ None ])
 
 module _ {K : Type 0} where
-  -- the waker of who came first
+  -- the waker of the first waiter
   abbrev pub first_waker : List (ℕ × Option K) → Option (Option K)
   first_waker [] = None
   first_waker (e ∷ _) = Some e.1
@@ -50,7 +50,7 @@ module _ {K : Type 0} where
   abbrev pub listened : Waiters K → Waiters K
   listened w = record { next = w.next + 1; waiting = w.waiting ++ (w.next, None) ∷ [] }
 
-  -- who came first was told
+  -- the first waiter was notified
   abbrev pub told : Waiters K → Waiters K
   told w = record w { waiting = drop 1 w.waiting }
 
@@ -59,14 +59,14 @@ module _ {K : Type 0} where
   without None w = w
   without (Some at) w = record w { waiting = remove w.waiting at }
 
-  -- what one who waits found: its place, where the new waker stands for the old one; or it has none, and was told
+  -- what a waiter found: its place, where the new waker stands for the old one; or it has none, and was notified
   abbrev pub HasLooked : ℕ → Option K → Waiters K → Waiters K → Looked K → Type 0
   HasLooked number waker old new (Waits listening before) = (at : ℕ) × (position_of number old.waiting ≡ Some at)
       × (waker_in (slice_get old.waiting at) ≡ before) × (listening.number ≡ number)
       × (new ≡ record old { waiting = slice_set old.waiting at (number, waker) })
   HasLooked number waker old new (looked.Told _ back) = (position_of number old.waiting ≡ None) × (new ≡ old) × (back ≡ waker)
 
-  -- how one left: its entry went; or it has none, and was told
+  -- how a waiter left: its entry went; or it has none, and was notified
   abbrev pub HasLeft : ℕ → Waiters K → Waiters K → Left K → Type 0
   HasLeft number old new (Untold waker) = (at : ℕ) × (position_of number old.waiting ≡ Some at)
       × (waker_in (slice_get old.waiting at) ≡ waker) × (new ≡ record old { waiting = remove old.waiting at })

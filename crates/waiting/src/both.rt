@@ -6,7 +6,7 @@ ghost use Rattle.waiting.specs.declared.both.Awaited.TheVariants as awaited;
 use async_task::{Future, Poll};
 use std::mem;
 
-/// A future that is awaited beside others, and then its output.
+/// The state of a future that is awaited beside others: the future, and later its output.
 #[derive(Drop)]
 pub enum Awaited<F, T> {
     /// It isn't ready yet.
@@ -17,7 +17,8 @@ pub enum Awaited<F, T> {
     Given,
 }
 
-/// Is ready once both are, with both outputs. A poll polls each that isn't ready yet. Dropped, it drops what it has.
+/// A future that is ready once both futures are ready, with both outputs. A poll polls each future that isn't ready yet. Dropped,
+/// it drops what it has.
 #[derive(Drop)]
 pub struct Join<A, X, B, Y> {
     pub(crate) first: Awaited<A, X>,
@@ -38,7 +39,7 @@ impl<F: Drop, T: Drop> Awaited<F, T> {
         }
     }
 
-    /// The output, where it is there. It is given once.
+    /// Takes the output where it is there. The output is given once.
     fn give(&mut self) -> Option<T>
         ensures output { result ≡ output_of self.old }
         ensures given { IfSome result (λ _. self.new ≡ awaited.Given) }

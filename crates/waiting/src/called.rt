@@ -1,6 +1,6 @@
 use async_task::Wake;
 
-/// That a waker was called: none is made elsewhere, so who has one has called it.
+/// Proof that a waker was called. Nothing else makes one, so whoever has one has called the waker.
 #[derive(Drop)]
 pub struct Called {
     own: (),

@@ -24,15 +24,15 @@ pub type Ends<T, A, B, R> = (Sender<T, A, B, R>, Receiver<T, A, B, R>);
 
 /// The ends of channels whose senders and receivers have one type of waker.
 pub mod one_kind {
-    /// A `Sender` that waits with such a waker, as its receivers do.
+    /// A `Sender` that waits with this type of waker, as its receivers do.
     pub type Sender<T, K, R> = super::Sender<T, K, K, R>;
 
-    /// A `Receiver` that waits with such a waker, as its senders do.
+    /// A `Receiver` that waits with this type of waker, as its senders do.
     pub type Receiver<T, K, R> = super::Receiver<T, K, K, R>;
 }
 
-/// A sender and a receiver of a channel that holds so many messages. Senders wait with wakers of the type `A`, receivers of the type
-/// `B`. It takes memory for all places.
+/// A sender and a receiver of a channel that holds this many messages. Senders wait with wakers of the type `A`, receivers with
+/// wakers of the type `B`. It takes memory for all places.
 ///
 /// ```
 /// let (mut sender, mut receiver) = channel::bounded::<u64, Nobody, Nobody, _>(rt, rt.alloc(), 1)?;
@@ -62,8 +62,8 @@ pub fn bounded<T: Drop, A: Wake + Drop, B: Wake + Drop, R: Wait + Copy + Drop>(
     }
 }
 
-/// A sender and a receiver of a channel that holds as many messages as memory does, so that no sender waits. A message takes memory,
-/// and `NoMemory` is answered where there is none.
+/// A sender and a receiver of a channel that holds as many messages as memory does, so that no sender waits. A message takes
+/// memory; a send answers `NoMemory` where there is none.
 ///
 /// ```
 /// let (sender, receiver) = channel::unbounded::<u64, Nobody, Nobody, _>(rt, rt.alloc())?;

@@ -1,5 +1,5 @@
-//! Entries under numbers that ascend: one that came to an empty list, and a map of those that came after it. So where one waits
-//! at a time no map is made.
+//! Entries under numbers that ascend: one entry that came to an empty list, and a map of the entries that came after it. So a list
+//! with one waiter at a time makes no map.
 ghost use Rattle.std.specs.Prelude.{◌≡◌, ◌++◌, ◌∷◌, [], ℕ, None, OnErr, OnOk, drop};
 ghost use Rattle.waiting.specs.Ascending.{Ascends, before, HasPut, HasTaken};
 ghost use Rattle.waiting.specs.Waiters.{first_waker};
@@ -14,7 +14,7 @@ pub type First<K> = Option<(u64, Option<K>)>;
 /// The entries that came after it.
 pub type Rest<K> = BTreeMap<u64, Option<K>>;
 
-/// Appends an entry. Refused for want of memory, nothing changes.
+/// Appends an entry. An append that is refused for want of memory changes nothing.
 pub fn append<K: Drop>(
     first: &mut First<K>,
     rest: &mut Rest<K>,
@@ -56,7 +56,7 @@ pub fn pop<K>(first: &mut First<K>, rest: &mut Rest<K>) -> Option<Option<K>>
     }
 }
 
-/// Puts a waker in the place of the one before. Where the number is missing it comes back.
+/// Puts a waker in the place of the one before. Where the number is missing the waker comes back.
 pub fn put<K>(
     first: &mut First<K>,
     rest: &mut Rest<K>,

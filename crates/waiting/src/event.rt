@@ -8,11 +8,11 @@ use async_task::{NoMemory, Wake};
 use std::alloc::Global;
 use std::sync::{Arc, Wait};
 
-/// An event that futures wait for, as many as memory holds. After `Event` of `event-listener`. A call tells one who listens, the
-/// one who came first, or all; it stays that one's until it is used or passed on, and one with nobody to hear it is gone. So
-/// who waits for a fact listens first, then looks whether it holds, and then awaits the listener. Its waker's type is `K`.
+/// An event that futures wait for, as many as memory holds. After `Event` of `event-listener`. A notification goes to the listener
+/// that came first, or to all. It stays that listener's until it is used or passed on; with no listener it is lost. So whoever
+/// waits for a fact listens first, then looks whether the fact holds, and then awaits the listener. The type of its wakers is `K`.
 ///
-/// Wakers are called and dropped with no lock held, and a call takes no memory. Where nobody waits it takes no lock.
+/// Wakers are called and dropped with no lock held, and `notify` takes no memory. Where nobody waits it takes no lock.
 ///
 /// ```
 /// let event = Event::<Nobody, _>::new(rt, rt.alloc())?;
@@ -29,7 +29,7 @@ pub struct Event<K: Wake + Drop, R: Wait + Copy + Drop> {
 }
 
 impl<K: Wake + Drop, R: Wait + Copy + Drop> Event<K, R> {
-    /// An event for which nobody waits.
+    /// Makes an event for which nobody waits.
     pub fn new(rt: R, alloc: Global) -> Result<Self, NoMemory>
         ensures { IfOk result (λ event. event.rt ≡ rt) }
     {
@@ -39,7 +39,7 @@ impl<K: Wake + Drop, R: Wait + Copy + Drop> Event<K, R> {
         }
     }
 
-    /// The same event, for another who tells or waits; refused where it has too many already. Takes no memory.
+    /// Makes another handle of the same event; refused where it has too many already. Takes no memory.
     pub fn clone(&self) -> Result<Self, NoMemory>
         ensures same { IfOk result (λ event. arc_value event.waiters ≡ arc_value self.now.waiters) }
     {
@@ -52,8 +52,8 @@ impl<K: Wake + Drop, R: Wait + Copy + Drop> Event<K, R> {
         }
     }
 
-    /// Listens from now on: a future that is ready once it was told. It takes memory for its place in the list where others wait
-    /// already.
+    /// Listens from now on: a future that is ready once it was notified. It takes memory for its place in the list where others
+    /// wait already.
     pub fn listen(&self) -> Result<Listener<K, R>, NoMemory>
         ensures here { IfOk result (λ listener. arc_value listener.event.waiters ≡ arc_value self.now.waiters) }
     {
@@ -67,12 +67,12 @@ impl<K: Wake + Drop, R: Wait + Copy + Drop> Event<K, R> {
         }
     }
 
-    /// Tells the one who has waited longest of those who weren't told yet. Answers whether one waited.
+    /// Notifies the listener that has waited longest of those who weren't notified yet. Answers whether one waited.
     pub fn notify(&self) -> bool {
         reach(self.waiters.tell(&self.rt))
     }
 
-    /// Tells all who wait now. Answers how many.
+    /// Notifies all who wait now. Answers how many.
     pub fn notify_all(&self) -> u64 {
         let mut number = 0u64;
         for _ in 0..self.waiters.len() {
@@ -84,7 +84,7 @@ impl<K: Wake + Drop, R: Wait + Copy + Drop> Event<K, R> {
         number
     }
 
-    /// Tells the next in the place of one who was told and leaves.
+    /// Notifies the next listener in the place of one that was notified and leaves.
     pub(crate) fn pass_on(&self, call: Call) {
         let _ = reach(self.waiters.pass_on(&self.rt, call));
     }
@@ -94,7 +94,7 @@ impl<K: Wake + Drop, R: Wait + Copy + Drop> Event<K, R> {
     }
 }
 
-/// Calls who was told. Answers whether one was.
+/// Calls the waker of a listener that was notified. Answers whether there was one.
 fn reach<K: Wake>(told: Option<Option<K>>) -> bool {
     match told {
         Some(Some(waker)) => {

@@ -10,8 +10,8 @@ pub enum Either<A, B> {
     Right(B),
 }
 
-/// Is ready as soon as one of two is, with its output and the other future, which may be awaited on. Where both are ready it
-/// answers the first, and doesn't poll the second. Dropped, it drops both.
+/// A future that is ready as soon as one of two is ready, with its output and the other future, which may be awaited on. Where
+/// both are ready it answers with the first, and doesn't poll the second. Dropped, it drops both.
 #[derive(Drop)]
 pub struct Select<A, B> {
     pub(crate) both: Option<(A, B)>,

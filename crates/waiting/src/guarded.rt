@@ -1,9 +1,10 @@
-//! What stands behind a lock, under a name.
+//! A value behind a lock, under a name.
 ghost use Rattle.std.specs.Prelude.{◌≡◌};
 
 use std::sync::{Mutex, MutexGuard, Wait};
 
-/// What a lock guards. Of a lock contracts see nothing, so it has a name, by which they tell one such place from another.
+/// The value that a lock guards. Contracts don't see through a lock, so the value has a name, by which they tell one such place
+/// from another.
 #[derive(Drop)]
 pub struct Guarded<X> {
     name: u8,
@@ -11,7 +12,7 @@ pub struct Guarded<X> {
 }
 
 impl<X> Guarded<X> {
-    /// A place of its own. The clause says nothing of its name, so that no two can be shown to be one.
+    /// A place of its own. The clause says nothing of its name, so no two places can be shown to be the same.
     pub fn new(value: X) -> Self
         ensures { result ≡ result }
     {

@@ -1,4 +1,4 @@
-//! What `?` takes to an `io::Result`. A message that wasn't sent is dropped.
+//! How `?` converts these errors to an `io::Result`. A message that wasn't sent is dropped.
 ghost use Rattle.std.specs.IoError.{error_kind};
 ghost use Rattle.std.specs.Prelude.{◌≡◌};
 ghost use Rattle.std.specs.declared.io.ErrorKind.TheVariants.{BrokenPipe};

@@ -1,5 +1,5 @@
-//! What waits, for any waker: futures that are ready or never are, both of two, the first of two, events, semaphores, one value for
-//! one receiver, and channels.
+//! What futures wait for, with any waker: events, semaphores, channels, one value for one receiver, both of two futures, and the
+//! first of two. There are also futures that are ready at once or never.
 #![tactic(auto)]
 
 mod both;

@@ -1,4 +1,4 @@
-//! Those who wait, under a lock.
+//! The waiters, under a lock.
 use crate::guarded::Guarded;
 use crate::waiters::{Call, Left, Listening, Looked, Waiters};
 use std::alloc::{AllocError, Global};
@@ -6,8 +6,8 @@ use std::sync::Wait;
 use std::sync::atomic::AtomicU64;
 use std::sync::atomic::Ordering::SeqCst;
 
-/// Those who wait, under a lock, and how many they are, beside it: so who tells takes no lock where nobody waits. The number is
-/// written under the lock by who listens, before it looks whether there is anything to wait for.
+/// The waiters, under a lock, and beside it how many they are, so that a notifier takes no lock where nobody waits. A listener
+/// writes the number under the lock, before it looks whether there is anything to wait for.
 #[derive(Drop)]
 pub struct Listed<K> {
     number: AtomicU64,
@@ -23,12 +23,12 @@ impl<K: Drop> Listed<K> {
         }
     }
 
-    /// How many wait who weren't told.
+    /// How many wait who weren't notified.
     pub fn len(&self) -> u64 {
         self.number.load(SeqCst)
     }
 
-    /// One more waits.
+    /// Adds one waiter.
     pub fn listen<R: Wait>(&self, rt: &R) -> Result<Listening, AllocError> {
         let mut waiters = self.waiters.lock(rt);
         let listening = waiters.listen();
@@ -36,7 +36,7 @@ impl<K: Drop> Listed<K> {
         listening
     }
 
-    /// Tells the one who came first, where one waits: answers the waker that it left.
+    /// Notifies the waiter that came first, where there is one, and answers its waker.
     pub fn tell<R: Wait>(&self, rt: &R) -> Option<Option<K>> {
         if self.len() == 0 {
             return None;
@@ -47,7 +47,7 @@ impl<K: Drop> Listed<K> {
         told
     }
 
-    /// Passes a call on to the one who came first, as `tell` does.
+    /// Passes a notification on to the waiter that came first, as `tell` does.
     pub fn pass_on<R: Wait>(&self, rt: &R, call: Call) -> Option<Option<K>> {
         if self.len() == 0 {
             let _taken = call.take();
@@ -59,7 +59,7 @@ impl<K: Drop> Listed<K> {
         told
     }
 
-    /// Whether it was told. Where it wasn't it leaves this waker in the place of the one before.
+    /// Whether it was notified. Where it wasn't, it leaves this waker in the place of the one before.
     pub fn look<R: Wait>(&self, rt: &R, listening: Listening, waker: Option<K>) -> Looked<K> {
         self.waiters.lock(rt).look(listening, waker)
     }

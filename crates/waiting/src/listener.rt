@@ -7,15 +7,16 @@ use async_task::{Future, Poll, Wake};
 use std::mem;
 use std::sync::Wait;
 
-/// One who waits for an event: a future that is ready once it was told, and from then on. Each poll leaves its waker in the
+/// One who waits for an event: a future that is ready once it was notified, and from then on. Each poll leaves its waker in the
 /// place of the one before. Where no copy of the waker can be had it calls the waker, so that it is polled again.
 ///
-/// Dropped before it was told, it leaves. Dropped when it was told and no poll has answered so, it tells the next.
+/// Dropped before it was notified, it leaves the list. Dropped after it was notified, and before a poll has answered so, it
+/// notifies the next listener.
 pub struct Listener<K: Wake + Drop, R: Wait + Copy + Drop> {
     event: Event<K, R>,
     rt: R,
     listening: Option<Listening>,
-    // From its first answer on.
+    // Set from its first ready answer on.
     told: Option<WasTold>,
 }
 
@@ -33,7 +34,7 @@ impl<K: Wake + Drop, R: Wait + Copy + Drop> Listener<K, R> {
     }
 }
 
-/// Leaves, and tells the next where it was told.
+/// Leaves the list, and notifies the next listener where it was notified.
 fn leave<K: Wake + Drop, R: Wait + Copy + Drop>(rt: &R, event: &Event<K, R>, listening: Listening) {
     match event.waiters().leave(rt, listening) {
         Left::Told(call) => event.pass_on(call),
@@ -45,7 +46,7 @@ impl<K: Wake + Drop, R: Wait + Copy + Drop> Future<K> for Listener<K, R> {
     type Output = ();
 
     /// 1. Takes a copy of the waker.
-    /// 2. Looks whether it was told, and else leaves the copy, under the lock.
+    /// 2. Looks whether it was notified, and else leaves the copy, under the lock.
     /// 3. Drops the waker that it had left before, with no lock held.
     fn poll(&mut self, waker: &K) -> Poll<()>
         ensures event { self.new.event ≡ self.old.event }

@@ -1,4 +1,4 @@
-//! The futures by the names of their functions.
+//! Functions that make the futures.
 ghost use Rattle.std.specs.Prelude.{◌≡◌, None, Some};
 ghost use Rattle.waiting.specs.declared.both.Awaited.TheVariants as awaited;
 
@@ -7,7 +7,7 @@ use crate::first::Select;
 use crate::now::{Never, Ready, YieldNow};
 use std::marker::PhantomData;
 
-/// A future that is ready with this value. Takes no memory.
+/// Makes a future that is ready with this value. Takes no memory.
 ///
 /// ```
 /// assert!(rt; matches!(ready(1u64).poll(&Nobody), Poll::Ready(1)));
@@ -18,7 +18,7 @@ pub fn ready<T>(value: T) -> Ready<T>
     Ready { value: Some(value) }
 }
 
-/// A future that is never ready. Takes no memory.
+/// Makes a future that is never ready. Takes no memory.
 ///
 /// ```
 /// assert!(rt; matches!(pending::<u64>().poll(&Nobody), Poll::Pending));
@@ -29,7 +29,7 @@ pub fn pending<T>() -> Never<T> {
     }
 }
 
-/// A future that lets others go first, once. Takes no memory.
+/// Makes a future that lets others go first, once. Takes no memory.
 ///
 /// ```
 /// let mut yields = yield_now();

@@ -1,4 +1,4 @@
-//! Futures that wait for nothing, for ever, or for others to go first.
+//! Futures that wait for nothing, for ever, or once so that others go first.
 ghost use Rattle.std.specs.Prelude.{◌≡◌, None, IfSome, IsSome};
 ghost use Rattle.async_task.specs.declared.poll.Poll.TheVariants as poll;
 
@@ -6,22 +6,22 @@ use crate::called::Called;
 use async_task::{Future, Poll, Wake};
 use std::marker::PhantomData;
 
-/// Is ready at its first poll. Polled again it is pending for ever.
+/// A future that is ready at its first poll. Polled again it is pending for ever.
 #[derive(Drop)]
 pub struct Ready<T> {
     pub(crate) value: Option<T>,
 }
 
-/// Is never ready.
+/// A future that is never ready.
 #[derive(Drop)]
 pub struct Never<T> {
     pub(crate) output: PhantomData<T>,
 }
 
-/// Is pending once, having called its waker, so that others go first; and then ready.
+/// A future that is pending once, having called its waker so that others go first, and is then ready.
 #[derive(Drop)]
 pub struct YieldNow {
-    /// From its first poll on.
+    /// Set from its first poll on.
     pub(crate) called: Option<Called>,
 }
 

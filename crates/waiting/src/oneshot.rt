@@ -9,27 +9,27 @@ use async_task::{Future, NoMemory, Poll, Wake};
 use std::alloc::Global;
 use std::sync::{Arc, Wait};
 
-/// No value comes: the sender went without sending, or the value was taken by an earlier poll.
+/// The receiver gets no value: the sender went without sending, or an earlier poll took the value.
 #[derive(Clone, Copy, Debug, PartialEq, Eq, Drop)]
 pub struct Canceled;
 
-/// Sends one value. Its drop, where it sent none, tells the receiver that none comes.
+/// Sends one value. The drop of a sender that sent none notifies the receiver that no value comes.
 pub struct Sender<T: Drop, K: Wake + Drop, R: Wait + Copy + Drop> {
     slot: Arc<Guarded<Slot<T, K>>>,
     rt: R,
 }
 
-/// Receives one value: a future that is ready once it was sent, or once the sender went. Each poll leaves its waker in the place of
-/// the one before. Where no copy of the waker can be had it calls the waker, so that it is polled again. Its drop drops a value
-/// that was sent and not taken; from then on a value is refused.
+/// Receives one value: a future that is ready once the value was sent, or once the sender went. Each poll leaves its waker in the
+/// place of the one before. Where no copy of the waker can be had it calls the waker, so that it is polled again. Its drop drops a
+/// value that was sent and not taken; from then on a send is refused.
 pub struct Receiver<T: Drop, K: Wake + Drop, R: Wait + Copy + Drop> {
     slot: Arc<Guarded<Slot<T, K>>>,
     rt: R,
-    // Once it has answered that no value comes.
+    // Set once it has answered that no value comes.
     over: Option<Over>,
 }
 
-/// A sender and its receiver. It takes memory for the place of the value, and no call after that does.
+/// A sender and its receiver. It takes memory for the place of the value, and no later call takes any.
 ///
 /// ```
 /// let (sender, mut receiver) = oneshot::channel::<u64, Nobody, _>(rt, rt.alloc())?;
@@ -53,7 +53,7 @@ pub fn channel<T: Drop, K: Wake + Drop, R: Wait + Copy + Drop>(
 }
 
 impl<T: Drop, K: Wake + Drop, R: Wait + Copy + Drop> Sender<T, K, R> {
-    /// Sends the value, and calls the receiver. Where that is gone the value comes back. It takes no memory.
+    /// Sends the value, and calls the receiver's waker. Where the receiver is gone the value comes back. It takes no memory.
     pub fn send(self, value: T) -> Result<(), T>
         ensures { IfErr result (λ back. back ≡ value) }
     {
@@ -71,7 +71,7 @@ impl<T: Drop, K: Wake + Drop, R: Wait + Copy + Drop> Sender<T, K, R> {
 }
 
 impl<T: Drop, K: Wake + Drop, R: Wait + Copy + Drop> Sender<T, K, R> {
-    /// Whether the receiver went: so it stays, and a value is refused.
+    /// Whether the receiver is gone. It stays so, and a send is refused.
     pub fn is_canceled(&self) -> bool {
         self.slot.lock(&self.rt).is_closed()
     }

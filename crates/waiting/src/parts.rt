@@ -1,5 +1,5 @@
-//! What stands under the locks and in the queues of what waits, and what its sections answer: named in contracts, and for who
-//! drives them one section at a time, as tests do.
+//! The parts under the locks and in the queues of these primitives, and what their sections answer. Contracts name them. Tests
+//! call them one section at a time.
 pub use crate::channel::line::{Came, Ended, Freed, Line, Nothing, Sent, Shut};
 pub use crate::permits::{Closing, Found, GaveUp, Held, NoMore, Permits, Promise, Refused};
 pub use crate::slot::{Over, Received, Slot};

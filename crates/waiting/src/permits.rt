@@ -1,4 +1,4 @@
-//! Permits that are counted, and those who wait for one.
+//! Permits that are counted, and the waiters for a permit.
 ghost use Rattle.std.specs.Prelude.{◌≡◌, ◌+◌, ◌<◌, [], false, min, not};
 ghost use Rattle.waiting.specs.Permits.{HasAdded, HasCome, HasFound, HasGivenBack, HasGivenUp, HasTaken, all_of, closed, first_left};
 ghost use Rattle.waiting.specs.Permits.{HasPassedOn, HasRedeemed, forgotten, given, most};
@@ -9,13 +9,14 @@ use std::alloc::Global;
 use std::marker::Model;
 use std::mem;
 
-/// Permits, each of which is free, promised to one who waits, or held; at most 2^64 - 1 in all. Nobody waits while one is free: one
-/// that comes is promised to who came first. Each call is one section of whoever locks them; `come` and `look` alone take memory.
-/// None calls or drops a waker: what comes out is to be called or dropped once the lock is given back.
+/// Permits, each of which is free, promised to a waiter, or held; at most 2^64 - 1 in all. Nobody waits while one is free: a
+/// permit that comes is promised to the waiter that came first. Each call is one section of whoever locks them; only `come` and
+/// `look` take memory. No call calls or drops a waker: the caller calls or drops each waker that comes out, once it has released
+/// the lock.
 #[derive(Drop)]
 pub struct Permits<K> {
     free: u64,
-    // Of those who were told and haven't looked since.
+    // How many waiters were notified and haven't looked since.
     promised: u64,
     held: u64,
     is_closed: bool,
@@ -26,14 +27,14 @@ pub struct Permits<K> {
 /// A permit that is held. It has no drop: it is given back, or forgotten.
 #[must_use]
 pub struct Held {
-    // None is made elsewhere.
+    // Only this module makes one.
     own: (),
 }
 
-/// That the permits were found closed: so they stay.
+/// Proof that the permits were found closed. They stay closed.
 #[derive(Drop)]
 pub struct NoMore {
-    // None is made elsewhere.
+    // Only this module makes one.
     own: (),
 }
 
@@ -45,35 +46,35 @@ pub enum Refused {
     Closed(NoMore),
 }
 
-/// What one who wants a permit found.
+/// What a caller that wants a permit found.
 #[must_use]
 pub enum Found<K> {
     /// It has one. The waker that it wanted to leave comes back.
     Taken(Held, Option<K>),
-    /// It waits. The waker that it had left before, to be dropped once the lock is given back.
+    /// It waits. The waker that it had left before, to be dropped once the lock is released.
     Waits(Listening, Option<K>),
     /// None is given any more. The waker that it wanted to leave comes back.
     Closed(NoMore, Option<K>),
-    /// There is no memory for a place among those who wait. The waker that it wanted to leave comes back.
+    /// There is no memory for a place among the waiters. The waker that it wanted to leave comes back.
     NoMemory(Option<K>),
 }
 
-/// How one gave up.
+/// How a waiter gave up.
 #[must_use]
 pub enum GaveUp<K> {
-    /// Nothing was promised to it. Its waker, to be dropped once the lock is given back.
+    /// Nothing was promised to it. Its waker, to be dropped once the lock is released.
     Untold(Option<K>),
-    /// What was promised to it went on.
+    /// What was promised to it went on to the next.
     Told(Promise<K>),
 }
 
-/// To whom a permit was promised, if to anyone. It has no drop: that one is told.
+/// To whom a permit was promised, if to anyone. It has no drop: that waiter has to be notified.
 #[must_use]
 pub struct Promise<K> {
     waker: Option<K>,
 }
 
-/// Those who waited when the permits were closed. It has no drop: all are told.
+/// The waiters at the time when the permits were closed. It has no drop: all of them have to be notified.
 #[must_use]
 pub struct Closing<K> {
     was_open: bool,
@@ -93,7 +94,7 @@ impl<K> Model for Permits<K> {
 }
 
 impl<K: Drop> Permits<K> {
-    /// So many are free, and nobody waits. Takes no memory.
+    /// This many permits are free, and nobody waits. Takes no memory.
     pub fn new(alloc: Global, permits: u64) -> Self
         ensures { result ≡ record {
           free = permits;
@@ -121,14 +122,14 @@ impl<K: Drop> Permits<K> {
         self.free
     }
 
-    /// Whether none is given any more. Then nobody waits, and none is promised.
+    /// Whether the permits are closed. Then nobody waits, and none is promised.
     pub fn is_closed(&self) -> bool
         ensures { result ≡ self.now.is_closed }
     {
         self.is_closed
     }
 
-    /// Takes one that is free.
+    /// Takes a free permit.
     pub fn take(&mut self) -> Result<Held, Refused>
         ensures taken { HasTaken self.old self.new result }
         ensures all { all_of self.new ≡ all_of self.old }
@@ -144,7 +145,7 @@ impl<K: Drop> Permits<K> {
         Ok(Held { own: () })
     }
 
-    /// Takes one that is free; where none is, waits, the last of all, and leaves this waker.
+    /// Takes a free permit. Where none is free it waits, the last of all, and leaves this waker.
     pub fn come(&mut self, waker: Option<K>) -> Found<K>
         ensures found { HasCome waker self.old self.new result }
         ensures all { all_of self.new ≡ all_of self.old }
@@ -163,7 +164,7 @@ impl<K: Drop> Permits<K> {
         }
     }
 
-    /// Takes the one that was promised to it. Where none was, waits on, with this waker in the place of the one before.
+    /// Takes the permit that was promised to it. Where none was, it waits on, with this waker in the place of the one before.
     pub fn look(&mut self, listening: Listening, waker: Option<K>) -> Found<K>
         ensures found { HasFound listening.number waker self.old self.new result }
         ensures all { all_of self.new ≡ all_of self.old }
@@ -177,7 +178,7 @@ impl<K: Drop> Permits<K> {
         }
     }
 
-    /// Takes one that was promised. Where none is, as after a close, it is as who comes.
+    /// Takes a promised permit. Where none is promised, as after a close, it does as a new caller does.
     fn redeem(&mut self, waker: Option<K>) -> Found<K>
         ensures found { HasRedeemed self.old.promised waker self.old self.new result }
         ensures all { all_of self.new ≡ all_of self.old }
@@ -190,7 +191,7 @@ impl<K: Drop> Permits<K> {
         Found::Taken(Held { own: () }, waker)
     }
 
-    /// Waits no more. What was promised to it goes to the next.
+    /// Waits no more. A permit that was promised to it goes to the next.
     pub fn give_up(&mut self, listening: Listening) -> GaveUp<K>
         ensures gave_up { HasGivenUp listening.number self.old self.new result }
         ensures all { all_of self.new ≡ all_of self.old }
@@ -204,7 +205,7 @@ impl<K: Drop> Permits<K> {
         }
     }
 
-    /// One that was promised goes to who came first, if one was.
+    /// Passes a promised permit on to the waiter that came first, if one was promised.
     fn pass_on(&mut self) -> Promise<K>
         ensures passed_on { HasPassedOn self.old.promised self.old self.new result.waker }
         ensures all { all_of self.new ≡ all_of self.old }
@@ -216,7 +217,7 @@ impl<K: Drop> Permits<K> {
         self.give()
     }
 
-    /// One that is held comes back.
+    /// Gives a held permit back.
     pub fn give_back(&mut self, held: Held) -> Promise<K>
         ensures given_back { HasGivenBack self.old self.new result.waker }
         ensures all { all_of self.new ≡ all_of self.old }
@@ -229,7 +230,7 @@ impl<K: Drop> Permits<K> {
         self.give()
     }
 
-    /// One more is there: it is promised to who came first, or free.
+    /// Adds one permit: it is promised to the waiter that came first, or is free.
     fn give(&mut self) -> Promise<K>
         requires { all_of self.old < most }
         ensures given { self.new ≡ given self.old }
@@ -247,7 +248,7 @@ impl<K: Drop> Permits<K> {
         }
     }
 
-    /// One that is held is there no more.
+    /// Removes a held permit for good.
     pub fn forget(&mut self, held: Held)
         ensures forgotten { self.new ≡ forgotten self.old }
         ensures all { 0 < self.old.held → all_of self.new + 1 ≡ all_of self.old }
@@ -256,8 +257,8 @@ impl<K: Drop> Permits<K> {
         self.held = self.held.saturating_sub(1);
     }
 
-    /// So many more, up to 2^64 - 1 in all: one is promised to who came first, or all are free where nobody waits. Answers how many
-    /// are still to be added.
+    /// Adds this many permits, up to 2^64 - 1 in all. One is promised to the waiter that came first; where nobody waits all are
+    /// free. Answers how many are still to be added.
     pub fn add(&mut self, permits: u64) -> (Promise<K>, u64)
         ensures added { HasAdded permits self.old self.new result.0.waker result.1 }
         ensures all { all_of self.new + result.1 ≡ min most (all_of self.old + permits) }
@@ -279,7 +280,7 @@ impl<K: Drop> Permits<K> {
         }
     }
 
-    /// None is given any more. What was promised is free, and all who wait are to be told.
+    /// Closes the permits. What was promised is free, and all waiters have to be notified.
     pub fn close(&mut self) -> Closing<K>
         ensures was_open { result.was_open ≡ not self.old.is_closed }
         ensures waited { result.waiters ≡ self.old.waiters }
@@ -296,7 +297,7 @@ impl<K: Drop> Permits<K> {
 }
 
 impl<K: Wake> Promise<K> {
-    /// Tells the one to whom a permit was promised.
+    /// Notifies the waiter to whom a permit was promised.
     pub fn tell(self) {
         let Promise { waker } = self;
         if let Some(waker) = waker {
@@ -306,7 +307,7 @@ impl<K: Wake> Promise<K> {
 }
 
 impl<K: Wake + Drop> Closing<K> {
-    /// Tells all who waited. Answers whether the permits were open.
+    /// Notifies all who waited. Answers whether the permits were open.
     pub fn tell(self) -> bool
         ensures { result ≡ self.was_open }
     {

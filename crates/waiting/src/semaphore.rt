@@ -17,10 +17,11 @@ pub use permit::Permit;
 use std::alloc::Global;
 use std::sync::{Arc, Wait};
 
-/// So many permits, which those who wait get in the order in which they came. A handle of one counted place; `clone` makes others.
-/// A permit that comes back while one waits is promised to who came first: a try doesn't overtake it. Its waker's type is `K`.
+/// A number of permits that waiters get in the order in which they came. It is one handle of the semaphore; `clone` makes others.
+/// A permit that comes back while one waits is promised to the waiter that came first: a try doesn't overtake it. The type of its
+/// wakers is `K`.
 ///
-/// Wakers are called and dropped with no lock held. Who takes, gives back, adds, closes or forgets takes no memory.
+/// Wakers are called and dropped with no lock held. To take a permit, give it back, add, close or forget takes no memory.
 ///
 /// ```
 /// let semaphore = Semaphore::<Nobody, _>::new(rt, rt.alloc(), 1)?;
@@ -39,7 +40,7 @@ pub struct Semaphore<K: Wake + Drop, R: Wait + Copy + Drop> {
 }
 
 impl<K: Wake + Drop, R: Wait + Copy + Drop> Semaphore<K, R> {
-    /// A semaphore with so many permits. It takes memory.
+    /// Makes a semaphore with this many permits. It takes memory.
     pub fn new(rt: R, alloc: Global, permits: u64) -> Result<Self, NoMemory>
         ensures { IfOk result (λ semaphore. semaphore.rt ≡ rt) }
     {
@@ -49,7 +50,7 @@ impl<K: Wake + Drop, R: Wait + Copy + Drop> Semaphore<K, R> {
         }
     }
 
-    /// The same semaphore, for another; refused where it has too many handles already. Takes no memory.
+    /// Makes another handle of the same semaphore; refused where it has too many already. Takes no memory.
     pub fn clone(&self) -> Result<Self, NoMemory>
         ensures same { IfOk result (λ semaphore. arc_value semaphore.permits ≡ arc_value self.now.permits) }
     {
@@ -62,8 +63,8 @@ impl<K: Wake + Drop, R: Wait + Copy + Drop> Semaphore<K, R> {
         }
     }
 
-    /// Takes a permit where one is free, and so nobody waits. It takes no memory: `NoMemory` is answered where the semaphore has too
-    /// many handles, of which a permit is one.
+    /// Takes a permit where one is free, and so nobody waits. It takes no memory. It answers `NoMemory` where the semaphore has
+    /// too many handles, of which a permit is one.
     pub fn try_acquire(&self) -> Result<Permit<K, R>, TryAcquireError>
         ensures same { IfOk result (λ permit. arc_value permit.semaphore.permits ≡ arc_value self.now.permits) }
     {
@@ -79,7 +80,7 @@ impl<K: Wake + Drop, R: Wait + Copy + Drop> Semaphore<K, R> {
         }
     }
 
-    /// A future that takes a permit, and waits for one. It comes to those who wait at its first poll that finds none free. Refused
+    /// Makes a future that takes a permit, and waits for one. It joins the waiters at its first poll that finds none free. Refused
     /// where the semaphore has too many handles; it takes no memory.
     pub fn acquire(&self) -> Result<Acquire<K, R>, NoMemory>
         ensures same { IfOk result (λ a. IfSome (semaphore_of a.stage) (λ s. arc_value s.permits ≡ arc_value self.now.permits)) }
@@ -90,8 +91,8 @@ impl<K: Wake + Drop, R: Wait + Copy + Drop> Semaphore<K, R> {
         }
     }
 
-    /// So many more permits, first for those who wait. There are at most 2^64 - 1 at a time: what would go past that isn't added. It
-    /// takes no memory.
+    /// Adds this many permits, which go to the waiters first. There are at most 2^64 - 1 at a time: what would go past that isn't
+    /// added. It takes no memory.
     pub fn add_permits(&self, permits: u64) {
         let mut left = permits;
         for _ in 0..permits {
@@ -104,24 +105,24 @@ impl<K: Wake + Drop, R: Wait + Copy + Drop> Semaphore<K, R> {
         }
     }
 
-    /// No permit is taken any more, and all who wait are told: they answer `Closed`, as do those to whom a permit was promised. What
-    /// is held can still be given back. Answers whether it was open. It takes no memory.
+    /// Closes the semaphore and notifies all waiters. No permit is taken any more: waiters answer `Closed`, as do those to whom a
+    /// permit was promised. What is held can still be given back. Answers whether it was open. It takes no memory.
     pub fn close(&self) -> bool {
         let closing = self.permits.lock(&self.rt).close();
         closing.tell()
     }
 
-    /// Whether it is closed: so it stays.
+    /// Whether the semaphore is closed. A closed semaphore stays closed.
     pub fn is_closed(&self) -> bool {
         self.permits.lock(&self.rt).is_closed()
     }
 
-    /// How many permits are free, which others may change at once. While one waits none is.
+    /// How many permits are free. Others may change that at once. While one waits none is free.
     pub fn available_permits(&self) -> u64 {
         self.permits.lock(&self.rt).free()
     }
 
-    /// What one finds who comes, or waited already.
+    /// What one finds who comes now, or waited already.
     pub(crate) fn find(&self, waiting: Option<Listening>, waker: Option<K>) -> Found<K> {
         match waiting {
             None => self.permits.lock(&self.rt).come(waker),
@@ -129,7 +130,7 @@ impl<K: Wake + Drop, R: Wait + Copy + Drop> Semaphore<K, R> {
         }
     }
 
-    /// Waits no more, and tells the next where a permit was promised.
+    /// Waits no more, and notifies the next waiter where a permit was promised.
     pub(crate) fn give_up(&self, listening: Listening) {
         let gave_up = self.permits.lock(&self.rt).give_up(listening);
         match gave_up {

@@ -1,17 +1,17 @@
-//! The place where one value is handed on.
+//! The place through which one value is passed.
 ghost use Rattle.std.specs.Prelude.{◌≡◌, Some, None, IfOk, IfErr, OnOk, is_ok};
 ghost use Rattle.waiting.specs.declared.slot.Slot.TheVariants as slot;
 ghost use Rattle.waiting.specs.Slots.{HasReceived, HasEnded, is_open, is_shut, waited_with, waker_left};
 
 use std::mem;
 
-/// A place for one value, with the waker of who waits for it. Each call is one section of whoever locks it. None calls a
-/// waker: one that comes out is to be called or dropped once the lock is given back.
+/// A place for one value, with the waker of the receiver that waits for it. Each call is one section of whoever locks it. No call
+/// calls a waker: the caller calls or drops each waker that comes out, once it has released the lock.
 #[derive(Drop)]
 pub enum Slot<T, K> {
     /// No value came yet, and nobody has left a waker.
     Empty,
-    /// No value came yet, and this is to be called when one does.
+    /// No value came yet. This waker is to be called when one does.
     Waited(K),
     /// A value came.
     Full(T),
@@ -19,25 +19,25 @@ pub enum Slot<T, K> {
     Closed,
 }
 
-/// What who waits found.
+/// What the receiver found.
 pub enum Received<T, K> {
     /// The value, and the waker that wasn't left.
     Value(T, Option<K>),
-    /// None came. The waker that was left before.
+    /// No value came yet. The waker that was left before.
     Waits(Option<K>),
-    /// None is to come. The waker that wasn't left.
+    /// No value is to come. The waker that wasn't left.
     Ended(Over, Option<K>),
 }
 
-/// That the place was found closed: so it stays.
+/// Proof that the place was found closed. It stays closed.
 #[derive(Drop)]
 pub struct Over {
-    // None is made elsewhere.
+    // Only this module makes one.
     own: (),
 }
 
 impl<T: Drop, K: Drop> Slot<T, K> {
-    /// Puts the value there, and answers the waker that was left. It is refused where nobody is to take it, or one is there.
+    /// Puts the value there, and answers the waker that was left. It is refused where nobody is to take it, or a value is there.
     pub fn put(&mut self, value: T) -> Result<Option<K>, T>
         ensures open { is_ok result ≡ is_open self.old }
         ensures put { OnOk result (self.new ≡ slot.Full value) }
@@ -61,7 +61,7 @@ impl<T: Drop, K: Drop> Slot<T, K> {
         }
     }
 
-    /// Takes the value; where none came yet, leaves this waker in the place of the one before.
+    /// Takes the value. Where none came yet it leaves this waker in the place of the one before.
     pub fn receive(&mut self, waker: Option<K>) -> Received<T, K>
         ensures { HasReceived waker self.old self.new result }
     {
@@ -79,7 +79,7 @@ impl<T: Drop, K: Drop> Slot<T, K> {
         }
     }
 
-    /// No value is to come any more; one that is there stays. Answers the waker that was left.
+    /// Closes the place for the sender: no value comes any more; one that is there stays. Answers the waker that was left.
     pub fn end(&mut self) -> Option<K>
         ensures ended { HasEnded self.old self.new }
         ensures waker { result ≡ waker_left self.old }
@@ -94,7 +94,8 @@ impl<T: Drop, K: Drop> Slot<T, K> {
         }
     }
 
-    /// Nobody is to take a value any more. Answers what was there, to be dropped once the lock is given back.
+    /// Closes the place for the receiver: nobody takes a value any more. Answers what was there, to be dropped once the lock is
+    /// released.
     pub fn close(&mut self) -> Slot<T, K>
         ensures old { result ≡ self.old }
         ensures closed { self.new ≡ slot.Closed }

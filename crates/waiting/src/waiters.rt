@@ -1,4 +1,4 @@
-//! The list of those who wait for a call.
+//! The list of those who wait for a notification.
 ghost use Rattle.std.specs.Prelude.{◌≡◌, [], OnOk, IfOk, OnErr, length};
 ghost use Rattle.waiting.specs.Waiters.{first_waker, HasLeft, HasLooked, listened, told};
 
@@ -7,58 +7,58 @@ use std::alloc::{AllocError, Global};
 use std::collections::BTreeMap;
 use std::marker::Model;
 
-/// Those who wait, each under a number, with the wakers that they left last, in the order in which they came. One was told
-/// when its number is missing from the list. Each call is one section of whoever locks the list; `listen` alone takes memory.
-/// None calls or drops a waker: what comes out is to be called or dropped once the lock is given back.
+/// Those who wait, each under a number, with the wakers that they left last, in the order in which they came. A waiter was
+/// notified when its number is missing from the list. Each call is one section of whoever locks the list; only `listen` takes
+/// memory. No call calls or drops a waker: the caller calls or drops each waker that comes out, once it has released the lock.
 #[derive(Drop)]
 pub struct Waiters<K> {
     next: u64,
-    // One who came when nobody waited.
+    // The waiter that came when nobody waited.
     first: First<K>,
-    // Who came after it.
+    // The waiters that came after it.
     rest: Rest<K>,
 }
 
-/// The number of one who waits. It has no drop: who has it looks or leaves.
+/// The number of a waiter. It has no drop: its owner looks or leaves.
 #[must_use]
 pub struct Listening {
     number: u64,
 }
 
-/// A call that one who waited was told. It has no drop: it is taken, or passed on to the next.
+/// A notification that a waiter received. It has no drop: it is taken, or passed on to the next.
 #[must_use]
 pub struct Call {
-    // No call is made elsewhere.
+    // Only this module makes one.
     own: (),
 }
 
-/// What one who waits found.
+/// What a waiter found.
 #[must_use]
 pub enum Looked<K> {
-    /// It wasn't told. The waker that it had left before, to be dropped once the lock is given back.
+    /// It wasn't notified. The waker that it had left before, to be dropped once the lock is released.
     Waits(Listening, Option<K>),
-    /// It was told, and is in the list no longer. The waker that it wanted to leave comes back.
+    /// It was notified, and is in the list no longer. The waker that it wanted to leave comes back.
     Told(Call, Option<K>),
 }
 
-/// How one left.
+/// How a waiter left.
 #[must_use]
 pub enum Left<K> {
-    /// It wasn't told. Its waker, to be dropped once the lock is given back.
+    /// It wasn't notified. Its waker, to be dropped once the lock is released.
     Untold(Option<K>),
-    /// It was told: the call is to be passed on.
+    /// It was notified: the notification has to be passed on.
     Told(Call),
 }
 
-/// That one was told: it has taken a call.
+/// Proof that a waiter was notified: it has taken a notification.
 #[derive(Drop)]
 pub struct WasTold {
-    // None is made elsewhere.
+    // Only this module makes one.
     own: (),
 }
 
 impl Call {
-    /// Takes the call: who was told goes on.
+    /// Takes the notification: its waiter goes on.
     pub fn take(self) -> WasTold {
         let Call { own } = self;
         WasTold { own }
@@ -90,7 +90,7 @@ impl<K: Drop> Waiters<K> {
         }
     }
 
-    /// How many wait who weren't told.
+    /// How many wait who weren't notified.
     pub fn len(&self) -> usize
         ensures { result ≡ length self.now.waiting }
     {
@@ -100,7 +100,7 @@ impl<K: Drop> Waiters<K> {
         }
     }
 
-    /// One more waits, the last of all. Refused, for want of memory or after 2^64 - 1 of them, nothing changes.
+    /// Adds one waiter, the last of all. It is refused for want of memory or after 2^64 - 1 of them, and then changes nothing.
     pub fn listen(&mut self) -> Result<Listening, AllocError>
         ensures number { IfOk result (λ l. l.number ≡ self.old.next) }
         ensures listens { OnOk result (self.new ≡ listened self.old) }
@@ -115,7 +115,7 @@ impl<K: Drop> Waiters<K> {
         Ok(Listening { number })
     }
 
-    /// Tells the one who came first, where one waits: answers the waker that it left, to be called once the lock is given back.
+    /// Notifies the waiter that came first, where there is one. Answers its waker, to be called once the lock is released.
     pub fn tell(&mut self) -> Option<Option<K>>
         ensures first { result ≡ first_waker self.old.waiting }
         ensures told { self.new ≡ told self.old }
@@ -123,7 +123,7 @@ impl<K: Drop> Waiters<K> {
         pop(&mut self.first, &mut self.rest)
     }
 
-    /// Passes a call on to the one who came first, as `tell` does.
+    /// Passes a notification on to the waiter that came first, as `tell` does.
     pub fn pass_on(&mut self, call: Call) -> Option<Option<K>>
         ensures first { result ≡ first_waker self.old.waiting }
         ensures told { self.new ≡ told self.old }
@@ -132,7 +132,7 @@ impl<K: Drop> Waiters<K> {
         self.tell()
     }
 
-    /// Whether it was told. Where it wasn't it leaves this waker in the place of the one before.
+    /// Whether it was notified. Where it wasn't, it leaves this waker in the place of the one before.
     pub fn look(&mut self, listening: Listening, waker: Option<K>) -> Looked<K>
         ensures { HasLooked listening.number waker self.old self.new result }
     {

@@ -10,7 +10,7 @@ pub record Stops {X : Type 0} (ends : List (Result X Fault)) (fault : Fault) : T
   pub after : List (Result X Fault)
   pub parts : ends ≡ map Ok before ++ (Err fault ∷ after)
 
--- it is the first in a list that the work may give, for so many numbers from 0 on
+-- it is the first in a list that the work may give, for this many numbers from 0 on
 pub record IsFirstFault {F X : Type 0} (g : Shared F (ℕ × Unit {0}) (Result X Fault)) (f : F) (workers : ℕ) (fault : Fault) : Type 0 where
   pub ends : List (Result X Fault)
   pub each : length ends ≡ workers

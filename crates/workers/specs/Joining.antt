@@ -28,17 +28,17 @@ module _ {T : Type 0} where
   HasStepped old new (Ready (Err TaskClosed)) = new ≡ drop 1 old
   HasStepped old new (Ready (Err NoMemory)) = new ≡ old
 
-  -- more outputs came, behind those that were there: one for each of the first tasks, and the tasks behind these are to be awaited
+  -- more outputs came, after those that were there: one for each of the first tasks, and the tasks after these are to be awaited
   abbrev pub HaveCome : List T → List Identity → List T → List Identity → Type 0
   HaveCome old tasks new left =
       (more : List T) × (new ≡ old ++ more) × (length more ≤ length tasks) × (left ≡ drop (length more) tasks)
 
-  -- so, and the task behind the first ones has no output to give: those behind it are to be awaited
+  -- so, and the task after the first ones has no output to give: those after it are to be awaited
   abbrev pub HaveComeUntil : List T → List Identity → List T → List Identity → Type 0
   HaveComeUntil old tasks new left =
       (more : List T) × (new ≡ old ++ more) × (length more < length tasks) × (left ≡ drop (length more + 1) tasks)
 
-  -- behind the outputs that were there came one for each task
+  -- after the outputs that were there came one for each task
   abbrev pub AllHaveCome : List T → List Identity → List T → Type 0
   AllHaveCome old tasks new = (more : List T) × (new ≡ old ++ more) × (length more ≡ length tasks)
 

@@ -4,10 +4,10 @@ ghost use Rattle.std.specs.Prelude.{◌≡◌};
 use std::io::{self, ErrorKind};
 use thiserror::Error;
 
-/// Why something was refused, or has no output to give: the one error of what a program calls.
+/// Why something was refused, or has no output to give: the one error type of a program's calls.
 #[derive(Clone, Copy, Debug, PartialEq, Eq, Drop, Error)]
 pub enum Fault {
-    /// Each place is taken, of an executor, a queue, a channel or a timer, or each permit of a semaphore.
+    /// Each place of an executor, a queue, a channel or a timer is taken, or each permit of a semaphore.
     #[error("full: each place is taken")]
     Full,
     /// There was no memory for what was wanted, or no copy of a waker could be had.
@@ -19,7 +19,7 @@ pub enum Fault {
     /// The run gave its output before.
     #[error("the run has ended: it gave its output before")]
     Finished,
-    /// The system gave no random number, of which a realm has its own.
+    /// The system gave no random number, from which a realm gets its own.
     #[error("no random number")]
     NoRandom,
     /// A queue, a channel, a semaphore or a timer is closed, a timer was stopped, or the sender of a value went without sending.
@@ -36,7 +36,7 @@ pub enum Fault {
     NoClock,
 }
 
-/// So that `?` takes it to an `io::Result`.
+/// Lets `?` convert it to an `io::Error`.
 impl From<Fault> for io::Error {
     ghost use Rattle.workers.specs.Faults.{kind_of};
 

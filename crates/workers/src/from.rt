@@ -1,4 +1,4 @@
-//! What `?` takes to a `Fault`: the errors of executors and tasks.
+//! How `?` converts errors to a `Fault`: those of executors and tasks.
 ghost use Rattle.std.specs.Prelude.{◌≡◌};
 ghost use Rattle.workers.specs.Faults.{of_realm, of_run, of_spawn, of_task};
 ghost use Rattle.workers.specs.declared.fault.Fault.TheVariants as fault;

@@ -1,4 +1,4 @@
-//! What `?` takes to a `Fault`: the errors of timers, and of queues of tasks.
+//! How `?` converts errors to a `Fault`: those of timers, and of queues of tasks.
 ghost use Rattle.std.specs.Prelude.{◌≡◌};
 ghost use Rattle.workers.specs.Faults.{of_queue_spawn, of_sleep, of_timeout, of_timer};
 ghost use Rattle.workers.specs.declared.fault.Fault.TheVariants as fault;

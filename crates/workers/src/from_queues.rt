@@ -1,4 +1,4 @@
-//! What `?` takes to a `Fault`: the errors of queues. A value that wasn't pushed is dropped.
+//! How `?` converts errors to a `Fault`: those of queues. A value that wasn't pushed is dropped.
 ghost use Rattle.std.specs.Prelude.{◌≡◌};
 ghost use Rattle.workers.specs.Queues.{of_force_push, of_pop, of_push};
 ghost use Rattle.workers.specs.declared.fault.Fault.TheVariants as fault;

@@ -1,4 +1,4 @@
-//! What `?` takes to a `Fault`: the errors of what waits. A message that wasn't sent is dropped.
+//! How `?` converts errors to a `Fault`: those of what waits. A message that wasn't sent is dropped.
 ghost use Rattle.std.specs.Prelude.{◌≡◌};
 ghost use Rattle.workers.specs.Waits.{of_acquire, of_recv, of_send, of_try_acquire, of_try_recv, of_try_send};
 ghost use Rattle.workers.specs.declared.fault.Fault.TheVariants as fault;

@@ -11,8 +11,8 @@ use blocking::{Beside, ThreadWaker, block_on, block_on_beside};
 use std::alloc::Global;
 use std::time::Clock;
 
-/// Runs the executor on this thread until the future is ready, and answers its output. The seed says at which other runs it
-/// begins to look for work; each thread takes another. The one fault is want of memory.
+/// Runs the executor on this thread until the future is ready, and answers its output. The seed says at which other runs it begins
+/// to look for work; each thread takes another seed. The only fault is want of memory.
 pub fn run_until<F, T: Output, R: Runtime, G>(
     rt: &R,
     alloc: Global,
@@ -36,8 +36,8 @@ where
     }
 }
 
-/// `run_until` on a thread that sees to something else between two polls of its run, of which each takes two hundred futures at
-/// most: with a `Timer`, the program needs no thread that only sleeps. Of several threads that run an executor one does so.
+/// As `run_until`, on a thread that drives something else between two polls of its run. Each poll runs two hundred futures at
+/// most. With a `Timer`, the program needs no thread that only sleeps. Of several threads that run an executor, one does so.
 pub fn run_until_beside<F, T: Output, R: Runtime + Clock, G, B>(
     rt: &R,
     alloc: Global,
@@ -65,7 +65,7 @@ where
 /// Runs the executor on this thread until the task is over, and answers the output of its future: `block_on` of a run of a handle,
 /// with one answer. The faults are `NoMemory`, and `TaskClosed` where the task has no output to give.
 ///
-/// Of several threads that do so each had better take another seed: `complete_from`.
+/// Where several threads do so, each should take another seed: `complete_from`.
 pub fn complete<F, T: Output, R: Runtime, G, U: Drop>(
     rt: &R,
     alloc: Global,
@@ -80,7 +80,7 @@ where
     complete_from(rt, alloc, executor, 0, task)
 }
 
-/// `complete`, which begins to look for work where the seed says, as `run_until` does.
+/// As `complete`, with a seed that says where it begins to look for work, as `run_until` has.
 pub fn complete_from<F, T: Output, R: Runtime, G, U: Drop>(
     rt: &R,
     alloc: Global,
@@ -100,7 +100,7 @@ where
     }
 }
 
-/// One answer of the three that `block_on` of a run of a handle gives: that of the parker, of the run and of the task.
+/// One answer from the three that `block_on` of a run of a handle gives: that of the parker, of the run and of the task.
 pub fn answer<T: Drop, G: Drop>(
     ended: Result<Result<Result<T, TaskError>, RunError>, G>,
 ) -> Result<T, Fault>

@@ -8,10 +8,11 @@ use crate::fault::Fault;
 use std::alloc::Global;
 use std::thread::{self, Threads};
 
-/// Lets so many threads work, each on its number from 0 on, and joins them: what each came back with, in order, or the fault of
-/// the first that has one. Where there is no memory for the threads or for the list it is `NoMemory`.
+/// Starts this many threads, calls the work on each with its number from 0 on, and joins them. Answers what each came back with,
+/// in order, or the fault of the first that has one. Where there is no memory for the threads or for the list the fault is
+/// `NoMemory`.
 ///
-/// Where a thread can't be made its work is done by another, behind that one's own.
+/// Where a thread can't be made, another thread does its work, after its own.
 pub fn run_workers<X, R, M>(
     rt: &R,
     alloc: Global,
@@ -33,7 +34,7 @@ where
     }
 }
 
-/// What each came back with, where all did so well; else the first fault.
+/// What each came back with, where all succeeded; else the first fault.
 fn all_well<X: Drop>(alloc: Global, ends: Vec<Result<X, Fault>>) -> Result<Vec<X>, Fault>
     ensures outputs { IfOk result (λ outputs. map Ok outputs.items ≡ ends.items) }
     ensures why { IfErr result (λ why. (why ≡ fault.NoMemory) ⊎ Stops ends.items why) }

@@ -3,8 +3,8 @@ use async_executor::{ExWaker, Run, RunError};
 use async_task::{Future, NoMemory, Output, Poll, Runtime};
 use blocking::ThreadWaker;
 
-/// A run that is polled until it is ready. Polled once more it is pending, as it has no future any more: so the one error that
-/// it can have is want of memory.
+/// A run that is polled until it is ready. Polled once more it is pending, as it has no future any more. So the only error that it
+/// can have is want of memory.
 #[derive(Drop)]
 pub(crate) struct Until<'a, F: Drop, T: Output, R: Runtime, G: Drop> {
     run: Run<'a, F, T, ThreadWaker, R, G>,

@@ -112,7 +112,7 @@ fn time_drop_handle<R: Runtime + Clock>(
     Timing::since(&rt, start, moved)
 }
 
-/// Spawns a future, drops its handle and runs it. Answers 1, where the run was told of no wake.
+/// Spawns a future, drops its handle and runs it. Answers 1, where the run found no wake.
 fn dropped_unpolled<R: Runtime>(
     rt: R,
     realm: &'static Tasks<R>,

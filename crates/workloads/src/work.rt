@@ -153,7 +153,7 @@ pub enum LocalWork {
 /// What is done on what waits.
 #[derive(Clone, Copy)]
 pub enum WaitWork {
-    /// One of many who listen is told, and listens anew.
+    /// One of many listeners is notified, and listens anew.
     Tell(Crowd),
     /// One of many who listen is dropped, and another listens.
     Leave(Crowd),

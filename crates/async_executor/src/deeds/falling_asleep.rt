@@ -1,5 +1,5 @@
-//! How ticks and runs fall asleep, and wake up: what a section of the sleepers' lock answers is matched where it is answered, as it is
-//! large.
+//! How ticks and runs fall asleep, and wake up. What a section of the sleepers' lock answers is matched where it is answered, as
+//! it is large.
 ghost use Rattle.std.specs.Prelude.{◌≡◌, ◌∷◌, [], false};
 ghost use Rattle.call_steps.specs.Todo.{below, top};
 ghost use Rattle.call_steps.specs.declared.step.CallStep.TheVariants as step;
@@ -21,7 +21,7 @@ use async_task::{Output, OutsideWaker, Runtime};
 use call_steps::{Saw, TickOrRun, Waker};
 
 impl Ticker {
-    /// Wakes up. That it had been told is of no account, as the call tells another.
+    /// Wakes up. Whether it had been notified doesn't matter, as the call notifies another.
     pub fn wake_up<T: Output, W: OutsideWaker, R: Runtime>(
         &mut self,
         rt: R,
@@ -46,8 +46,8 @@ impl Ticker {
         }
     }
 
-    /// What one does that found nothing: it copies the waker that its poll was given, of this name, and falls asleep with the
-    /// copy. A waker of a task of another realm can't be found from here: it is called at once.
+    /// What a tick or run does that found nothing. It copies the waker that its poll was given, of this name, and falls asleep
+    /// with the copy. A waker of a task of another realm can't be found from here: it is called at once.
     pub fn sleep<T: Output, W: OutsideWaker, R: Runtime>(
         &mut self,
         rt: R,
@@ -77,7 +77,7 @@ impl Ticker {
         self.sleep_with(rt, state, realm, copy, name, who, steps, unlocked)
     }
 
-    /// Falls asleep with a copy of the waker of this name. It has to search again where it wasn't asleep, or had been told.
+    /// Falls asleep with a copy of the waker of this name. It has to search again where it wasn't asleep, or had been notified.
     fn sleep_with<T: Output, W: OutsideWaker, R: Runtime>(
         &mut self,
         rt: R,

@@ -27,7 +27,7 @@ use std::alloc::Global;
 use std::sync::{Arc, Wait};
 
 impl Steps {
-    /// A run is made with an own queue, and room for it in the list.
+    /// Makes a run with an own queue, and room for it in the list.
     pub fn make_runner<W, R: Wait>(
         &mut self,
         state: &State<W>,
@@ -56,7 +56,7 @@ impl Steps {
         }
     }
 
-    /// A run's own queue comes into the list, or is refused there.
+    /// Puts a run's own queue into the list, which may refuse it.
     pub fn register<W: Drop, R: Wait + Copy + Drop>(
         &mut self,
         runner: &Runner,
@@ -80,7 +80,7 @@ impl Steps {
         false
     }
 
-    /// A run's own queue goes from the list, in a call that is answered so.
+    /// Takes a run's own queue out of the list, in a call that answers this.
     pub fn unregister<W: Drop, R: Wait>(
         &mut self,
         runner: &mut Runner,
@@ -100,7 +100,7 @@ impl Steps {
         self.follow(Saw::Nothing);
     }
 
-    /// The list's lock is given back, once a walk is over.
+    /// Releases the list's lock, once a walk is over.
     #[inline(always)]
     pub fn unlock_read(
         &mut self,
@@ -118,7 +118,7 @@ impl Steps {
 }
 
 impl Search<'_> {
-    /// A walk goes to the next queue, with so many behind it.
+    /// A walk goes to the next queue, with this many behind it.
     #[inline(always)]
     pub fn go_to(&self, left: u64, behind: &Option<u64>, steps: &mut Steps)
         requires { steps.old ≡ walks self.now.name.now behind.now }

@@ -1,4 +1,4 @@
-//! The executor's two queues and the own ones of runs, and what calls do with them.
+//! The executor's two queues and the runs' own queues, and what calls do with them.
 ghost use Rattle.std.specs.Prelude.{◌≡◌, ◌<◌, ◌++◌, Some, IfErr, IfNone, IfOk, IfSome, is_ok};
 ghost use Rattle.async_task.specs.declared.cell.Identity.{Identity};
 ghost use Rattle.call_steps.specs.Closing.{closed};
@@ -30,7 +30,7 @@ use std::sync::Wait;
 
 pub mod steal;
 
-/// A queue of Runnables. What is in it comes and goes by the deeds alone.
+/// A queue of Runnables. Only the deeds put in and take out what it holds.
 pub struct Queue {
     items: ConcurrentQueue<Returning<ExStoredRunnable>>,
 }
@@ -56,7 +56,7 @@ pub struct Queues {
     pub plain: Queue,
 }
 
-/// A queue that a call looks at, the executor's of a mark or a run's own: contracts see which. It is one word.
+/// A queue that a call looks at: the executor's queue of a mark, or a run's own. Contracts see which. It is one word.
 #[derive(Drop)]
 pub struct At<'a> {
     queue: &'a Queue,
@@ -71,7 +71,7 @@ impl<'a> Model for At<'a> {
     ghost view = { λ a. a.source.value };
 }
 
-/// What a look at both queues has found. It has no drop: the Runnable is in hand.
+/// What a look at both queues has found. It has no drop, since it holds the Runnable.
 #[must_use]
 pub struct FromQueues {
     pub runnable: ExStoredRunnable,
@@ -90,7 +90,7 @@ impl Drop for Queues {
 }
 
 impl Queue {
-    /// With so many places.
+    /// A queue with this many places.
     pub fn bounded(alloc: Global, places: usize) -> Result<Queue, NoMemory>
         requires { 0 < places }
         ensures { IfOk result (λ queue. queue.capacity ≡ Some places) }
@@ -109,7 +109,7 @@ impl Queue {
 }
 
 impl Queues {
-    /// Two queues with so many places each.
+    /// Two queues with this many places each.
     pub fn new(alloc: Global, limit: usize) -> Result<Queues, NoMemory>
         requires { 0 < limit }
         ensures urgent { IfOk result (λ queues. queues.urgent.capacity ≡ Some limit) }
@@ -135,7 +135,7 @@ impl Queues {
 }
 
 impl<'a> At<'a> {
-    /// The executor's of this mark.
+    /// The executor's queue of this mark.
     #[inline(always)]
     pub fn common(queues: &'a Queues, mark: Mark) -> At<'a>
         ensures { result ≡ source.Common mark }
@@ -146,7 +146,7 @@ impl<'a> At<'a> {
         }
     }
 
-    /// A run's own.
+    /// A run's own queue.
     #[inline(always)]
     pub fn own(queue: &'a Queue) -> At<'a>
         ensures { result ≡ source.Own tt }
@@ -193,7 +193,7 @@ impl Steps {
         Some(runnable)
     }
 
-    /// The same. A queue that is empty is left after loads alone, with no pop.
+    /// The same. An empty queue is left after loads alone, with no pop.
     #[inline(always)]
     pub fn take_unless_empty<R: Wait>(
         &mut self,
@@ -220,7 +220,8 @@ impl Steps {
         Some(runnable)
     }
 
-    /// In a walk, takes the first Runnable of the own queue, where there is one. That nothing was there is seen where the walk goes on.
+    /// In a walk, takes the first Runnable of the own queue, where there is one. That nothing was there is recorded where the walk
+    /// goes on.
     #[inline(always)]
     pub fn take_in_walk<R: Wait>(
         &mut self,
@@ -253,7 +254,7 @@ impl Steps {
         }
     }
 
-    /// Puts a Runnable into the executor's queue of its mark, or answers it where that is closed.
+    /// Puts a Runnable into the executor's queue of its mark. Where the queue is closed the Runnable comes back.
     #[inline(always)]
     pub fn append<R: Wait>(
         &mut self,

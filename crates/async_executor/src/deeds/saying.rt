@@ -1,4 +1,4 @@
-//! How deeds write down what has a word of its own in `call_steps`. Nobody else can.
+//! How deeds write down what has a word of its own in `call_steps`. Only deeds can.
 ghost use Rattle.std.specs.Prelude.{◌≡◌, Some};
 ghost use Rattle.task_moves.specs.declared.moves.owed.Move.TheVariants as move;
 ghost use Rattle.call_steps.specs.declared.saw.Saw.TheVariants as saw;

@@ -27,7 +27,7 @@ use executor_parts::{Room, Sleeper};
 use std::sync::Wait;
 
 impl Steps {
-    /// Exchanges the flag from false to true, and says whether it was false: then a waker is to be handed out.
+    /// Exchanges the flag from false to true, and answers whether it was false. Then a waker has to be taken out.
     #[inline(always)]
     pub fn exchange(&mut self, flag: &Flag) -> bool
         requires { top self.old ≡ Some (step.Sleeper sleeper_step.ExchangeFlag) }
@@ -38,7 +38,7 @@ impl Steps {
         won
     }
 
-    /// Takes, under the sleepers' lock, the waker added last, where it won the exchange of the flag.
+    /// Takes, under the sleepers' lock, the waker that was added last, where this call won the exchange of the flag.
     pub fn hand_out<W, R: Wait>(
         &mut self,
         state: &State<W>,
@@ -98,8 +98,8 @@ impl Steps {
         self.follow(Saw::Nothing);
     }
 
-    /// One that sleeps leaves the sleepers. Its room is the first answer, and the waker that it had there the second; none where it
-    /// had been told.
+    /// One that sleeps leaves the sleepers. The first answer is its room, the second the waker that it had there; none where it
+    /// had been notified.
     pub fn leave<W: Drop, R: Wait>(
         &mut self,
         sleeper: Sleeper,
@@ -123,7 +123,7 @@ impl Steps {
         (room, old)
     }
 
-    /// One that doesn't sleep has none to leave: its room goes back.
+    /// One that doesn't sleep has no waker there: its room goes back.
     pub fn leave_awake<W, R: Wait>(
         &mut self,
         room: Room,

@@ -1,4 +1,4 @@
-//! What calls do with the executor's table, but for the sections of a task's poll.
+//! What calls do with the executor's table, except the sections of a task's poll.
 ghost use Rattle.std.specs.Prelude.{◌≡◌, ◌∷◌, [], ◌++◌, ◌+◌, IfErr, IfNone, IfOk, IfSome, None, OnSome, Some, length};
 ghost use Rattle.std.specs.Prelude.{drop as list_drop};
 ghost use Rattle.call_steps.specs.Closing.{closing, leaking};
@@ -30,7 +30,7 @@ use call_steps::Saw;
 use executor_parts::{Mark, Places};
 
 impl<F: Drop, T: Output, W: OutsideWaker, R: Runtime> Body<F, T, W, R> {
-    /// Accepts a future with this mark, or refuses it, in one section of the table's lock, once what was let go is closed.
+    /// Accepts a future with this mark, or refuses it, in one section of the table's lock, after what was let go is closed.
     #[inline(always)]
     pub fn accept(
         &self,
@@ -68,7 +68,7 @@ impl<F: Drop, T: Output, W: OutsideWaker, R: Runtime> Body<F, T, W, R> {
 }
 
 impl Steps {
-    /// An executor's drop takes all out of the table, as it has this room for their wakers.
+    /// An executor's drop takes all out of the table. It has this room for the wakers.
     pub fn take_out<F>(
         &mut self,
         table: Guarded<Places<F, TableWaker>>,
@@ -92,7 +92,7 @@ impl Steps {
         table
     }
 
-    /// An executor's drop drops the future of the first entry, and keeps that one's waker, which comes last; the waker comes back
+    /// An executor's drop drops the future of the first entry, and appends that entry's waker to its list. The waker comes back
     /// where there is no room for it. None where no entry is left.
     pub fn drop_next<F: Drop>(
         &mut self,
@@ -119,7 +119,7 @@ impl Steps {
         Some(refused)
     }
 
-    /// A leak takes the next waker out, which is to be called, where so many are left; an entry without one counts as woken.
+    /// A leak takes the next waker out, to be called, where this many are left. An entry without one counts as woken.
     pub fn turn<F>(&mut self, table: &mut Places<F, TableWaker>, left: u64) -> Option<ToCall>
         requires { top self.old ≡ Some (step.Closing closing_step.LeakNext) }
         ensures waker { result ≡ first_waker table.old.entries }

@@ -1,4 +1,4 @@
-//! A task while it is run. Its end calls who awaits it, so it is lent an `Unlocked`.
+//! A task while it is run. Its end calls the awaiter, so it is lent an `Unlocked`.
 ghost use Rattle.std.specs.Prelude.{◌≡◌, ◌∷◌, true, Some};
 ghost use Rattle.task_moves.specs.declared.moves.owed.Move.TheVariants as move;
 ghost use Rattle.async_task.specs.Awaiters.{identity_of};
@@ -55,8 +55,8 @@ impl<T: Output, W: OutsideWaker, R: Runtime> Polling<T, W, R> {
         self.running.waker()
     }
 
-    /// Ends the run of a future of this executor that was polled, with no lock held. A task that was woken meanwhile is queued, and one
-    /// that was closed meanwhile loses its future. What has ended is matched where it is answered: it is large.
+    /// Ends the run of a polled future of this executor, with no lock held. A task that was woken meanwhile is queued, and one
+    /// that was closed meanwhile loses its future. The outcome is matched where it is answered, as it is large.
     #[inline(always)]
     pub fn settle<F>(
         self,
@@ -107,7 +107,7 @@ impl<T: Output, W: OutsideWaker, R: Runtime> Polling<T, W, R> {
 }
 
 impl<T: Output, W: OutsideWaker, R: Runtime> Dropping<T, W, R> {
-    /// A task was taken up that is closed: its future is to be dropped.
+    /// A closed task was taken up: its future has to be dropped.
     pub fn begin(closing: ExClosing<T, W, R>, name: &TaskName, steps: &mut Steps) -> Self
         requires closed { was_closed closing.closed ≡ true }
         requires taken_up { top steps.old ≡ Some (step.Move move.TakeUp name.now) }
@@ -118,7 +118,7 @@ impl<T: Output, W: OutsideWaker, R: Runtime> Dropping<T, W, R> {
         Dropping::by(closing, Move::SettleClosed)
     }
 
-    /// A poll has ended of a task whose future is to be dropped: it was closed meanwhile, or nobody can reach it any more.
+    /// A poll has ended of a task whose future has to be dropped: it was closed meanwhile, or nobody can reach it any more.
     pub fn left(closing: ExClosing<T, W, R>, name: &TaskName, steps: &mut Steps) -> Self
         requires { top steps.old ≡ Some (step.Move move.EndPending name.now) }
         ensures { steps.new ≡ dropped_by result name.now (below steps.old) }
@@ -162,7 +162,7 @@ impl<T: Output, W: OutsideWaker, R: Runtime> Dropping<T, W, R> {
     }
 }
 
-/// A task was woken while it was polled: its Runnable is due, and all else is paid.
+/// A task was woken while it was polled: its Runnable has to be queued, and all else is done.
 #[inline(always)]
 fn see_due(name: &TaskName, steps: &mut Steps)
     requires { top steps.old ≡ Some (step.Move move.EndPending name.now) }

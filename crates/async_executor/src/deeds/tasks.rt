@@ -20,7 +20,7 @@ use async_task::{GoesBack, Output, OutsideWaker, Returning, Runtime, StoredWaker
 use call_steps::{Saw, TickOrRun, Waker};
 
 impl Steps {
-    /// Closes a Runnable, as the executor's queue is closed. Where that leads to a task that has to be queued, it is the answer.
+    /// Closes a Runnable, as the executor's queue is closed. The answer is a task that has to be queued then, if there is one.
     pub fn close_runnable<T: Output, W: OutsideWaker, R: Runtime>(
         &mut self,
         runnable: ExStoredRunnable,
@@ -51,7 +51,7 @@ impl Steps {
         }
     }
 
-    /// Lets the waker of a task go. Where that task has to be queued then, it is the answer.
+    /// Drops the waker of a task. The answer is that task, where it has to be queued then.
     pub fn release<T: Output, W: OutsideWaker, R: Runtime>(
         &mut self,
         waker: Returning<StoredWaker>,
@@ -75,7 +75,7 @@ impl Steps {
         }
     }
 
-    /// Calls the waker of a sleeper. Where a task has to be queued then, it is the answer.
+    /// Calls the waker of a sleeper. The answer is a task that has to be queued then, if there is one.
     pub fn call_sleeper<T: Output, W: OutsideWaker, R: Runtime>(
         &mut self,
         waker: SleeperWaker<W>,
@@ -130,8 +130,8 @@ impl Steps {
         }
     }
 
-    /// Calls a waker that came out of the table, where so many are left: as a leak does, and an executor's drop. Where a task has to
-    /// be queued then, it is the answer.
+    /// Calls a waker that came out of the table, where this many are left, as a leak and an executor's drop do. The answer is a
+    /// task that has to be queued then, if there is one.
     pub fn call_entry<T: Output, W: OutsideWaker, R: Runtime>(
         &mut self,
         waker: ToCall,
@@ -157,8 +157,8 @@ impl Steps {
         }
     }
 
-    /// The waker goes of an entry that left, which is of this task by reading alone. What is due then, which is nothing, is handed over as a
-    /// part of its own.
+    /// Drops the waker of an entry that left. The waker is of this task, which is known only by reading. What then has to be
+    /// queued, which is nothing, is handed over as a part of its own.
     #[inline(always)]
     pub fn release_entry<T: Output, W: OutsideWaker, R: Runtime>(
         &mut self,

@@ -1,4 +1,4 @@
-//! The executor that never ends, as a user has it.
+//! The executor that never ends, for users.
 ghost use Rattle.std.specs.Prelude.{◌≡◌, ◌<◌, true, false, Some, IfOk, IfErr};
 ghost use Rattle.std.specs.Arc.{arc_value};
 ghost use Rattle.async_executor.specs.Errors.{refused};
@@ -20,9 +20,9 @@ use std::fmt;
 /// An executor of futures `F`, whose outputs are `T`, which never ends: what it still holds when it goes is leaked. Its table
 /// keeps no wakers: a detached future that nobody can wake any more is dropped by the executor.
 ///
-/// It is `StaticExecutor` of the Rust crate `async-executor`, where it stands behind a feature. It asks for what an `Executor` asks
-/// for, has the same limit and errors, and takes memory in the same calls; it has no `spawn_many` and no `is_empty`. `Executor::leak`
-/// makes one of an executor.
+/// It is `StaticExecutor` of the Rust crate `async-executor`, where a feature turns it on. It asks for what an `Executor` asks
+/// for, has the same limit and errors, and takes memory in the same calls. It has no `spawn_many` and no `is_empty`.
+/// `Executor::leak` makes one from an executor.
 ///
 /// In `never_ended` of `examples`, over any `R: Runtime`, the future gives twice its number:
 ///
@@ -44,8 +44,8 @@ impl<F, T: Output, W: OutsideWaker, R: Runtime> StaticExecutor<F, T, W, R>
 where
     F: Future<ExWaker<T, W, R>, Output = T> + Drop,
 {
-    /// An executor with places for so many futures, whose tasks lie in this realm. It keeps the runtime value, the
-    /// allocator and the realm for its calls. All places of its queues and its table are taken here.
+    /// Makes an executor with places for this many futures, whose tasks lie in this realm. It keeps the runtime value, the
+    /// allocator and the realm for its calls. It takes the memory for all places of its queues and its table.
     pub fn new(
         rt: R,
         alloc: Global,
@@ -65,8 +65,8 @@ where
     }
 
     /// Hands the executor a plain future. Its task is queued, and the handle is answered: a future with the output, whose drop
-    /// cancels the task. `Full` where as many accepted futures as the limit are not dropped yet, and only then want of memory
-    /// for the task. The future comes back.
+    /// cancels the task. Refused, the future comes back: with `Full` where as many accepted futures as the limit are not dropped
+    /// yet, else with `NoMemory` for want of memory for the task.
     pub fn spawn(&self, future: F) -> Result<ExTask<T, W, R>, SpawnError<F>>
         ensures future { IfErr result (λ error. refused error ≡ future) }
         ensures here { IfOk result (λ task. task.identity.realm ≡ self.now.body.realm.now.number) }
@@ -90,14 +90,14 @@ where
         spawned
     }
 
-    /// Runs one task, where one is queued, and says whether it did. It doesn't wait for one, and takes no memory.
+    /// Runs one task, where one is queued, and answers whether it did. It doesn't wait for one, and takes no memory.
     pub fn try_tick(&self) -> bool {
         let steps = begun(Asked::TryTick);
         let (is_run, _last) = self.body.run_one(steps, &mut Unlocked::at_entry());
         is_run
     }
 
-    /// A future that waits for a future of the executor which is to be polled, and polls it once.
+    /// Makes a future that waits for a future of the executor which has to be polled, and polls it once.
     pub fn tick(&self) -> Result<Tick<'_, F, T, W, R>, NoMemory>
         ensures { IfOk result (λ tick. has_left tick.ticker ≡ false) }
     {
@@ -106,7 +106,7 @@ where
         made
     }
 
-    /// A future that runs the executor's futures until this one is ready, and has its output then. For want of memory the
+    /// Makes a future that runs the executor's futures until this one is ready, and then has its output. For want of memory the
     /// future comes back.
     pub fn run<G>(&self, future: G) -> Result<Run<'_, F, T, W, R, G>, G>
     where
@@ -148,7 +148,7 @@ impl<F: Drop, T: Output, W: OutsideWaker, R: Runtime> Drop for StaticExecutor<F,
     }
 }
 
-/// As that of an `Executor`. No future has a waker in its table.
+/// The text of an `Executor`. No future has a waker in its table.
 impl<F: Drop, T: Output, W: OutsideWaker, R: Runtime> fmt::Debug for StaticExecutor<F, T, W, R> {
     fn fmt<O: fmt::Write>(&self, f: &mut fmt::Formatter<O>) -> fmt::Result {
         self.body

@@ -1,4 +1,4 @@
-//! How the own queue of a run goes, with what is left in it, as its call has to do next.
+//! How the own queue of a run ends, with what is left in it, as its call has to do next.
 ghost use Rattle.std.specs.Prelude.{◌≡◌, ◌∷◌, [], true, false, None, IsTrue};
 ghost use Rattle.call_steps.specs.Begins.{drop_run};
 ghost use Rattle.call_steps.specs.Todo.{following};
@@ -53,8 +53,8 @@ impl Runner {
         }
     }
 
-    /// The run is dropped, with its own future, where that is there. Its own queue goes from the executor's list, where it is there, its
-    /// room there is given back, and what is left in the queue is scheduled, in order.
+    /// The run is dropped, with its own future, where that is there. Its own queue leaves the executor's list, where it is there,
+    /// and its room there is given back. What is left in the queue is scheduled, in order.
     pub fn end<G: Drop, T: Output, W: OutsideWaker, R: Runtime>(
         &mut self,
         future: Option<Foreign<G>>,
@@ -84,7 +84,7 @@ impl Runner {
         self.reschedule(rt, state, realm, Reply::Done, steps, unlocked);
     }
 
-    /// Leaves the executor's list: its room there is given back, and its own queue goes from there, where it is there.
+    /// Leaves the executor's list: its room there is given back, and its own queue is removed, where it is there.
     pub fn leave_list<W: Drop, R: Wait>(
         &mut self,
         rt: &R,
@@ -99,7 +99,7 @@ impl Runner {
         }
     }
 
-    /// Schedules what is left in the own queue, in order, in a call that is answered so.
+    /// Schedules what is left in the own queue, in order, in a call that answers this.
     pub fn reschedule<T: Output, W: OutsideWaker, R: Runtime>(
         &mut self,
         rt: R,

@@ -75,7 +75,7 @@ impl Runner {
         Searched::Nothing
     }
 
-    /// In a walk, steals from this queue, with so many still to go to.
+    /// In a walk, steals from this queue, with this many still to go to.
     fn steal_in_walk<R: Wait>(
         &self,
         rt: &R,
@@ -97,7 +97,7 @@ impl Runner {
         steal(rt, &At::own(queue), &self.own, &theft, steps)
     }
 
-    /// In a walk, looks into the own queue, with so many still to go to.
+    /// In a walk, looks into the own queue, with this many still to go to.
     #[inline(always)]
     fn look_own_in_walk<R: Wait>(
         &self,

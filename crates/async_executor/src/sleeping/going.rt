@@ -1,4 +1,4 @@
-//! How the waker goes of one that sleeps no more, or with another one, as its call has to do next.
+//! How a waker is dropped whose tick or run sleeps no more, or sleeps with another one, as its call has to do next.
 ghost use Rattle.std.specs.Prelude.{◌≡◌};
 ghost use Rattle.async_executor.specs.Deeds.{gone, LetsGo};
 ghost use Rattle.async_executor.specs.Steps.{name_of};
@@ -11,7 +11,7 @@ use crate::names::ExRealm;
 use async_task::{Output, OutsideWaker, Runtime};
 
 impl<W: OutsideWaker> SleeperWaker<W> {
-    /// It goes, with all that this leads to.
+    /// Drops it, with all that this leads to.
     pub fn let_go<T: Output, R: Runtime>(
         self,
         rt: R,

@@ -42,7 +42,7 @@ impl Ticker {
     }
 }
 
-/// One that sleeps leaves the sleepers. If it had been told, it tells another in its place. Its room is the answer.
+/// One that sleeps leaves the sleepers. If it had been notified, it notifies another in its place. Its room is the answer.
 fn leave_sleepers<T: Output, W: OutsideWaker, R: Runtime>(
     rt: R,
     state: &State<W>,
@@ -64,7 +64,7 @@ fn leave_sleepers<T: Output, W: OutsideWaker, R: Runtime>(
 }
 
 /// The section of the sleepers' lock in which one leaves. Its room is the first answer. It has no waker there where it had been
-/// told.
+/// notified.
 pub fn leave_in<W>(sleepers: &mut Sleepers<SleeperWaker<W>>, sleeper: Sleeper) -> (Room, WokenUp<W>)
     ensures left { Leaves sleeper.number sleepers.old sleepers.new result.1 }
     ensures said { result.1.notified ≡ flag_of sleepers.new }

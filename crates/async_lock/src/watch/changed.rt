@@ -6,9 +6,9 @@ use async_task::{Future, Poll, Wake};
 use std::sync::Wait;
 use waiting::channel::RecvError;
 
-/// Waits for a change: a future that is ready once a newer value came than its receiver has seen, or none comes any more. Each poll
-/// leaves its waker in the place of the one before; where no copy of the waker can be had it calls the waker, so that it is polled
-/// again. Dropped before, it has seen nothing, and waits no more.
+/// Waits for a change: a future that is ready once a newer value came than its receiver has seen, or none comes any more. Each
+/// poll leaves its waker in the place of the one before. Where no copy of the waker can be had it calls the waker, so that it is
+/// polled again. Dropped before, it has seen nothing, and waits no more.
 pub struct Changed<'a, T: Drop, K: Wake + Drop, R: Wait + Copy + Drop> {
     receiver: &'a mut Receiver<T, K, R>,
 }

@@ -1,4 +1,4 @@
-//! The newest value, which version it is, and those who wait for the next.
+//! The newest value, its version, and the waiters for the next.
 ghost use Rattle.async_lock.specs.Newest.{HasLeftIf, HasMoved, HasNoticed, IsPast};
 ghost use Rattle.std.specs.Arc.{arc_value};
 ghost use Rattle.std.specs.Prelude.{◌≡◌, ◌+◌, ◌-◌, ◌^◌, min, IfSome, None, Some, true, false, []};
@@ -8,8 +8,9 @@ use std::alloc::Global;
 use std::mem;
 use std::sync::Arc;
 
-/// The newest value, which version it is, and those who wait for the next. Each call is one section of whoever locks it; `look` alone
-/// takes memory. None calls or drops a waker, nor drops a value: what comes out is to be called or dropped once the lock is given back.
+/// The newest value, its version, and the waiters for the next. Each call is one section of whoever locks it; only `look` takes
+/// memory. No call calls or drops a waker, or drops a value: the caller calls or drops what comes out, once it has released the
+/// lock.
 #[derive(Drop)]
 pub struct Latest<T: Drop, K> {
     newest: Option<Arc<T>>,
@@ -18,7 +19,7 @@ pub struct Latest<T: Drop, K> {
     round: Round<K>,
 }
 
-/// What one who waits for a change found.
+/// What a waiter for a change found.
 #[must_use]
 pub enum Noticed<K> {
     /// The value of this version, which is past the one that it had seen. The wakers that it had left and that it wanted to leave.
@@ -27,12 +28,12 @@ pub enum Noticed<K> {
     Closed(Option<K>, Option<K>),
     /// It had seen the newest value, and waits. The waker that it had left before.
     Waits(Seat, Option<K>),
-    /// It had seen the newest value, and there is no memory for a place among those who wait. The waker that it wanted to leave.
+    /// It had seen the newest value, and there is no memory for a place among the waiters. The waker that it wanted to leave.
     NoMemory(Option<K>),
 }
 
 impl<T: Drop, K: Drop> Latest<T, K> {
-    /// Without a value, and nobody waits. Takes no memory.
+    /// Makes it without a value; nobody waits. Takes no memory.
     pub fn new(alloc: Global) -> Self
         ensures version { result.version ≡ 0 }
         ensures open { result.is_closed ≡ false }
@@ -46,7 +47,7 @@ impl<T: Drop, K: Drop> Latest<T, K> {
         }
     }
 
-    /// Puts the first value in. Answers the one before it.
+    /// Puts the first value in. Answers the value before it.
     pub fn begin(&mut self, first: Arc<T>) -> Option<Arc<T>>
         ensures before { result ≡ self.old.newest }
         ensures new { self.new ≡ record self.old { newest = Some first } }
@@ -54,8 +55,8 @@ impl<T: Drop, K: Drop> Latest<T, K> {
         mem::replace(&mut self.newest, Some(first))
     }
 
-    /// Puts a value in the place of the newest: the next version. Answers the one before it, and who is to be woken. There are 2^64 - 1
-    /// versions at most; a value past that has the last one's number.
+    /// Puts a value in the place of the newest: the next version. Answers the value before it, and the waiters that have to be
+    /// woken. There are 2^64 - 1 versions at most; a value past that has the last one's number.
     pub fn put(&mut self, value: Arc<T>) -> (Option<Arc<T>>, Ended<K>)
         ensures before { result.0 ≡ self.old.newest }
         ensures newest { self.new.newest ≡ Some value }
@@ -68,7 +69,7 @@ impl<T: Drop, K: Drop> Latest<T, K> {
         (before, self.round.end())
     }
 
-    /// No value comes any more. Answers who is to be woken.
+    /// Closes it: no value comes any more. Answers the waiters that have to be woken.
     pub fn close(&mut self) -> Ended<K>
         ensures closed { self.new.is_closed ≡ true }
         ensures woken { (result.waiters ≡ self.old.round.waiters) × (self.new.round.waiters.waiting ≡ []) }
@@ -92,14 +93,14 @@ impl<T: Drop, K: Drop> Latest<T, K> {
         }
     }
 
-    /// Which version the newest value is.
+    /// The version of the newest value.
     pub fn version(&self) -> u64
         ensures { result ≡ self.now.version }
     {
         self.version
     }
 
-    /// What one finds that has seen this version, and waited already where it has a seat.
+    /// What a follower finds that has seen this version, and waited already where it has a seat.
     pub fn look(&mut self, seen: u64, seat: Option<Seat>, waker: Option<K>) -> Noticed<K>
         ensures noticed { HasNoticed seen self.old.version self.old.is_closed result }
         ensures past { IsPast seen result }
@@ -126,7 +127,7 @@ impl<T: Drop, K: Drop> Latest<T, K> {
         }
     }
 
-    /// Waits no more, if it waited. Its waker, to be dropped once the lock is given back.
+    /// Waits no more, if it waited. Answers its waker, to be dropped once the lock is released.
     pub fn leave(&mut self, seat: Option<Seat>) -> Option<K>
         ensures left { HasLeftIf seat self.old.round.number self.old.round.waiters self.new.round.waiters result }
         ensures number { self.new.round.number ≡ self.old.round.number }

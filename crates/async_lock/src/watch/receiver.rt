@@ -11,13 +11,14 @@ use std::mem;
 use std::sync::{Arc, Wait};
 use waiting::channel::RecvError;
 
-/// Follows the newest of values: it is woken at a change, and sees the newest alone. To each version `changed` answers once at most.
+/// Follows the newest of values: it is woken at a change, and sees only the newest. `changed` answers at most once to each
+/// version.
 pub struct Receiver<T: Drop, K: Wake + Drop, R: Wait + Copy + Drop> {
     shared: Arc<Shared<T, K>>,
     rt: R,
     // The version that it has seen.
     seen: u64,
-    // From a `poll_changed` that was pending until one that isn't.
+    // Set from a `poll_changed` that was pending until one that isn't.
     seat: Option<Seat>,
 }
 
@@ -35,7 +36,7 @@ impl<T: Drop, K: Wake + Drop, R: Wait + Copy + Drop> Receiver<T, K, R> {
         }
     }
 
-    /// One more receiver, which has seen as much; refused where there are 2^63 handles. It takes no memory.
+    /// Makes one more receiver, which has seen as much; refused where there are 2^63 handles. It takes no memory.
     pub fn clone(&self) -> Result<Self, NoMemory>
         ensures same { IfOk result (λ receiver. arc_value receiver.shared ≡ arc_value self.now.shared) }
         ensures seen { IfOk result (λ receiver. receiver.seen ≡ self.now.seen) }
@@ -47,8 +48,8 @@ impl<T: Drop, K: Wake + Drop, R: Wait + Copy + Drop> Receiver<T, K, R> {
         }
     }
 
-    /// The newest value, to look at for as long as one likes: no lock is held meanwhile, and a newer one may come. It counts as seen no
-    /// more than before. Refused where it has 2^63 handles; it takes no memory.
+    /// Borrows the newest value, for as long as the caller likes: no lock is held meanwhile, and a newer one may come. The value
+    /// doesn't count as seen by this. Refused where it has 2^63 handles; it takes no memory.
     pub fn borrow(&self) -> Result<Arc<T>, NoMemory> {
         match self.shared.newest(&self.rt) {
             Some((newest, _version)) => Ok(newest),
@@ -56,7 +57,7 @@ impl<T: Drop, K: Wake + Drop, R: Wait + Copy + Drop> Receiver<T, K, R> {
         }
     }
 
-    /// As `borrow`, and the value counts as seen: a `changed` waits for a newer one.
+    /// As `borrow`, and the value counts as seen: a later `changed` waits for a newer one.
     pub fn borrow_and_update(&mut self) -> Result<Arc<T>, NoMemory>
         ensures seen { self.old.seen ≤ self.new.seen }
         ensures refused { OnErr result (self.new.seen ≡ self.old.seen) }
@@ -71,19 +72,20 @@ impl<T: Drop, K: Wake + Drop, R: Wait + Copy + Drop> Receiver<T, K, R> {
         }
     }
 
-    /// Whether a newer value came than it has seen, which others may change at once. It takes no memory.
+    /// Whether a newer value came than it has seen. Others may change that at once. It takes no memory.
     pub fn has_changed(&self) -> bool {
         self.shared.version(&self.rt) > self.seen
     }
 
-    /// A future that is ready once a newer value came than it has seen: that counts as seen then. It takes no memory by itself.
+    /// Makes a future that is ready once a newer value came than it has seen: that counts as seen then. It takes no memory by
+    /// itself.
     pub fn changed(&mut self) -> Changed<'_, T, K, R> {
         Changed::new(self)
     }
 
-    /// As the poll of `changed`, for a future that has the receiver in a field. It takes memory for a place among those who wait, where
-    /// others wait already. `Closed` says that it has seen the newest value, and none comes any more. Who got `Pending` and won't poll
-    /// again may call `give_up`, or drop the receiver: nobody waits for that.
+    /// Polls as the future of `changed` does, for a future that has the receiver in a field. It takes memory for a place among the
+    /// waiters, where others wait already. `Closed` says that it has seen the newest value, and none comes any more. After a
+    /// pending poll, a caller that won't poll again may call `give_up`, or drop the receiver: nobody waits for that.
     pub fn poll_changed(&mut self, waker: &K) -> Poll<Result<(), RecvError>>
         ensures once { result ≡ poll.Ready (Ok tt) → self.old.seen < self.new.seen }
         ensures seen { ¬ (result ≡ poll.Ready (Ok tt)) → self.new.seen ≡ self.old.seen }
@@ -119,7 +121,7 @@ impl<T: Drop, K: Wake + Drop, R: Wait + Copy + Drop> Receiver<T, K, R> {
         self.sits(None);
     }
 
-    /// From now on it waits so, and as it did before no more.
+    /// Sets how it waits, and ends the wait before.
     fn sits(&mut self, seat: Option<Seat>)
         ensures { self.new ≡ record self.old { seat = seat } }
     {

@@ -9,7 +9,7 @@ use std::alloc::Global;
 use std::sync::atomic::Ordering::SeqCst;
 use std::sync::{Arc, Wait};
 
-/// Sends values, of which those who follow see the newest. The drop of the last sender wakes them: none comes any more.
+/// Sends values, of which followers see the newest. The drop of the last sender wakes them: none comes any more.
 pub struct Sender<T: Drop, K: Wake + Drop, R: Wait + Copy + Drop> {
     shared: Arc<Shared<T, K>>,
     rt: R,
@@ -23,7 +23,7 @@ impl<T: Drop, K: Wake + Drop, R: Wait + Copy + Drop> Sender<T, K, R> {
         Sender { shared, rt, alloc }
     }
 
-    /// One more sender; refused where there are 2^63 handles. It takes no memory.
+    /// Makes one more sender; refused where there are 2^63 handles. It takes no memory.
     pub fn clone(&self) -> Result<Self, NoMemory>
         ensures same { IfOk result (λ sender. arc_value sender.shared ≡ arc_value self.now.shared) }
     {
@@ -36,9 +36,9 @@ impl<T: Drop, K: Wake + Drop, R: Wait + Copy + Drop> Sender<T, K, R> {
         }
     }
 
-    /// Puts the value in the place of the newest, and wakes all who wait; also where there is no receiver. It takes memory for the value;
-    /// where there is none it comes back, and nothing changes. The one before is dropped once nobody looks at it any more, with no lock
-    /// held.
+    /// Puts the value in the place of the newest, and wakes all waiters; also where there is no receiver. It takes memory for the
+    /// value; where there is none the value comes back, and nothing changes. The value before is dropped once nobody looks at it
+    /// any more, with no lock held.
     pub fn send(&self, value: T) -> Result<(), NoMemoryFor<T>>
         ensures { IfErr result (λ error. error.0 ≡ value) }
     {
@@ -51,7 +51,7 @@ impl<T: Drop, K: Wake + Drop, R: Wait + Copy + Drop> Sender<T, K, R> {
         }
     }
 
-    /// One more receiver, which has seen the newest value; refused where there are 2^63 handles. It takes no memory.
+    /// Makes one more receiver, which has seen the newest value; refused where there are 2^63 handles. It takes no memory.
     pub fn subscribe(&self) -> Result<Receiver<T, K, R>, NoMemory>
         ensures same { IfOk result (λ receiver. arc_value receiver.shared ≡ arc_value self.now.shared) }
         ensures waits_not { IfOk result (λ receiver. receiver.seat ≡ None) }
@@ -67,7 +67,7 @@ impl<T: Drop, K: Wake + Drop, R: Wait + Copy + Drop> Sender<T, K, R> {
 }
 
 impl<T: Drop, K: Wake + Drop, R: Wait + Copy + Drop> Drop for Sender<T, K, R> {
-    /// Closes it where this is the last sender.
+    /// The last sender closes it.
     fn drop(self) {
         let Sender {
             shared,

@@ -17,7 +17,7 @@ pub struct Shared<T: Drop, K: Wake + Drop> {
 }
 
 impl<T: Drop, K: Wake + Drop> Shared<T, K> {
-    /// With one sender, and no value yet.
+    /// Makes it with one sender, and no value yet.
     pub fn new(alloc: Global) -> Self {
         Shared {
             latest: Guarded::new(Latest::new(alloc)),
@@ -31,14 +31,14 @@ impl<T: Drop, K: Wake + Drop> Shared<T, K> {
         drop(before);
     }
 
-    /// Puts a value in the place of the newest, drops that, and wakes all who wait.
+    /// Puts a value in the place of the newest, drops the older one, and wakes all waiters.
     pub fn put<R: Wait>(&self, rt: &R, value: Arc<T>) {
         let (before, all) = self.latest.lock(rt).put(value);
         all.wake_all();
         drop(before);
     }
 
-    /// No value comes any more. Wakes all who wait.
+    /// Closes it: no value comes any more. Wakes all waiters.
     pub fn close<R: Wait>(&self, rt: &R) {
         let ended = self.latest.lock(rt).close();
         ended.wake_all();
@@ -49,12 +49,12 @@ impl<T: Drop, K: Wake + Drop> Shared<T, K> {
         self.latest.lock(rt).newest()
     }
 
-    /// Which version the newest value is.
+    /// The version of the newest value.
     pub fn version<R: Wait>(&self, rt: &R) -> u64 {
         self.latest.lock(rt).version()
     }
 
-    /// What one finds who waits for a change.
+    /// What a waiter for a change finds.
     pub fn look<R: Wait>(
         &self,
         rt: &R,

@@ -1,4 +1,4 @@
-//! The moves of a task's handle, each with all that it owes.
+//! The moves of a task's handle, each with all that it leaves to be done.
 ghost use Rattle.std.specs.Prelude.{◌≡◌};
 ghost use Rattle.async_task.specs.Polls.{IsTold};
 ghost use Rattle.task_word.specs.Handles.{IsHandleOf};
@@ -27,7 +27,7 @@ where
         self.call_awaiter(task)
     }
 
-    /// The awaiter is called, where that is owed.
+    /// The awaiter is called, where it has to be woken.
     #[inline(always)]
     pub(crate) fn call_awaiter(
         &self,

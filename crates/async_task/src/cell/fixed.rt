@@ -1,6 +1,5 @@
-//! What never changes of a task, in its cell. Who reads it has a claim meanwhile, for which nobody waits. Who empties the
-//! cell marks it, so that no more claims are made, and the last that leaves it takes it out.
-//! It is the schedule value and the metadata.
+//! What never changes of a task, in its cell. A reader has a claim meanwhile, for which nobody waits. A call that empties the cell
+//! marks it, so that no more claims are made. The last that leaves it takes it out. It is the schedule value and the metadata.
 ghost use Rattle.std.specs.Prelude.{◌≡◌, ◌%◌, ◌<◌, IfSome};
 ghost use Rattle.counted_slot.specs.Counting.{readers};
 ghost use Rattle.async_task.specs.Slots.{CanRead};

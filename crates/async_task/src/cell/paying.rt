@@ -66,7 +66,7 @@ where
         StoredWaker::at(&realm.returns, place, stored)
     }
 
-    /// Drops a waker that a cell of this realm kept, or was to keep. What is then owed to a schedule value is the answer.
+    /// Drops a waker that a cell of this realm kept, or was to keep. The answer is what then has to be passed to a schedule value.
     #[inline(always)]
     pub(crate) fn let_go(
         rt: R,
@@ -165,8 +165,8 @@ where
         }
     }
 
-    /// The end of a closing call: the awaiter is called, and then the reference given up. Of two tasks that are then owed to their
-    /// schedule values the second goes back to its realm: who awaits a task after its last call is dropped with it.
+    /// The end of a closing call: the awaiter is called, and then the reference given up. Two tasks may then have to be scheduled.
+    /// The second goes back to its realm: who awaits a task after its last call is dropped with it.
     pub(crate) fn leave_later(
         &self,
         run: Result<PastRun<F, T, Kept<W>>, OwingRun<F, T, Kept<W>>>,
@@ -176,7 +176,7 @@ where
         let (past, awaiter) = notified(&self.rt, run);
         let due = self.call_some(awaiter);
         match self.site().give_up(past) {
-            // The move that gives a reference up owes no Runnable.
+            // The move that gives a reference up leaves no Runnable to be scheduled.
             Rest::Queue(woken) => self.site().give_back(woken),
             Rest::Drop(kept) => Site::let_go_quietly(self.rt, self.realm, kept),
             Rest::Nothing => {}
@@ -210,7 +210,7 @@ where
         self.pay(self.site().give_up(past));
     }
 
-    /// A wake, with what it owes to the schedule value.
+    /// A wake, which schedules the task where that has to be done.
     #[inline(always)]
     pub(crate) fn wake_and_queue(&self) {
         if let Ok(Woken { token, info }) = self.site().wake() {
@@ -230,7 +230,7 @@ where
         }
     }
 
-    /// Hands the task to its schedule value, where that is owed.
+    /// Hands the task to its schedule value, where it has to be scheduled.
     #[inline(always)]
     pub(crate) fn queue(&self, woken: Option<Woken<F, T, W>>) {
         if let Some(Woken { token, info }) = woken {

@@ -50,7 +50,7 @@ impl Drop for KeptWaker {
 /// detach hands it on.
 pub struct Duty(());
 
-/// That a handle was given up with its duty to cancel unspent: its task goes on. It is had by a detach alone.
+/// Proof that a handle was given up with its duty to cancel unspent: its task goes on. Only a detach makes one.
 pub struct Detached {
     duty: Duty,
 }

@@ -1,4 +1,4 @@
-//! What is let go goes back to its realm.
+//! What returns to its realm when it is let go.
 ghost use Rattle.std.specs.Prelude.{◌≡◌, IfSome};
 ghost use Rattle.async_task.specs.Due.{WasIdle};
 ghost use Rattle.async_task.specs.Handles.{task_of};

@@ -68,7 +68,7 @@ impl Model for StoredWaker {
     ghost view = { λ s. record { identity = record { realm = s.returns.now.number; place = s.place } } };
 }
 
-/// A task that is to be handed to its schedule value, with what that is to be told.
+/// A task that has to be scheduled, with the information that is passed to its schedule value.
 pub struct Due<F: 'static, T: 'static, S: 'static, M: 'static, W: 'static, R> {
     pub runnable: Scheduled<F, T, S, M, W, R>,
     pub info: ScheduleInfo,
@@ -117,8 +117,8 @@ where
         self.held.realm()
     }
 
-    /// Closes the task, as the drop of a Runnable does. Who awaits it is woken: where that is a
-    /// task that has to be queued, it is the answer.
+    /// Closes the task, as the drop of a Runnable does. Its awaiter is woken. The answer is that awaiter's task, where it has to
+    /// be queued.
     pub fn close(self) -> Option<Due<F, T, S, M, W, R>>
         ensures { IfSome result (λ due. WasIdle due.info) }
     {
@@ -289,9 +289,9 @@ impl StoredWaker {
         }
     }
 
-    /// Wakes the task, and is gone. Where the task has to be queued, it is the answer. A schedule
-    /// value that wakes tasks calls this, and goes on with the answer in a loop, since its own
-    /// `schedule` can't be called from within. A waker of another realm comes back.
+    /// Wakes the task, and is gone. The answer is the task, where it has to be queued. A schedule value that wakes tasks calls
+    /// this, and goes on with the answer in a loop, since its own `schedule` can't be called from within. A waker of another realm
+    /// comes back.
     pub fn wake<F, T: Output, S, M, W: OutsideWaker, R>(
         self,
         rt: R,

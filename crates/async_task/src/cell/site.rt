@@ -1,5 +1,5 @@
-//! A way to one task's cell without the task's metadata, for who has something that rests there. The metadata are read for a
-//! Runnable that is to be handed on.
+//! A way to one task's cell without the task's metadata, for calls that have something that rests there. The metadata are read for
+//! a Runnable that is to be handed on.
 ghost use Rattle.std.specs.Prelude.{◌≡◌, IfSome};
 ghost use Rattle.async_task.specs.Due.{IsDueBy, WasIdle};
 ghost use Rattle.async_task.specs.Slots.{CanRead};
@@ -78,7 +78,7 @@ where
         Held::of(self.rt, self.realm, self.place, cell, metadata)
     }
 
-    /// The Runnable, and whom it is owed to.
+    /// The Runnable, and the schedule value that it has to be handed to.
     pub(crate) fn due(self, woken: Woken<F, T, W>) -> Due<F, T, S, M, W, R>
         requires { WasIdle woken.info }
         ensures { IsDueBy self result }

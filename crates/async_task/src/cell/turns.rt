@@ -14,7 +14,7 @@ use std::sync::Wait;
 use task_moves::moves::Owed;
 use task_word::tokens::{Debt, Left, OwingRun, OwingTask, PastRun, Trace};
 
-/// A Runnable that is owed to its task's schedule value, with what that is to be told.
+/// A Runnable that has to be scheduled, with the information that is passed to its task's schedule value.
 pub(crate) struct Woken<F: 'static, T: 'static, W: 'static> {
     pub token: RunnableToken<F, T, W>,
     pub info: ScheduleInfo,
@@ -36,7 +36,7 @@ pub(crate) struct Remains<F: 'static, T: 'static, W: 'static> {
     ghost alone: { IfSome left.awaiter (λ _. is_ok left.runnable ≡ false) } by { Prim.hlevel props },
 }
 
-/// The Runnable that is owed.
+/// The Runnable that has to be scheduled.
 #[inline(always)]
 pub(crate) fn owed_runnable<F, T, W>(
     owed: Owed,
@@ -91,7 +91,7 @@ where
     W: Drop + 'static,
     R: Wait + Copy + Drop,
 {
-    /// A wake: a Runnable is the answer where one is owed, and else what shows that none was.
+    /// A wake: the answer is a Runnable where one has to be scheduled, and else what shows that none had to be.
     #[inline(always)]
     pub(crate) fn wake(&self) -> Result<Woken<F, T, W>, StaysAwake>
         ensures { IfOk result (λ woken. WasIdle woken.info) }
@@ -149,7 +149,7 @@ where
     }
 }
 
-/// The value that is owed a call or a drop.
+/// The value that has to be called or dropped.
 #[inline(always)]
 pub(crate) fn paid<X>(debt: Option<Debt<X>>) -> Option<X>
     ensures { result ≡ debt }
@@ -160,7 +160,7 @@ pub(crate) fn paid<X>(debt: Option<Debt<X>>) -> Option<X>
     }
 }
 
-/// The awaiter comes out, to be called, where that is owed.
+/// The awaiter comes out, to be called, where it has to be woken.
 #[inline(always)]
 pub(crate) fn notified<F: Drop + 'static, T: Output, W: Drop + 'static, R: Wait>(
     rt: &R,

@@ -20,7 +20,7 @@ const CAPACITY: u32 = 16_777_184;
 /// More than the greatest number of a place: numbers are taken modulo this.
 const PLACES: usize = 0x100_0000;
 
-/// The part of `Pages::free` that has a place: no more than a place needs, so that the count of changes has 40 bits.
+/// The part of `Pages::free` that has a place. It is no larger than a place needs, so that the count of changes has 40 bits.
 const LINK: u64 = 0xff_ffff;
 
 /// What is set once may be anything.
@@ -30,7 +30,7 @@ impl<T> SlotRule<T> for Anything {
     ghost holds = { λ _ _. ⊤ };
 }
 
-/// What is set once, and then read by any thread. Nobody waits for it, so that to set it calls no system.
+/// A value that is set once, and then read by any thread. Nobody waits for it, so that setting it calls no system.
 type Once<T> = OnceSlot<T, Anything>;
 
 /// A place for a cell.
@@ -45,10 +45,10 @@ pub struct Slot<C> {
 /// The slots, of which each has its number for good.
 #[derive(Drop)]
 pub struct Pages<C> {
-    /// The low 24 bits are 1 more than the place of the first free slot that was in use before, or 0. The rest counts the
-    /// changes, so that a slot that went and came back isn't mistaken but where 2^40 changes fall between a load and its
-    /// exchange. Even then no task comes to harm: a place that is in use may be answered as a free one, and a spawn passes
-    /// over a cell that isn't empty. But free places may be lost, and a spawn may look for one without end.
+    /// The low 24 bits are 1 more than the place of the first free slot that was in use before, or 0. The rest counts the changes,
+    /// so that a slot that went and came back isn't mistaken, unless exactly 2^40 changes fall between a load and its exchange.
+    /// Even then no task is harmed: a place that is in use may be answered as a free one, and a spawn passes over a cell that
+    /// isn't empty. But free places may be lost, and a spawn may look for one without end.
     free: AtomicU64,
     /// The places from this one on were never in use.
     used: AtomicU64,
@@ -112,7 +112,7 @@ impl<C: Drop> Pages<C> {
         let link = (place % PLACES) as u64 + 1;
         let _ = self.free.fetch_update(SeqCst, SeqCst, |free| {
             let next = free & LINK;
-            // It often is: a place that comes and goes is put before the same one.
+            // It often stands so already: a place that comes and goes is put before the same one.
             if slot.next.load(SeqCst) != next {
                 slot.next.store(next, SeqCst);
             }
@@ -169,8 +169,8 @@ impl<C: Drop> Pages<C> {
 }
 
 impl<C: Vacant + Drop> Pages<C> {
-    /// A place that nobody else has, until it is released. Its cell may have to be made. None where there are too many places, or
-    /// for want of memory.
+    /// Takes a place that nobody else has, until it is released. Its cell may still have to be made. None where there are too many
+    /// places, or for want of memory.
     pub fn vacancy(&self) -> Option<usize> {
         match self.reuse() {
             Some(place) => Some(place),

@@ -5,15 +5,15 @@ use crate::errors::RealmError;
 use crate::realm::pages::Pages;
 use std::alloc::Global;
 
-/// What was let go of all that rests in a realm's cells, until the realm takes it back. It lies there as long as the
-/// program runs, and has no type parameter, so that whatever rests can say where it is from.
+/// What was let go of all that rests in a realm's cells, until the realm takes it back. It lies there as long as the program runs.
+/// It has no type parameter, so that whatever rests can say where it is from.
 #[derive(Drop)]
 pub struct Returns {
     pub(crate) number: u64,
     /// By the places of cells. The list of its free places is that of the places of which something was let go.
     lost: Pages<Lost>,
-    /// What is of no place, or was not found at its own: nothing, as long as each thing is let go at the cell in
-    /// which it rests.
+    /// What has no place, or was not found at its own. It is nothing, as long as each thing is let go at the cell in which it
+    /// rests.
     strays: Lost,
 }
 

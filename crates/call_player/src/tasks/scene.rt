@@ -31,7 +31,7 @@ pub struct Board {
     pub text: String,
     pub list: VecDeque<Entry>,
     pub records: Vec<Record>,
-    /// Whether memory was refused where no caller could be told.
+    /// Whether memory was refused where no caller could get the error.
     pub is_short: bool,
 }
 

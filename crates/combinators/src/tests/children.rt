@@ -10,7 +10,7 @@ pub struct Seen {
     drops: AtomicU64,
 }
 
-/// Is ready at its poll of this number, from 0 on, with the number.
+/// A future that is ready at its poll of this number, from 0 on, with the number.
 pub struct Child<'a> {
     seen: &'a Seen,
     wait: u64,
@@ -23,7 +23,7 @@ pub struct Fallible<'a> {
     fails: bool,
 }
 
-/// What is awaited: when each child is ready; at which poll all is over, and which child was polled last at that.
+/// What the test expects: when each child is ready; at which poll all is over, and which child was polled last at that.
 #[derive(Clone, Copy)]
 pub struct Plan<'a> {
     pub waits: &'a [u64],
@@ -39,7 +39,7 @@ impl Seen {
         }
     }
 
-    /// Whether it was polled and dropped so often.
+    /// Whether it was polled and dropped this often.
     pub fn is(&self, polls: u64, drops: u64) -> bool {
         (self.polls.load(SeqCst) == polls) & (self.drops.load(SeqCst) == drops)
     }
@@ -116,8 +116,8 @@ fn is_as_planned(plan: &Plan<'_>, seen: &[Seen], poll: u64) -> bool {
     is_well
 }
 
-/// Polls so often, and then drops. Whether it was ready when it is due, with this, and pending before and after; and whether each
-/// child was polled in its time and never after its end, and dropped once, in time.
+/// Polls this often, and then drops. Answers whether it was ready when it had to be, with this, and pending before and after. Also
+/// whether each child was polled in its time and never after its end, and dropped once, in time.
 pub fn goes<F, T>(future: F, plan: &Plan<'_>, seen: &[Seen], polls: u64, want: &T) -> bool
 where
     F: Future<Nobody, Output = T> + Drop,

@@ -220,7 +220,8 @@ impl<'a> Future<Nobody> for Race<'a> {
     }
 }
 
-/// The first of three is the one that is ready first; of several the one that stands first, and those behind it aren't polled.
+/// The first of three is the one that is ready first. Of several it is the one that stands first, and those after it aren't
+/// polled.
 fn races(waits: [u64; 3], polls: u64) -> bool {
     let seen = seen3();
     let race = Race::new(waits, &seen);

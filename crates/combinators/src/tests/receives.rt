@@ -1,5 +1,5 @@
-//! A receive that has only so much time, beside another receiver of its channel: in each order of five calls, beside a model. It gives
-//! up, its time is up, or it is dropped before it is called, between that and its poll, and after.
+//! A receive with a time limit, beside another receiver of its channel: in each order of five calls, beside a model. It gives up,
+//! its time is up, or it is dropped before it is called, between that and its poll, and after.
 use crate::tests::bell::Bell;
 use crate::{RecvTimeout, RecvTimeoutError, recv_timeout};
 use async_task::{Future, Nobody, Poll};
@@ -49,17 +49,17 @@ fn the_example(rt: HostRuntime) -> io::Result<()> {
 /// A call of somebody.
 #[derive(Clone, Copy, PartialEq, Eq)]
 enum Act {
-    /// Who has only so much time polls.
+    /// The receiver with a time limit polls.
     Poll,
     GiveUp,
-    /// The other polls.
+    /// The other receiver polls.
     Other,
     Send,
     /// Time passes.
     Turn,
 }
 
-/// Where one who receives is.
+/// Where a receiver is.
 #[derive(Clone, Copy, PartialEq, Eq)]
 enum At {
     Out,
@@ -76,8 +76,8 @@ enum End {
     Other,
 }
 
-/// What the model says: where both are, who came first, how often each was called, how many messages there are, and whether the time
-/// is up.
+/// What the model says: where both are, who came first, how often each was called, how many messages there are, and whether the
+/// time is up.
 #[derive(Clone, Copy)]
 struct Model {
     limited: At,
@@ -89,7 +89,7 @@ struct Model {
     is_up: bool,
 }
 
-/// Who has only so much time, and another.
+/// The receiver with a time limit, and another.
 #[derive(Drop)]
 struct Desk<R: Wait + Copy + Drop> {
     timer: Timer<Bell, R>,
@@ -112,7 +112,7 @@ impl Model {
         }
     }
 
-    /// The first who waits is called.
+    /// The first waiter is called.
     fn call(&mut self) {
         let other_is_next = (self.other == At::Waits)
             & (self.other_was_first | (self.limited != At::Waits));
@@ -125,7 +125,7 @@ impl Model {
         }
     }
 
-    /// Who has only so much time leaves: a call that came for it goes on.
+    /// The receiver with a time limit leaves: a notification that came for it goes on.
     fn limited_leaves(&mut self) {
         let was_called = self.limited == At::Called;
         self.limited = At::Out;
@@ -168,7 +168,7 @@ impl Model {
         End::Waits
     }
 
-    /// How a call ends; of one that isn't a poll nothing is said.
+    /// How a call ends. Of a call that isn't a poll nothing is said.
     fn acts(&mut self, act: Act) -> End {
         match act {
             Act::Poll => self.limited_polls(),
@@ -230,15 +230,15 @@ impl<R: Wait + Clock + Copy + Drop> Desk<R> {
         End::Other
     }
 
-    /// Whether each was called as often as the model says. Who has only so much time is called once more where its time came while it
-    /// slept.
+    /// Whether each was called as often as the model says. The receiver with a time limit is called once more where its time came
+    /// while it slept.
     fn is_as_it_says(&self, model: &Model, slept: u64) -> bool {
         (self.other_bell.calls() == model.other_calls)
             & (self.bell.calls() == model.limited_calls.saturating_add(slept))
     }
 }
 
-/// So many calls, in the order of these digits, and then the drop of who has only so much time.
+/// This many calls, in the order of these digits, and then the drop of the receiver with a time limit.
 fn plays<R: Wait + Clock + Copy + Drop>(
     rt: R,
     alloc: Global,

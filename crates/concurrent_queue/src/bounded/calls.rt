@@ -1,4 +1,4 @@
-//! The other calls on a ring: the close, and what a look at its words tells.
+//! The other calls on a ring: the close, and what a look at its words finds.
 ghost use Rattle.std.specs.Prelude.{◌≡◌, ◌≤◌, true, false, IfSome, MatchResult};
 ghost use Rattle.concurrent_queue.specs.Answered.{says};
 ghost use Rattle.concurrent_queue.specs.BoundedSeat.{IsFreeSeatOf, StaysFree, close_at, len_at, is_empty_at, is_full_at, is_closed_at};
@@ -11,7 +11,7 @@ use crate::bounded::moves::{self, Pass};
 use queue_steps::steps::bounded::{self as steps, Shape};
 use std::sync::Wait;
 
-/// Closes the ring, and says whether this call did so.
+/// Closes the ring, and answers whether this call did so.
 pub fn close<T>(ring: &Bounded<T>, pass: &mut Pass<T>) -> bool
     requires { IsFreeSeatOf ring.now.board.shared ring.now.shape pass.old }
     ensures same { StaysFree pass.old pass.new }
@@ -59,7 +59,7 @@ pub fn len<T, R: Wait>(rt: &R, ring: &Bounded<T>, pass: &mut Pass<T>) -> usize
     unreachable!()
 }
 
-/// The same, or `None` where the tail moved at each of so many tries. It waits for nobody.
+/// The same, or `None` where the tail moved at each of this many tries. It waits for nobody.
 pub(crate) fn try_len<T>(ring: &Bounded<T>, pass: &mut Pass<T>, tries: u32) -> Option<usize>
     requires { IsFreeSeatOf ring.now.board.shared ring.now.shape pass.old }
     ensures same { StaysFree pass.old pass.new }

@@ -86,7 +86,7 @@ pub fn look_at_head<T>(board: &Board<T>, pass: &mut Pass<T>) -> u64
     board.load::<plays::Look>(pass, HEAD)
 }
 
-/// The same, and it is not too far behind the tail that was seen.
+/// Loads the head for its number alone. It is not too far behind the tail that was seen.
 #[inline(always)]
 pub fn look_behind<T>(board: &Board<T>, pass: &mut Pass<T>) -> u64
     requires { IsSeatOf board.now pass.old }
@@ -163,7 +163,7 @@ pub fn displace<T>(board: &Board<T>, pass: &mut Pass<T>, old: u64, new: u64) -> 
     board.compare_exchange::<plays::Displace>(pass, HEAD, old, new)
 }
 
-/// The append that a displacement owes. It adds to the tail, and so keeps the mark of a close that came in between.
+/// The append that follows a displacement. It adds to the tail, and so keeps the mark of a close that came in between.
 pub fn advance<T>(board: &Board<T>, pass: &mut Pass<T>, old: u64, new: u64) -> u64
     requires seat { IsSeatOf board.now pass.old }
     requires seen { (pass.old.me.0.stage ≡ Forcing) × (old ≡ pass.old.me.0.word) }

@@ -1,4 +1,4 @@
-//! What each kind of step on a ring tells. These types are for the proofs alone.
+//! What each kind of step on a ring shows. These types are for the proofs alone.
 ghost use Rattle.std.specs.Prelude.{[]};
 ghost use Rattle.concurrent_queue.specs.BoundedRule.{saw_tail, saw_head, looked, looked_behind, looked_at_tail, stamped, appended, took, displaced};
 ghost use Rattle.concurrent_queue.specs.BoundedRule.{advanced, spent, closed, gave};
@@ -76,14 +76,14 @@ impl<T> Play<Option<T>, Doing> for Take {
     ghost then = { λ s m r m'. took s.first m r m' };
 }
 
-/// A take that owes an append.
+/// A take that an append has to follow.
 pub struct Displace;
 
 impl<T> Play<Option<T>, Doing> for Displace {
     ghost then = { λ s m r m'. displaced s.first m r m' };
 }
 
-/// The append that a displacement owes.
+/// The append that follows a displacement.
 pub struct Advance;
 
 impl<T> Play<Option<T>, Doing> for Advance {

@@ -56,7 +56,7 @@ fn at_tail<T>(ring: &Bounded<T>, pass: &mut Pass<T>, head: u64) -> PopTurn
     steps::pop_at_tail(ring.shape, head, found)
 }
 
-// The take with its read. Or else the turn that follows.
+// The take with its read. Otherwise the turn that follows.
 #[inline(always)]
 fn take<T>(ring: &Bounded<T>, pass: &mut Pass<T>, head: u64) -> Result<T, PopTurn>
     requires seat { IsFreeSeatOf ring.now.board.shared ring.now.shape pass.old }
@@ -111,8 +111,8 @@ fn pop_from<T, R: Wait>(
     unreachable!()
 }
 
-// The first three turns of a pop, which are all on a ring that holds an item where no other call comes between. Or else
-// where it stands then.
+// The first three turns of a pop. They are all its turns on a ring that holds an item, where no other call comes between.
+// Otherwise it answers where the pop stands then.
 #[inline(always)]
 fn pop_at_once<T>(ring: &Bounded<T>, pass: &mut Pass<T>) -> Result<T, PopTurn>
     requires { IsFreeSeatOf ring.now.board.shared ring.now.shape pass.old }
@@ -131,7 +131,7 @@ fn pop_at_once<T>(ring: &Bounded<T>, pass: &mut Pass<T>) -> Result<T, PopTurn>
     take(ring, pass, head)
 }
 
-/// Takes out the oldest item. It waits for one on its way in.
+/// Takes out the oldest item. It waits for one that is being appended.
 #[inline(always)]
 pub fn pop<T, R: Wait>(rt: &R, ring: &Bounded<T>, pass: &mut Pass<T>) -> Result<T, PopError>
     requires { IsFreeSeatOf ring.now.board.shared ring.now.shape pass.old }

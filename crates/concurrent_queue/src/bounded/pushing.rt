@@ -1,6 +1,5 @@
-//! `push` and `force_push` on a ring. Until they have a place they take the same turns, but for what they do on a full ring.
-//! The turns are those of `queue_steps::steps`. A push makes the first ones before the loop, where
-//! a compiler sees which comes next.
+//! `push` and `force_push` on a ring. Until they have a place they take the same turns, except on a full ring. The turns are those
+//! of `queue_steps::steps`. A push makes the first ones before the loop, where a compiler sees which comes next.
 ghost use Rattle.std.specs.Prelude.{◌≡◌, ◌≢◌, ℕ, ◌+◌, ◌*◌, Option, Some, None, [], ◌∷◌, ◌++◌, true, if◌then◌else◌, MatchResult, IsErr};
 ghost use Rattle.concurrent_queue.specs.Answered.{PushSays, ForcePushSays};
 ghost use Rattle.concurrent_queue.specs.BoundedSeat.{IsFreeSeatOf, StaysFree, push_at, force_push_at};
@@ -60,7 +59,7 @@ fn at_spend<T>(ring: &Bounded<T>, pass: &mut Pass<T>, tail: u64) -> PushTurn
     steps::push_at_spend(ring.shape, tail, found)
 }
 
-// The append with its write. Or else the turn that follows, and the value.
+// The append with its write. Otherwise the turn that follows, and the value.
 #[inline(always)]
 fn append<T>(
     ring: &Bounded<T>,
@@ -101,7 +100,7 @@ fn is_full_for<T>(ring: &Bounded<T>, pass: &mut Pass<T>, tail: u64) -> bool
     steps::is_full_at_head(ring.shape, tail, found)
 }
 
-// The displacement with its append and its swap. Or else the value, since the head was another.
+// The displacement with its append and its swap. Otherwise the value, since the head was another.
 fn displace<T>(ring: &Bounded<T>, pass: &mut Pass<T>, tail: u64, value: T) -> Result<T, T>
     requires seat { IsFreeSeatOf ring.now.board.shared ring.now.shape pass.old }
     requires stands { DisplaceStands ring.now.shape tail pass.old.me.0 }
@@ -128,7 +127,7 @@ fn displace<T>(ring: &Bounded<T>, pass: &mut Pass<T>, tail: u64, value: T) -> Re
     }
 }
 
-// The look at the head of a forced push, and on a full ring the displacement. Or else where it stands then, and the value.
+// The look at the head of a forced push, and on a full ring the displacement. Otherwise where it stands then, and the value.
 fn at_head<T>(
     ring: &Bounded<T>,
     pass: &mut Pass<T>,
@@ -194,8 +193,8 @@ fn push_from<T, R: Wait>(
     unreachable!()
 }
 
-// The first three turns of a push, which are all on a ring with a free place where no other call comes between. Or else
-// where it stands then, and the value.
+// The first three turns of a push. They are all its turns on a ring with a free place, where no other call comes between.
+// Otherwise it answers where the push stands then, and the value.
 #[inline(always)]
 fn push_at_once<T>(ring: &Bounded<T>, pass: &mut Pass<T>, value: T) -> Result<(), (PushTurn, T)>
     requires { IsFreeSeatOf ring.now.board.shared ring.now.shape pass.old }
@@ -214,7 +213,7 @@ fn push_at_once<T>(ring: &Bounded<T>, pass: &mut Pass<T>, value: T) -> Result<()
     append(ring, pass, tail, value)
 }
 
-/// Appends a value, or gives it back.
+/// Appends a value. A refused value comes back.
 #[inline(always)]
 pub fn push<T, R: Wait>(
     rt: &R,
@@ -233,7 +232,7 @@ pub fn push<T, R: Wait>(
     }
 }
 
-/// Appends a value, and gives out the oldest item that it displaced on a full ring. Or it gives the value back.
+/// Appends a value, and answers the oldest item where it displaced that on a full ring. A refused value comes back.
 pub fn force_push<T, R: Wait>(
     rt: &R,
     ring: &Bounded<T>,

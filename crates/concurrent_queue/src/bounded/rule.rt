@@ -16,15 +16,15 @@ pub enum Stage {
     SawStamp,
     Writing,
     Reading,
-    /// It took the oldest item of a full ring, and owes an append.
+    /// It took the oldest item of a full ring, and has to append.
     Forcing,
     /// It made that append.
     Swapping,
 }
 
-/// What a seat knows: the count at which it stands, the place of that count, the tail or head and the stamp that it
-/// saw, the ring's mark, whether a step of this or an earlier call of it found the ring closed or closed it, and the words
-/// that its steps in this call found, oldest first. No value of it is made.
+/// What a seat knows. It knows the count at which it stands, the place of that count, the tail or head and the stamp that it saw,
+/// and the ring's mark. It knows whether a step of this or an earlier call of it found the ring closed or closed it. It also knows
+/// the words that its steps in this call found, oldest first. No value of it is made.
 pub struct Doing {
     pub stage: Stage,
     pub at: u64,

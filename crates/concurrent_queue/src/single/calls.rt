@@ -1,4 +1,4 @@
-//! The other calls on a single slot: the close, and what a look at its word tells.
+//! The other calls on a single slot: the close, and what a look at its word finds.
 ghost use Rattle.std.specs.Prelude.{◌≡◌, ◌≤◌, true, false};
 ghost use Rattle.queue_steps.specs.Reply.{Length};
 ghost use Rattle.queue_steps.specs.SingleTurns.{End};
@@ -9,7 +9,7 @@ use crate::single::Single;
 use crate::single::moves::{self, Pass};
 use queue_steps::steps::single as steps;
 
-/// Closes the slot, and says whether this call did so.
+/// Closes the slot, and answers whether this call did so.
 pub fn close<T>(slot: &Single<T>, pass: &mut Pass<T>) -> bool
     requires { IsSeatOf slot.now.board.shared pass.old }
     ensures same { IsSameSeat pass.old pass.new }
@@ -20,7 +20,7 @@ pub fn close<T>(slot: &Single<T>, pass: &mut Pass<T>) -> bool
     steps::close(moves::close(&slot.board.shared, pass))
 }
 
-/// 1 where an item is there or on its way in, else 0.
+/// 1 where an item is there or is being appended, else 0.
 pub fn len<T>(slot: &Single<T>, pass: &mut Pass<T>) -> usize
     requires { IsSeatOf slot.now.board.shared pass.old }
     ensures same { IsSameSeat pass.old pass.new }
@@ -30,7 +30,7 @@ pub fn len<T>(slot: &Single<T>, pass: &mut Pass<T>) -> usize
     steps::len(moves::begin(&slot.board.shared, pass)) as usize
 }
 
-/// Whether no item was there, or on its way in, when the word was loaded.
+/// Whether no item was there, or being appended, when the word was loaded.
 pub fn is_empty<T>(slot: &Single<T>, pass: &mut Pass<T>) -> bool
     requires { IsSeatOf slot.now.board.shared pass.old }
     ensures same { IsSameSeat pass.old pass.new }
@@ -39,7 +39,7 @@ pub fn is_empty<T>(slot: &Single<T>, pass: &mut Pass<T>) -> bool
     steps::is_empty(moves::begin(&slot.board.shared, pass))
 }
 
-/// Whether an item was there, or on its way in, when the word was loaded.
+/// Whether an item was there, or being appended, when the word was loaded.
 pub fn is_full<T>(slot: &Single<T>, pass: &mut Pass<T>) -> bool
     requires { IsSeatOf slot.now.board.shared pass.old }
     ensures same { IsSameSeat pass.old pass.new }

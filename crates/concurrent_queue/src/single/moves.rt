@@ -32,8 +32,8 @@ pub(crate) fn look<T>(board: &Board<T>, pass: &mut Pass<T>) -> u64
     board.load::<plays::Look>(pass, 0)
 }
 
-// Exchanges the word, swaps the value in and takes off the lock. It answers what was there, and the word that it found
-// at the end. Or else it gives the value back, with the word.
+// Exchanges the word, swaps the value in and takes off the lock. It answers what was there, and the word that it found at the end.
+// Otherwise it gives the value back, with the word.
 #[inline(always)]
 pub(crate) fn write<T>(
     board: &Board<T>,
@@ -58,8 +58,8 @@ pub(crate) fn write<T>(
     Ok((held, last))
 }
 
-// Exchanges the word, takes the item and takes off the lock. It answers the word that it found at the end too, and
-// else the word that it found.
+// Exchanges the word, takes the item and takes off the lock. It also answers the word that it found at the end. Otherwise it
+// answers the word that it found.
 #[inline(always)]
 pub(crate) fn read<T>(
     board: &Board<T>,

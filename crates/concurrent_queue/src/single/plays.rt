@@ -1,4 +1,4 @@
-//! What each kind of step on a single slot tells. These types are for the proofs alone.
+//! What each kind of step on a single slot shows. These types are for the proofs alone.
 ghost use Rattle.concurrent_queue.specs.SingleRule.{began, closed, looked, claimed, fetched, returned};
 
 use crate::single::rule::Doing;

@@ -47,7 +47,8 @@ fn pop_from<T, R: Wait>(
     unreachable!()
 }
 
-// The first turns of a pop, which are all on a full slot where no other call comes between. Or else where it stands then.
+// The first turns of a pop. They are all its turns on a full slot, where no other call comes between. Otherwise it answers where
+// the pop stands then.
 #[inline(always)]
 fn pop_at_once<T>(slot: &Single<T>, pass: &mut Pass<T>) -> Result<T, PopTurn>
     requires { IsSeatOf slot.now.board.shared pass.old }
@@ -65,7 +66,7 @@ fn pop_at_once<T>(slot: &Single<T>, pass: &mut Pass<T>) -> Result<T, PopTurn>
     }
 }
 
-/// Takes out the item. It waits for one on its way in.
+/// Takes out the item. It waits for one that is being appended.
 #[inline(always)]
 pub fn pop<T, R: Wait>(rt: &R, slot: &Single<T>, pass: &mut Pass<T>) -> Result<T, PopError>
     requires { IsSeatOf slot.now.board.shared pass.old }

@@ -62,8 +62,8 @@ fn push_from<T, R: Wait>(
     unreachable!()
 }
 
-// The first turns of a push, which are all on an empty slot where no other call comes between. Or else where it stands
-// then, and the value.
+// The first turns of a push. They are all its turns on an empty slot, where no other call comes between. Otherwise it answers
+// where the push stands then, and the value.
 #[inline(always)]
 fn push_at_once<T>(slot: &Single<T>, pass: &mut Pass<T>, value: T) -> Result<(), (PushTurn, T)>
     requires { IsSeatOf slot.now.board.shared pass.old }
@@ -84,7 +84,7 @@ fn push_at_once<T>(slot: &Single<T>, pass: &mut Pass<T>, value: T) -> Result<(),
     }
 }
 
-/// Appends a value, or gives it back. It waits while a pop is reading.
+/// Appends a value. A refused value comes back. It waits while a pop is reading.
 #[inline(always)]
 pub fn push<T, R: Wait>(
     rt: &R,
@@ -103,7 +103,7 @@ pub fn push<T, R: Wait>(
     }
 }
 
-/// Appends a value, and gives out the item that it displaced on a full slot. Or it gives the value back.
+/// Appends a value, and answers the item where it displaced one on a full slot. A refused value comes back.
 pub fn force_push<T, R: Wait>(
     rt: &R,
     slot: &Single<T>,

@@ -13,8 +13,8 @@ pub enum Stage {
     Reading,
 }
 
-/// What a seat knows: whether it has the slot, whether a step of this or an earlier call of it found the slot closed or
-/// closed it, and the words that its steps in this call found, oldest first. No value of it is made.
+/// What a seat knows. It knows whether it has the slot, and whether a step of this or an earlier call of it found the slot closed
+/// or closed it. It also knows the words that its steps in this call found, oldest first. No value of it is made.
 pub struct Doing {
     pub stage: Stage,
     pub closed: bool,

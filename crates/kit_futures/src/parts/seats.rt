@@ -1,4 +1,4 @@
-//! The seats of a bridge: what stands for each future that is awaited.
+//! The seats of a bridge: one for each future that is awaited.
 ghost use Rattle.std.specs.HashMap.{get};
 ghost use Rattle.std.specs.Prelude.{◌≡◌, ℕ, IfErr, IfOk, None, OnErr, OnOk, Some, false, nat_eq, true};
 ghost use Rattle.kit_futures.specs.Turns.{number_of};
@@ -11,18 +11,18 @@ use std::alloc::Global;
 use std::collections::HashMap;
 use std::mem;
 
-/// What stands for one future.
+/// The state of one future.
 #[derive(Drop)]
 pub enum Seat<K> {
-    /// It waits, with the waker that is to be called once it is woken, where one was left.
+    /// It waits, with the waker that has to be called once it is woken, where one was left.
     Waits(Option<K>),
-    /// It was woken, and is to be polled.
+    /// It was woken, and has to be polled.
     Woken(Turn),
 }
 
 /// The seats of a bridge, each under the number of its future. Each turn that stands there is of that number. Each call is one
-/// section of whoever locks it; `enter` alone takes memory. None calls or drops a waker: what comes out is to be called or dropped
-/// once the lock is given back.
+/// section of whoever locks it; only `enter` takes memory. No call calls or drops a waker: the caller calls or drops each waker
+/// that comes out, once it has released the lock.
 #[derive(Drop)]
 pub struct Seats<K> {
     is_closed: bool,
@@ -30,19 +30,19 @@ pub struct Seats<K> {
     ghost seated: { (number : ℕ) (turn : Turn) → get nat_eq seats number ≡ Some (Woken turn) → number_of turn ≡ number },
 }
 
-/// The number of a future, as the future has it. It has no drop: who has it leaves.
+/// The number of a future, as the future has it. It has no drop: its owner leaves.
 #[must_use]
 pub struct Ticket {
     number: usize,
 }
 
-/// That the seat of this number was left.
+/// Proof that the seat of this number was left.
 #[derive(Drop)]
 pub struct Left {
     number: usize,
 }
 
-/// Why one may not enter.
+/// Why a future may not enter.
 #[derive(Debug, PartialEq, Eq, Drop)]
 pub enum Refused {
     NoMemory,
@@ -50,7 +50,7 @@ pub enum Refused {
     Closed,
 }
 
-/// The call that is owed to who waits. It has no drop: it ends in `call`.
+/// The waiter that has to be woken, if there is one. It has no drop: it ends in `call`.
 #[must_use]
 pub struct Owed<K> {
     waker: Option<K>,
@@ -59,38 +59,38 @@ pub struct Owed<K> {
 /// What a wake found.
 #[must_use]
 pub enum Woken<K> {
-    /// The future waited, and its turn stands at its seat. The call that is owed.
+    /// The future waited, and its turn stands at its seat. The waiter that has to be woken.
     Waited(Owed<K>),
-    /// The future is gone, or has a turn already. This one, to be dropped once the lock is given back.
+    /// The future is gone, or has a turn already. This turn, to be dropped once the lock is released.
     Gone(Turn),
 }
 
-/// What who polls a future finds at its seat.
+/// What a poll of a future finds at its seat.
 #[must_use]
 pub enum Taken {
     /// The future was woken, and this is its turn.
     Turn(Turn),
-    /// It wasn't.
+    /// It wasn't woken.
     Waits,
-    /// Nobody hears of it any more.
+    /// The bridge is closed: no wake of the future arrives any more.
     Closed(BridgeClosed),
 }
 
-/// What one who wants to wait found.
+/// What a waiter found.
 #[must_use]
 pub enum Waited<K> {
-    /// The waker was left. The one that was left before, to be dropped once the lock is given back.
+    /// The waker was left. The one that was left before, to be dropped once the lock is released.
     Left(Option<K>),
-    /// The future was woken meanwhile. The call of the waker that wasn't left is owed.
+    /// The future was woken meanwhile. The waker that wasn't left has to be called.
     Woken(Owed<K>),
-    /// Nobody hears of the future any more. The waker that wasn't left.
+    /// The bridge is closed: no wake of the future arrives any more. The waker that wasn't left.
     Closed(BridgeClosed, K),
 }
 
-/// The bridge is closed: nobody hears of the future any more.
+/// Proof that the bridge is closed: no wake of the future arrives any more.
 #[derive(Debug, Drop)]
 pub struct BridgeClosed {
-    // None is made elsewhere.
+    // Only this module makes one.
     own: (),
 }
 
@@ -104,7 +104,7 @@ impl Ticket {
 }
 
 impl<K: Wake> Owed<K> {
-    /// Calls who waits. With no lock held.
+    /// Wakes the waiter. No lock is held.
     pub fn call(self) {
         let Owed { waker } = self;
         if let Some(waker) = waker {
@@ -114,7 +114,7 @@ impl<K: Wake> Owed<K> {
 }
 
 impl<K: Wake> Seat<K> {
-    /// Calls who waits here. With no lock held.
+    /// Wakes the waiter of this seat. No lock is held.
     pub fn call(&self) {
         if let Seat::Waits(Some(waker)) = self {
             waker.wake_by_ref();
@@ -126,7 +126,7 @@ impl<K: Drop> Seats<K> {
     ghost use Rattle.std.specs.HashMap.{IsEmpty};
     ghost use Rattle.kit_futures.specs.Seats.{HasTaken, HasWaited, HasWoken, IsRefused, OnlyAt, Same};
 
-    /// None is there. Takes no memory.
+    /// Makes an empty table of seats. Takes no memory.
     pub fn new(alloc: Global) -> Self
         ensures open { result.is_closed ≡ false }
         ensures none { IsEmpty result.seats }
@@ -137,8 +137,8 @@ impl<K: Drop> Seats<K> {
         }
     }
 
-    /// A seat for the future of this number, where it waits. What stood there before comes out, to be dropped once the lock is given
-    /// back: nothing, as the library gives a number again only once its task was ended.
+    /// Makes a seat for the future of this number, where it waits. What stood there before comes out, to be dropped once the lock
+    /// is released. It is nothing, as the library gives a number again only once its task was ended.
     pub fn enter(&mut self, number: usize) -> Result<(Ticket, Option<Seat<K>>), Refused>
         ensures number { IfOk result (λ entered. entered.0.number ≡ number) }
         ensures before { IfOk result (λ entered. entered.1 ≡ get nat_eq self.old.seats number) }
@@ -156,7 +156,7 @@ impl<K: Drop> Seats<K> {
         }
     }
 
-    /// The future of this turn was woken: where it waits, its turn stands at its seat.
+    /// The future of this turn was woken: where it waits, its turn is put at its seat.
     pub fn wake(&mut self, turn: Turn) -> Woken<K>
         ensures { HasWoken turn self.old self.new result }
     {
@@ -210,7 +210,7 @@ impl<K: Drop> Seats<K> {
         }
     }
 
-    /// The future leaves. What stood at its seat comes out, unless the bridge was closed before.
+    /// Removes the future. What stood at its seat comes out, unless the bridge was closed before.
     pub fn leave(&mut self, ticket: Ticket) -> (Left, Option<Seat<K>>)
         ensures left { result.0.number ≡ ticket.number }
         ensures out { result.1 ≡ get nat_eq self.old.seats ticket.number }
@@ -220,7 +220,7 @@ impl<K: Drop> Seats<K> {
         (Left { number }, self.seats.remove(&number))
     }
 
-    /// None may enter from now on. What stands at the seats comes out.
+    /// Closes the seats: no future may enter from now on. What stands at the seats comes out.
     pub fn close(&mut self, alloc: Global) -> HashMap<usize, Seat<K>>
         ensures out { result ≡ self.old.seats }
         ensures closed { self.new.is_closed ≡ true }

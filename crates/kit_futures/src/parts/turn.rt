@@ -6,8 +6,8 @@ use crate::parts::carried::Carried;
 use crate::parts::seats::Left;
 use futures::task::Context;
 
-/// The right to poll once the future of this number. It is made where the library's queue says that the future was woken. Dropped, it
-/// ends the future's task there.
+/// The right to poll the future of this number once. It is made where the library's queue says that the future was woken. Dropped,
+/// it ends the future's task there.
 #[derive(Drop)]
 pub struct Turn {
     number: usize,
@@ -15,10 +15,10 @@ pub struct Turn {
     ghost own: { number ≡ carried.cx.turn.task },
 }
 
-/// That the poll of a future that waits was ended, so that its next wake gives a turn.
+/// Proof that the poll of a future that waits was ended, so that its next wake gives a turn.
 #[derive(Drop)]
 pub struct Parked {
-    // None is made elsewhere.
+    // Only this module makes one.
     own: (),
 }
 
@@ -48,7 +48,7 @@ impl Turn {
         self.number
     }
 
-    /// What the poll is made with. Who has it ends it.
+    /// The context that the poll is made with. Its owner ends it.
     pub(crate) fn into_context(self) -> Context<'static> {
         let Turn { number: _, carried } = self;
         carried.into_context()
@@ -72,7 +72,7 @@ impl Ended {
         Ended { number, cx }
     }
 
-    /// Ends its task, whose number may be another's from now on: so its seat was left before.
+    /// Ends its task. Another task may have its number from now on, so its seat was left before.
     pub fn end(self, left: Left)
         requires { left.number ≡ self.number }
     {

@@ -9,7 +9,7 @@ use async_task::{Future, NoMemory, Poll, TaskError, Wake};
 use std::fmt;
 use std::sync::Wait;
 
-/// The handle of a task. It is polled for the output. Its drop cancels the task.
+/// The handle of a task, which is polled for the output. Its drop cancels the task.
 #[must_use]
 pub struct LocalHandle<T: Drop, W: Wake + Drop, R: Wait + Copy + Drop> {
     held: Held<T, W, R>,
@@ -48,7 +48,7 @@ impl<T: Drop, W: Wake + Drop, R: Wait + Copy + Drop> LocalHandle<T, W, R> {
         held.leave(&mut Unlocked::at_entry());
     }
 
-    /// What closes the task when it is first polled, and then has the output where there was one.
+    /// Makes a future that closes the task when it is first polled, and then has the output where there was one.
     pub fn cancel(self) -> LocalCancel<T, W, R>
         ensures held { result.held ≡ self.held }
         ensures open { result.is_cancelled ≡ false }
@@ -60,7 +60,7 @@ impl<T: Drop, W: Wake + Drop, R: Wait + Copy + Drop> LocalHandle<T, W, R> {
         }
     }
 
-    /// The same handle, which has None for an output where the task is closed.
+    /// Makes the same handle, which has None for an output where the task is closed.
     pub fn fallible(self) -> LocalFallible<T, W, R>
         ensures { result.held ≡ self.held }
     {
@@ -81,7 +81,7 @@ impl<T: Drop, W: Wake + Drop, R: Wait + Copy + Drop> LocalFallible<T, W, R> {
         held.leave(&mut Unlocked::at_entry());
     }
 
-    /// What closes the task when it is first polled, and then has the output where there was one.
+    /// Makes a future that closes the task when it is first polled, and then has the output where there was one.
     pub fn cancel(self) -> LocalCancel<T, W, R>
         ensures held { result.held ≡ self.held }
         ensures open { result.is_cancelled ≡ false }
@@ -125,7 +125,7 @@ impl<T: Drop, W: Wake + Drop, R: Wait + Copy + Drop> Future<LocalExWaker<W, R>>
     for LocalCancel<T, W, R> {
     type Output = Result<Option<T>, NoMemory>;
 
-    /// Refused too, it has cancelled.
+    /// A poll that is refused has cancelled too.
     fn poll(&mut self, waker: &LocalExWaker<W, R>) -> Poll<Result<Option<T>, NoMemory>>
         ensures held { self.new.held ≡ self.old.held }
         ensures cancelled { self.new.is_cancelled ≡ true }
@@ -139,7 +139,7 @@ impl<T: Drop, W: Wake + Drop, R: Wait + Copy + Drop> Future<LocalExWaker<W, R>>
     }
 }
 
-/// What a handle answers that has None where there is no output.
+/// Converts an answer: None where there is no output.
 fn found<T>(found: Found<T>) -> Poll<Result<Option<T>, NoMemory>> {
     match found {
         Found::Output(output) => Poll::Ready(Ok(Some(output.into_given()))),

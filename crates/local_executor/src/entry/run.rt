@@ -10,16 +10,16 @@ use crate::starts::Starts;
 use async_task::{Future, Poll, Wake};
 use std::sync::Wait;
 
-/// Runs the executor's futures until a future of its own is ready: a future with that one's output. Its drop gives back to the
-/// executor what it had taken to itself.
+/// Runs the executor's futures until a future of its own is ready: a future with that one's output. Its drop gives the tasks in
+/// its own queue back to the executor.
 ///
 /// It is made by `LocalExecutor::run` or `StaticLocalExecutor::run`.
 #[must_use]
 pub struct LocalRun<'a, F: Drop, T: Drop, W: Wake + Drop, R: Wait + Copy + Drop, G: Drop> {
     pub(crate) executor: &'a Body<F, T, W, R>,
-    /// The future that it runs for, until that is ready.
+    /// The future that it runs for, until that future is ready.
     pub(crate) future: Option<Foreign<G>>,
-    /// It is out only while the run is polled, and gone once that was ready.
+    /// The run, which is out only while it is polled, and gone once its future was ready.
     pub(crate) running: Option<Running>,
     pub(crate) starts: Starts,
 }
@@ -32,8 +32,8 @@ where
 {
     type Output = Result<G::Output, RunError>;
 
-    /// Polls its future, and is ready where that is. Else it runs tasks, until it finds none or ran 200 since it last let others
-    /// go first.
+    /// Polls its future, and is ready where that future is. Else it runs tasks, until it finds none or has run 200 since it last
+    /// let others go first.
     fn poll(&mut self, waker: &LocalExWaker<W, R>) -> Poll<Result<G::Output, RunError>>
         ensures { IsRunAnswer self.old.future self.new.future result }
     {

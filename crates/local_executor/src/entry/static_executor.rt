@@ -1,4 +1,4 @@
-//! The executor of one thread that never ends, as a user has it.
+//! The executor of one thread that never ends, for users.
 ghost use Rattle.std.specs.Prelude.{◌≡◌, ◌<◌, Some, IsSome, IfOk, IfErr};
 ghost use Rattle.solo.specs.Solo.{refused};
 ghost use Rattle.local_executor.specs.Starts.{drawn, seeded};
@@ -26,7 +26,7 @@ impl<F, T: Drop, W: Wake + Drop, R: Wait + Copy + Drop> StaticLocalExecutor<F, T
 where
     F: Future<LocalExWaker<W, R>, Output = T> + Drop,
 {
-    /// An executor with places for so many futures, as `LocalExecutor::new` makes one.
+    /// Makes an executor with places for this many futures, as `LocalExecutor::new` does.
     pub fn new(rt: R, alloc: Global, limit: usize) -> Result<Self, LocalError>
     where
         R: RandomSource,
@@ -40,8 +40,8 @@ where
     }
 
     /// Hands the executor a plain future. Its task is queued, and the handle is answered: a future with the output, whose drop
-    /// cancels the task. `Full` where as many accepted futures as the limit are not dropped yet, and only then want of memory
-    /// for the task. The future comes back.
+    /// cancels the task. Refused, the future comes back: with `Full` where as many accepted futures as the limit are not dropped
+    /// yet, else with `NoMemory` for want of memory for the task.
     pub fn spawn(&self, future: F) -> Result<LocalHandle<T, W, R>, SpawnError<F>>
         ensures back { IfErr result (λ error. refused error ≡ future) }
         ensures here { IfOk result (λ handle. handle.held.link.id ≡ self.now.body.link.id) }
@@ -59,12 +59,12 @@ where
         self.body.hand_in(future, mark, &mut Unlocked::at_entry())
     }
 
-    /// Runs one task, where one is queued, and says whether it did. It doesn't wait for one, and takes no memory.
+    /// Runs one task, where one is queued, and answers whether it did. It doesn't wait for one, and takes no memory.
     pub fn try_tick(&self) -> bool {
         self.body.run_one(&mut Unlocked::at_entry())
     }
 
-    /// A future that waits for a future of the executor which is to be polled, and polls it once.
+    /// Makes a future that waits for a future of the executor which has to be polled, and polls it once.
     pub fn tick(&self) -> Result<LocalTick<'_, F, T, W, R>, NoMemory>
         ensures here { IfOk result (λ tick. tick.executor.now ≡ self.now.body) }
         ensures ticker { IfOk result (λ tick. IsSome tick.ticker) }
@@ -72,7 +72,7 @@ where
         self.body.make_tick(&mut Unlocked::at_entry())
     }
 
-    /// A future that runs the executor's futures until this one is ready, and has its output then. For want of memory the
+    /// Makes a future that runs the executor's futures until this one is ready, and then has its output. For want of memory the
     /// future comes back.
     pub fn run<G>(&self, future: G) -> Result<LocalRun<'_, F, T, W, R, G>, G>
     where
@@ -107,7 +107,7 @@ impl<F: Drop, T: Drop, W: Wake + Drop, R: Wait + Copy + Drop> Drop
     }
 }
 
-/// As that of a `LocalExecutor`, but that its table has no wakers: none is counted.
+/// The text of a `LocalExecutor`, except that its table has no wakers: none is counted.
 impl<F: Drop, T: Drop, W: Wake + Drop, R: Wait + Copy + Drop> fmt::Debug
     for StaticLocalExecutor<F, T, W, R> {
     fn fmt<O: fmt::Write>(&self, f: &mut fmt::Formatter<O>) -> fmt::Result {

@@ -8,14 +8,14 @@ use async_task::{Future, NoMemory, Poll, Wake};
 use solo::Ticker;
 use std::sync::Wait;
 
-/// Waits for a future that is to be polled, and polls it once: a future with output `Ok(())`. After it was ready it serves as a
-/// new one. Its drop passes on to another tick or run what it had been told.
+/// Waits for a future that has to be polled, and polls it once: a future with output `Ok(())`. After it was ready it serves as a
+/// new one. Where it had been notified, its drop notifies another tick or run.
 ///
 /// It is made by `LocalExecutor::tick` or `StaticLocalExecutor::tick`.
 #[must_use]
 pub struct LocalTick<'a, F: Drop, T: Drop, W: Wake + Drop, R: Wait + Copy + Drop> {
     pub(crate) executor: &'a Body<F, T, W, R>,
-    /// It is out only while the tick is polled.
+    /// The tick, which is out only while it is polled.
     pub(crate) ticker: Option<Ticker>,
 }
 
@@ -26,7 +26,7 @@ where
 {
     type Output = Result<(), NoMemory>;
 
-    /// Runs a task, and is ready, or falls asleep and is pending. Refused too, it keeps its room and can be polled again.
+    /// Runs a task, and is ready, or falls asleep and is pending. Where it is refused it keeps its room, and can be polled again.
     fn poll(&mut self, waker: &LocalExWaker<W, R>) -> Poll<Result<(), NoMemory>>
         ensures { IsSome self.old.ticker → IsSome self.new.ticker }
     {

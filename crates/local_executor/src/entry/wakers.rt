@@ -11,7 +11,7 @@ pub struct LocalWaker<W: Wake + Drop, R: Wait + Copy + Drop> {
     pub(crate) task: Task,
 }
 
-/// What futures are polled with, and handles and ticks too.
+/// The waker with which futures, handles and ticks are polled.
 #[derive(Drop)]
 pub enum LocalExWaker<W: Wake + Drop, R: Wait + Copy + Drop> {
     /// Of a task.
@@ -21,7 +21,7 @@ pub enum LocalExWaker<W: Wake + Drop, R: Wait + Copy + Drop> {
 }
 
 impl<W: Wake + Drop, R: Wait + Copy + Drop> LocalWaker<W, R> {
-    /// Goes, and was none that counts.
+    /// Ends a waker that didn't count.
     pub(crate) fn forget(self) {
         let LocalWaker { link, task: _ } = self;
         drop(link);
@@ -51,7 +51,7 @@ impl<W: Wake + Drop, R: Wait + Copy + Drop> Wake for LocalWaker<W, R> {
         self.link.wake(self.task, &mut Unlocked::at_entry());
     }
 
-    /// One more, or None where the task has 2^40 references already.
+    /// Makes one more waker, or None where the task has 2^40 references already.
     fn clone(&self) -> Option<Self>
         ensures { IfSome result (λ copy. IsOfOneTask copy self.now) }
     {
@@ -73,7 +73,7 @@ impl<W: Wake + Drop, R: Wait + Copy + Drop> Wake for LocalWaker<W, R> {
     }
 }
 
-/// So that `block_on` of `blocking` polls handles and ticks.
+/// Lets `block_on` of `blocking` poll handles and ticks.
 impl<W: Wake + Drop, R: Wait + Copy + Drop> From<W> for LocalExWaker<W, R> {
     ghost use Rattle.std.specs.Prelude.{◌≡◌};
     ghost use Rattle.local_executor.specs.declared.entry.wakers.LocalExWaker.TheVariants.{Outside};
@@ -120,7 +120,7 @@ impl<W: Wake + Drop, R: Wait + Copy + Drop> Wake for LocalExWaker<W, R> {
         }
     }
 
-    /// Whether both wake the same, as far as it can tell: a no says nothing.
+    /// Whether both wake the same, as far as the wakers know: a no says nothing.
     fn will_wake(&self, other: &Self) -> bool
         ensures { IsTrue result → WakeTheSame W.is_same self.now other.now }
     {

@@ -1,5 +1,5 @@
-//! Each order of the calls of three who want a value, on one thread, beside a model of one line a party. They give up before they are
-//! told, between being told and polled, and after.
+//! Each order of the calls of three who want a value, on one thread, beside a model of one line a party. They give up before they
+//! are woken, between the wake and the poll, and after.
 use crate::bell::Bell;
 use crate::turns::{ORDERS, Parties, Table, Who, plays};
 use async_lock::{Mutex, MutexGuard};

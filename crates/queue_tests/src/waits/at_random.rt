@@ -223,8 +223,8 @@ impl<R: Wait + Copy + Drop> Hall<R> {
     }
 }
 
-/// One of two receivers tries once for each message and gives up. Where it was told before, the other has the message: the sender
-/// waits for the receipt before it sends the next.
+/// One of two receivers tries once for each message and gives up. Where it was notified before, the other has the message: the
+/// sender waits for the receipt before it sends the next.
 #[test]
 fn who_stays_has_each_message_that_was_given_up(rt: HostRuntime) -> io::Result<()> {
     let alloc = rt.alloc();

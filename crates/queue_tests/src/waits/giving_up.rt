@@ -36,7 +36,7 @@ impl<'a, R: Wait + Copy + Drop> Tells<'a, R> {
     }
 }
 
-/// Whether the second alone of those that are left was called and is ready, and the first was called where it was told.
+/// Whether the second alone of those that are left was called and is ready, and the first was called where it was notified.
 fn the_second_is_told<A, B, C, R>(
     bells: &[Bell; 3],
     when: When,
@@ -194,7 +194,7 @@ fn who_is_dropped_is_as_if_it_had_never_been(rt: HostRuntime) -> io::Result<()> 
     Ok(())
 }
 
-/// How a receiver or a sender that is in a field of a future gives up once it was told.
+/// How a receiver or a sender that is in a field of a future gives up once it was notified.
 #[derive(Clone, Copy)]
 enum Field {
     GivesUp,
@@ -203,7 +203,7 @@ enum Field {
     Calls,
 }
 
-/// One of two receivers was told, and doesn't poll again. The other is told, and the first may receive again.
+/// One of two receivers was notified, and doesn't poll again. The other is notified, and the first may receive again.
 fn a_receiver_in_a_field<R: Wait + Copy + Drop>(
     rt: R,
     alloc: Global,
@@ -228,7 +228,7 @@ fn a_receiver_in_a_field<R: Wait + Copy + Drop>(
     Ok(waits & (first.calls() == 2) & matches!(one.poll_recv(first), Poll::Ready(Ok(8))))
 }
 
-/// One of two senders was told, and doesn't poll again. The other is told, and the first may send again.
+/// One of two senders was notified, and doesn't poll again. The other is notified, and the first may send again.
 fn a_sender_in_a_field<R: Wait + Copy + Drop>(
     rt: R,
     alloc: Global,

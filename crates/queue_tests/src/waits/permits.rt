@@ -135,7 +135,7 @@ impl Account {
         }
     }
 
-    /// Whether it waits no more, since it was told.
+    /// Whether it waits no more, since it was notified.
     fn gives_up(&mut self, who: Who) -> bool {
         let was = self.seat(who).at;
         self.goes(who, At::Out);
@@ -150,7 +150,7 @@ impl Account {
         self.give();
     }
 
-    /// One who waited, or was promised one, is told.
+    /// One who waited, or was promised one, is notified.
     fn shuts(&mut self, who: Who) {
         let was = self.seat(who).at;
         if was == At::Promised {
@@ -239,7 +239,7 @@ impl Tokens {
     }
 }
 
-/// Gives up. Whether it was told before.
+/// Gives up. Answers whether it was notified before.
 fn gives_up(permits: &mut Permits<Bell>, listening: Listening) -> bool {
     match permits.give_up(listening) {
         GaveUp::Untold(_waker) => false,

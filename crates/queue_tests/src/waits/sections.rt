@@ -36,7 +36,7 @@ impl<R: Wait + Copy + Drop> Table<R> {
         })
     }
 
-    /// What is owed is told later. Nothing else is owed then.
+    /// Keeps a notification for later. No other is kept then.
     fn owes(&self, owed: &mut Option<Came>, came: Came) {
         if let Some(before) = mem::replace(owed, Some(came)) {
             let _sent = before.tell(&self.messages);

@@ -113,8 +113,8 @@ impl<R: Wait + Copy + Drop> Desk<R> {
     }
 }
 
-/// What is seen at the end: what is free; who has a permit, of the try and of both who ask; how often these were called; and who of
-/// them was told that it is closed.
+/// What is seen at the end: what is free; who has a permit, of the try and of both who ask; how often these were called; and who
+/// of them found that it is closed.
 #[derive(Clone, Copy, PartialEq, Eq)]
 struct Seen {
     free: u64,

@@ -1,10 +1,10 @@
-//! One read or write, between reading the tick and clearing the way.
+//! One read or write, between reading the tick and clearing the readiness.
 ghost use Rattle.std.specs.Prelude.{◌≡◌};
 ghost use Rattle.reactor.specs.Attempts.{IsAttemptOf, IsTransferOf};
 
 use std::io::{self, ErrorKind};
 
-/// A way was ready at this tick. It has no drop: an attempt takes it, or who has it gives it back.
+/// A way was ready at this tick. It has no drop: an attempt takes it, or its owner gives it back.
 #[must_use]
 pub struct Ready {
     tick: u64,
@@ -16,21 +16,21 @@ pub struct Stale {
     tick: u64,
 }
 
-/// What came of a read or a write.
+/// The outcome of a read or a write.
 #[must_use]
 pub enum Attempt<T> {
-    /// It was done, well or not.
+    /// It was done, with success or not.
     Done(io::Result<T>),
     /// It would have blocked.
     Blocked(Stale),
 }
 
-/// What came of a read or a write of some bytes.
+/// The outcome of a read or a write of some bytes.
 #[must_use]
 pub enum Transfer {
-    /// It was done, well or not, and the next is worth a try.
+    /// It was done, with success or not, and the next is worth a try.
     Done(io::Result<usize>),
-    /// Some bytes were moved, and fewer than were asked for: so the next would block.
+    /// Some bytes were moved, and fewer than were asked for, so the next would block.
     Short(usize, Stale),
     /// It would have blocked.
     Blocked(Stale),
@@ -43,7 +43,7 @@ impl Ready {
         Ready { tick }
     }
 
-    /// Reads or writes. With no lock held.
+    /// Reads or writes. No lock is held.
     pub fn try_io<T: Drop, F: FnOnce() -> io::Result<T>>(self, call: F) -> Attempt<T>
         requires { F.pre call }
         ensures { IsAttemptOf (F.post call) self.tick result }
@@ -55,7 +55,7 @@ impl Ready {
         }
     }
 
-    /// Reads or writes at most so many bytes. With no lock held.
+    /// Reads or writes at most this many bytes. No lock is held.
     pub fn try_transfer<F: FnOnce() -> io::Result<usize>>(self, most: usize, call: F) -> Transfer
         requires { F.pre call }
         ensures { IsTransferOf (F.post call) most self.tick result }

@@ -1,4 +1,4 @@
-//! One way of a source: whether it is ready, and who waits for it.
+//! One way of a source: whether it is ready, and the waiter for it.
 ghost use Rattle.std.specs.Prelude.{◌≡◌, ◌≢◌, ◌+◌, ◌%◌, ◌^◌, None};
 ghost use Rattle.reactor.specs.declared.parts.side.Readiness.TheVariants as way;
 ghost use Rattle.reactor.specs.Sides.{HasChecked, HasLooked, closed, emptied, ended, rung, waker_left};
@@ -16,27 +16,27 @@ pub enum Readiness<K> {
     Ended,
     /// The last one would have blocked, and nobody has left a waker.
     Blocked,
-    /// The last one would have blocked, and this is to be called at the next event.
+    /// The last one would have blocked, and this waker is to be called at the next event.
     Waited(K),
-    /// Nobody hears of it any more.
+    /// The reactor no longer hears of it.
     Closed,
 }
 
-/// One way of a source, with a tick that moves at each event. Each call is one section of whoever locks it. None takes memory,
-/// and none calls or drops a waker: what comes out is to be called or dropped once the lock is given back.
+/// One way of a source, with a tick that changes at each event. Each call is one section of whoever locks it. No call takes
+/// memory, and none calls or drops a waker. The caller calls or drops each waker that comes out, once it has released the lock.
 #[derive(Drop)]
 pub struct Side<K> {
     tick: u64,
     readiness: Readiness<K>,
 }
 
-/// The call that is owed to who waited. It has no drop: it ends in `call`.
+/// The waiter that has to be woken, if there is one. It has no drop: it ends in `call`.
 #[must_use]
 pub struct Owed<K> {
     waker: Option<K>,
 }
 
-/// What one who looks without a waker finds.
+/// What a look without a waker finds.
 #[must_use]
 pub enum Checked {
     /// It is ready, at this tick.
@@ -47,40 +47,40 @@ pub enum Checked {
     Closed(Over),
 }
 
-/// What one who wants to wait found.
+/// What a waiter found.
 #[must_use]
 pub enum Looked<K> {
     /// It is ready, at this tick. The waker that wasn't left.
     Ready(Ready, K),
-    /// It isn't, and the waker was left. The one that was left before, to be dropped once the lock is given back.
+    /// It isn't, and the waker was left. The one that was left before, to be dropped once the lock is released.
     Waits(Parked, Option<K>),
     /// It is closed. The waker that wasn't left.
     Closed(Over, K),
 }
 
-/// That a waker was left.
+/// Proof that a waker was left.
 #[derive(Drop)]
 pub struct Parked {
-    // None is made elsewhere.
+    // Only this module makes one.
     own: (),
 }
 
-/// That the way was found closed: so it stays.
+/// Proof that the way was found closed. It stays closed.
 #[derive(Debug, Drop)]
 pub struct Over {
-    // None is made elsewhere.
+    // Only this module makes one.
     own: (),
 }
 
-/// A read or a write would have blocked, and its way was told so.
+/// Proof that a read or a write would have blocked, and that its way was cleared.
 #[derive(Debug, Drop)]
 pub struct WouldBlock {
-    // None is made elsewhere.
+    // Only this module makes one.
     own: (),
 }
 
 impl<K: Wake> Owed<K> {
-    /// Calls who waited. With no lock held.
+    /// Wakes the waiter. No lock is held.
     pub fn call(self) {
         let Owed { waker } = self;
         if let Some(waker) = waker {
@@ -90,7 +90,7 @@ impl<K: Wake> Owed<K> {
 }
 
 impl<K: Drop> Readiness<K> {
-    /// The call that is owed to who waited.
+    /// The waiter that has to be woken.
     fn into_owed(self) -> Owed<K>
         ensures { result.waker ≡ waker_left self }
     {
@@ -104,7 +104,7 @@ impl<K: Drop> Readiness<K> {
 }
 
 impl<K: Drop> Side<K> {
-    /// It is ready, so that the first read or write is tried at once.
+    /// Makes a way that is ready, so that the first read or write is tried at once.
     pub fn new() -> Self
         ensures { result ≡ record { tick = 0; readiness = way.Ready } }
     {
@@ -150,7 +150,7 @@ impl<K: Drop> Side<K> {
         }
     }
 
-    /// An event came: it is ready, unless it is closed, and the tick moves. Answers the call that is owed.
+    /// Takes an event: it is ready, unless it is closed, and the tick changes. Answers the waiter that has to be woken.
     pub fn ring(&mut self) -> Owed<K>
         ensures rung { self.new ≡ rung self.old }
         ensures waker { result.waker ≡ waker_left self.old.readiness }
@@ -164,7 +164,8 @@ impl<K: Drop> Side<K> {
         mem::replace(&mut self.readiness, after).into_owed()
     }
 
-    /// The last event came: it is ready from now on, unless it is closed, and the tick moves. Answers the call that is owed.
+    /// Takes the last event: it is ready from now on, unless it is closed, and the tick changes. Answers the waiter that has to be
+    /// woken.
     pub fn end(&mut self) -> Owed<K>
         ensures ended { self.new ≡ ended self.old }
         ensures waker { result.waker ≡ waker_left self.old.readiness }
@@ -176,8 +177,8 @@ impl<K: Drop> Side<K> {
         owed
     }
 
-    /// A read or a write at this tick would have blocked, or the next would. So it is ready no more, unless an event came since or
-    /// the last one has come.
+    /// A read or a write at this tick would have blocked, or the next would. So it is no longer ready, unless an event came since
+    /// or the last one has come.
     pub fn clear(&mut self, stale: Stale) -> WouldBlock
         ensures same_tick { stale.tick ≡ self.old.tick → self.new ≡ emptied self.old }
         ensures event_came { stale.tick ≢ self.old.tick → self.new ≡ self.old }
@@ -188,7 +189,7 @@ impl<K: Drop> Side<K> {
         WouldBlock { own: () }
     }
 
-    /// Nobody hears of it any more. Answers the call that is owed.
+    /// Closes it: the reactor no longer hears of it. Answers the waiter that has to be woken.
     pub fn close(&mut self) -> Owed<K>
         ensures closed { self.new ≡ closed self.old }
         ensures waker { result.waker ≡ waker_left self.old.readiness }

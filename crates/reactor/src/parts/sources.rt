@@ -1,4 +1,4 @@
-//! The sources of which a reactor hears, each under its key.
+//! The sources that a reactor knows, each under its key.
 ghost use Rattle.std.specs.Option.{option_copied};
 ghost use Rattle.std.specs.Prelude.{◌≡◌, ◌+◌, ◌≤◌, ℕ, IfErr, IfOk, None, OnErr, OnOk, Some, false, is_some, nat_eq, true};
 ghost use Rattle.std.specs.HashMap.{get};
@@ -7,8 +7,8 @@ use std::alloc::Global;
 use std::collections::HashMap;
 use std::mem;
 
-/// The sources, each under a key that none had before. Each call is one section of whoever locks it; `enter` alone takes memory.
-/// None drops a source: what comes out is to be dropped once the lock is given back.
+/// The sources, each under a key that none had before. Each call is one section of whoever locks it; only `enter` takes memory. No
+/// call drops a source: the caller drops each that comes out, once it has released the lock.
 #[derive(Drop)]
 pub struct Sources<S> {
     next: usize,
@@ -17,13 +17,13 @@ pub struct Sources<S> {
     ghost fresh: { (key : ℕ) → next ≤ key → is_some (get nat_eq entries key) ≡ false },
 }
 
-/// The key of a source, as the source has it. It has no drop: who has it leaves.
+/// The key of a source, as the source has it. It has no drop: its owner leaves.
 #[must_use]
 pub struct Key {
     number: usize,
 }
 
-/// Why one may not enter. The source comes back.
+/// Why a source may not enter. The source comes back.
 #[derive(Drop)]
 pub enum Refused<S> {
     /// For want of memory, or after 2^64 - 1 sources.
@@ -33,7 +33,7 @@ pub enum Refused<S> {
 }
 
 impl Key {
-    /// Under which the poller is to know the source. It is below 2^64 - 1.
+    /// The key under which the poller has to know the source. It is below 2^64 - 1.
     pub fn number(&self) -> usize
         ensures { result ≡ self.now.number }
     {
@@ -45,7 +45,7 @@ impl<S: Drop> Sources<S> {
     ghost use Rattle.std.specs.HashMap.{IsEmpty, IsUnchanged};
     ghost use Rattle.reactor.specs.Tables.{IsRefused, OnlyAt, value_at};
 
-    /// None is there. Takes no memory.
+    /// Makes an empty table. Takes no memory.
     pub fn new(alloc: Global) -> Self
         ensures open { result.is_closed ≡ false }
         ensures none { IsEmpty result.entries }
@@ -58,7 +58,7 @@ impl<S: Drop> Sources<S> {
         }
     }
 
-    /// One more source, under the next key.
+    /// Adds a source, under the next key.
     pub fn enter(&mut self, source: S) -> Result<Key, Refused<S>>
         ensures key { IfOk result (λ key. key.number ≡ self.old.next) }
         ensures was_free { OnOk result (get nat_eq self.old.entries self.old.next ≡ None) }
@@ -94,7 +94,7 @@ impl<S: Drop> Sources<S> {
         self.entries.get(&number)
     }
 
-    /// The source leaves, and comes out, unless the reactor was closed before.
+    /// Removes the source, which comes out, unless the reactor was closed before.
     pub fn leave(&mut self, key: Key) -> Option<S>
         ensures out { result ≡ get nat_eq self.old.entries key.number }
         ensures gone { OnlyAt key.number None self.old self.new }
@@ -112,7 +112,7 @@ impl<S: Drop> Sources<S> {
         self.is_closed
     }
 
-    /// None may enter from now on. All that are there come out.
+    /// Closes the table: no source may enter from now on. All that are there come out.
     pub fn close(&mut self, alloc: Global) -> HashMap<usize, S>
         ensures out { result ≡ self.old.entries }
         ensures closed { self.new.is_closed ≡ true }

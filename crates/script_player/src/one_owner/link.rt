@@ -67,7 +67,7 @@ impl<R: Wait + Copy + Drop> Link<R> {
         unreachable!()
     }
 
-    /// Wakes a task, and calls who is told of it.
+    /// Wakes a task, and calls the waker of the sleeper that has to be notified.
     pub fn wake(&self, task: Task) {
         let told = self.tasks().wake(task);
         self.pay_told(told);
@@ -103,7 +103,7 @@ impl<R: Wait + Copy + Drop> Link<R> {
         self.turn_away(next);
     }
 
-    /// Calls who sleeps and is told.
+    /// Calls the waker of the sleeper that has to be notified.
     pub fn call_sleeper(&self, sleeper: Option<Bell>) {
         if let Some(bell) = sleeper {
             bell.wake();

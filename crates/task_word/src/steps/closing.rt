@@ -10,7 +10,7 @@ use std::sync::Wait;
 use task_moves::moves;
 use task_moves::moves::Owed;
 
-/// The task is cancelled. Where a Runnable is owed, which will drop the future, the seat has it.
+/// The task is cancelled. Where a Runnable has to be scheduled, which will drop the future, the seat has it.
 #[inline(always)]
 pub fn cancel<F, T, W, R: Wait>(rt: &R, board: &Board<F, T, W>, pass: &mut Pass<F, T, W>) -> Owed
     requires seat { IsSeatOf board.now pass.old }

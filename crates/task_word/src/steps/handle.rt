@@ -10,9 +10,9 @@ use std::sync::Wait;
 use task_moves::moves;
 use task_moves::moves::Owed;
 
-/// The handle goes. Where the output lies in the cell, the seat has that instead, to be taken out and dropped; `spend` and
-/// another `detach` follow. Where it was the last of an open task, a Runnable is owed, and the seat has it. Where nobody
-/// can reach the task any more and its awaiter is left, the second answer is true, and the seat has the awaiter's slot.
+/// The handle goes. Where the output lies in the cell, the seat has that instead, to be taken out and dropped; `spend` and another
+/// `detach` follow. Where it was the last of an open task, a Runnable has to be scheduled, and the seat has it. Where nobody can
+/// reach the task any more and its awaiter is left, the second answer is true, and the seat has the awaiter's slot.
 #[inline(always)]
 pub fn detach<F, T, W, R: Wait>(
     rt: &R,

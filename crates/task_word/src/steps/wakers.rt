@@ -12,7 +12,7 @@ use std::sync::Wait;
 use task_moves::moves;
 use task_moves::moves::{Answer, Moved, Owed, State};
 
-/// A wake by reference. Where a Runnable is owed, the seat has it.
+/// A wake by reference. Where a Runnable has to be scheduled, the seat has it.
 #[inline(always)]
 pub fn wake<F, T, W, R: Wait>(rt: &R, board: &Board<F, T, W>, pass: &mut Pass<F, T, W>) -> Owed
     requires seat { IsSeatOf board.now pass.old }
@@ -90,8 +90,8 @@ pub fn copy<F, T, W, R: Wait>(rt: &R, board: &Board<F, T, W>, pass: &mut Pass<F,
     unreachable!()
 }
 
-/// A waker goes. Where it was the last of an open task, a Runnable is owed, and the seat has it. Where nobody can reach
-/// the task any more and its awaiter is left, the second answer is true, and the seat has the awaiter's slot.
+/// A waker goes. Where it was the last of an open task, a Runnable has to be scheduled, and the seat has it. Where nobody can
+/// reach the task any more and its awaiter is left, the second answer is true, and the seat has the awaiter's slot.
 #[inline(always)]
 pub fn release<F, T, W, R: Wait>(
     rt: &R,

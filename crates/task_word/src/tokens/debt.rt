@@ -1,7 +1,8 @@
 //! What is handed out to be called or dropped.
 use std::marker::Model;
 
-/// A value that its holder still owes something: an awaiter to call, a future or an output to drop. It can't be let go unopened.
+/// A value that its holder still has to call or drop: an awaiter to call, a future or an output to drop. Its holder has to open
+/// it.
 pub struct Debt<X> {
     value: X,
 }

@@ -66,7 +66,7 @@ impl<F: 'static, T: 'static, W: 'static> Cell<F, T, W> {
 }
 
 impl<F: 'static, T: 'static, W: 'static> Task<F, T, W> {
-    /// It has to call the awaiter before anything else, where this is owed.
+    /// The awaiter has to be called before anything else, where the step says so.
     #[inline(always)]
     pub(crate) fn owing(self, owed: Owed) -> Result<Self, OwingTask<F, T, W>>
         ensures { (is_ok result ≡ not (is_some owed.awaiter)) × MatchResult result (λ t. t ≡ self.entry) (λ t. t.task ≡ self.entry) }
@@ -97,7 +97,7 @@ impl<F: 'static, T: 'static, W: 'static> Task<F, T, W> {
         (state.completed || state.closed, Trace::of(pass))
     }
 
-    /// The task is cancelled. A Runnable is there where one is owed.
+    /// The task is cancelled. A Runnable is there where one has to be scheduled.
     #[inline(always)]
     pub fn cancel<R: Wait>(
         self,

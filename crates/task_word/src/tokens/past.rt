@@ -49,7 +49,7 @@ impl<F: 'static, T: 'static, W: 'static> PastRun<F, T, W> {
         (cell, claim.into_seat())
     }
 
-    /// It has to call the awaiter before, where this is owed.
+    /// The awaiter has to be called before, where the step says so.
     #[inline(always)]
     pub(crate) fn owing(self, owed: Owed) -> Result<Self, OwingRun<F, T, W>>
         ensures { (is_ok result ≡ not (is_some owed.awaiter)) × MatchResult result (λ r. r ≡ self.entry) (λ r. r.run ≡ self.entry) }

@@ -10,7 +10,7 @@ use std::sync::Wait;
 use task_moves::moves::Owed;
 
 impl<F: 'static, T: 'static, W: 'static> Cell<F, T, W> {
-    /// A wake by reference, of whoever is lent a waker of this cell's task. A Runnable is there where one is owed.
+    /// A wake by reference, of whoever is lent a waker of this cell's task. A Runnable is there where one has to be scheduled.
     #[inline(always)]
     pub fn wake<R: Wait>(&'static self, rt: &R) -> (Owed, Result<Runnable<F, T, W>, Trace>)
         ensures made { MatchResult result.1

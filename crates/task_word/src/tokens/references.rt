@@ -52,7 +52,7 @@ impl<F: 'static, T: 'static, W: 'static> Waker<F, T, W> {
         Trace::of(pass)
     }
 
-    /// It goes. Where it was the last of an open task, a Runnable is owed, and is there.
+    /// It goes. Where it was the last of an open task, a Runnable has to be scheduled, and is there.
     #[inline(always)]
     pub fn release<R: Wait>(self, rt: &R) -> (Owed, Left<F, T, W>)
         ensures made { MatchOption result.1.awaiter

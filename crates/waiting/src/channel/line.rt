@@ -1,4 +1,4 @@
-//! A channel's queue, and what has to be told of each of its changes.
+//! A channel's queue, and which waiters have to be notified of each of its changes.
 ghost use Rattle.std.specs.Prelude.{◌≡◌, ◌<◌, ◌≤◌, IfOk, IfSome, None, Some, false};
 ghost use Rattle.waiting.specs.Sending.{MayTrySend};
 
@@ -9,26 +9,26 @@ use concurrent_queue::{ConcurrentQueue, PopError, PushError};
 use std::alloc::Global;
 use std::sync::Wait;
 
-/// The messages that were sent and not received yet. What a call answers has no drop: it is told.
+/// The messages that were sent and not received yet. What a call returns has no drop: its owner notifies the waiters with it.
 #[derive(Drop)]
 pub struct Line<T: Drop> {
     queue: ConcurrentQueue<T>,
 }
 
-/// That a message came: one who waits for it is told.
+/// Proof that a message came: one who waits for a message has to be notified.
 #[must_use]
 pub struct Came {
-    // None is made elsewhere.
+    // Only this module makes one.
     own: (),
 }
 
-/// That a message was sent: it came, and one who waits for it was told.
+/// Proof that a message was sent: it came, and one who waits for a message was notified.
 #[derive(Drop)]
 pub struct Sent {
     own: (),
 }
 
-/// That a place came free: one who waits for it is told.
+/// Proof that a place came free: one who waits for a place has to be notified.
 #[must_use]
 pub struct Freed {
     own: (),
@@ -42,20 +42,20 @@ pub enum Nothing {
     Over(Ended),
 }
 
-/// That the channel was found closed, with no message left: so it stays.
+/// Proof that the channel was found closed, with no message left. It stays so.
 #[derive(Drop)]
 pub struct Ended {
     own: (),
 }
 
-/// That nothing is sent any more: all who wait are told.
+/// Proof that nothing is sent any more: all waiters have to be notified.
 #[must_use]
 pub struct Shut {
     was_open: bool,
 }
 
 impl<T: Drop> Line<T> {
-    /// With so many places.
+    /// A queue with this many places.
     pub fn bounded(alloc: Global, places: usize) -> Result<Self, NoMemory>
         requires { 0 < places }
         ensures { IfOk result (λ line. line.queue.capacity ≡ Some places) }
@@ -66,7 +66,7 @@ impl<T: Drop> Line<T> {
         }
     }
 
-    /// With as many places as memory holds.
+    /// A queue with as many places as memory holds.
     pub fn unbounded(alloc: Global) -> Self
         ensures { result.queue.capacity ≡ None }
     {
@@ -96,7 +96,7 @@ impl<T: Drop> Line<T> {
         }
     }
 
-    /// Takes no message any more.
+    /// Closes the queue: it takes no message any more.
     pub fn close<R: Wait>(&self, rt: &R) -> Shut {
         Shut {
             was_open: self.queue.close(rt),
@@ -110,19 +110,19 @@ impl<T: Drop> Line<T> {
         self.queue.len(rt)
     }
 
-    /// Whether there is none.
+    /// Whether there is no message.
     pub fn is_empty<R: Wait>(&self, rt: &R) -> bool {
         self.queue.is_empty(rt)
     }
 
-    /// Whether each place has one.
+    /// Whether each place has a message.
     pub fn is_full<R: Wait>(&self, rt: &R) -> bool
         ensures { (self.now.queue.capacity ≡ None) → (result ≡ false) }
     {
         self.queue.is_full(rt)
     }
 
-    /// Whether it takes no message any more.
+    /// Whether the queue takes no message any more.
     pub fn is_closed<R: Wait>(&self, rt: &R) -> bool {
         self.queue.is_closed(rt)
     }
@@ -136,7 +136,7 @@ impl<T: Drop> Line<T> {
 }
 
 impl Came {
-    /// Tells one who waits for a message.
+    /// Notifies one who waits for a message.
     pub fn tell<K: Wake + Drop, R: Wait + Copy + Drop>(self, messages: &Event<K, R>) -> Sent {
         let Came { own } = self;
         messages.notify();
@@ -145,7 +145,7 @@ impl Came {
 }
 
 impl Freed {
-    /// Tells one who waits for a place.
+    /// Notifies one who waits for a place.
     pub fn tell<K: Wake + Drop, R: Wait + Copy + Drop>(self, places: &Event<K, R>) {
         let Freed { own: () } = self;
         places.notify();
@@ -153,7 +153,7 @@ impl Freed {
 }
 
 impl Shut {
-    /// Tells all who wait. Answers whether the channel was open.
+    /// Notifies all waiters. Answers whether the channel was open.
     pub fn tell<A, B, R>(self, places: &Event<A, R>, messages: &Event<B, R>) -> bool
     where
         A: Wake + Drop,

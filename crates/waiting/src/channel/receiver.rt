@@ -13,12 +13,12 @@ use async_task::{Future, NoMemory, Poll, Wake};
 use std::sync::atomic::Ordering::SeqCst;
 use std::sync::{Arc, Wait};
 
-/// Receives messages, each of which one receiver gets, the oldest first. The drop of the last receiver closes the channel, and drops
-/// the messages that are left.
+/// Receives messages, each of which goes to one receiver, the oldest first. The drop of the last receiver closes the channel, and
+/// drops the messages that are left.
 ///
-/// It is `Receiver` of the Rust crate `async-channel`, and waits with wakers of the type `B`. It answers `Closed` once the channel is
-/// closed and empty. Who has to wait takes memory: `NoMemory` where there is none. In `actor` of `examples` a future has its receiver
-/// in a field, and polls that:
+/// It is `Receiver` of the Rust crate `async-channel`, and waits with wakers of the type `B`. It answers `Closed` once the channel
+/// is closed and empty. A receiver that has to wait takes memory: it answers `NoMemory` where there is none. In `actor` of
+/// `examples` a future has its receiver in a field, and polls that:
 ///
 /// ```
 /// match self.1.poll_recv(waker) {
@@ -30,17 +30,17 @@ use std::sync::{Arc, Wait};
 pub struct Receiver<T: Drop, A: Wake + Drop, B: Wake + Drop, R: Wait + Copy + Drop> {
     shared: Arc<Shared<T, A, B, R>>,
     waiting: Option<Listener<B, R>>,
-    // Once it has answered that nothing comes any more.
+    // Set once it has answered that nothing comes any more.
     ended: Option<Ended>,
 }
 
-/// Receives a message: a future that is ready once one came, or the channel is closed and empty. Dropped before, it takes none, and
-/// waits no more: a call that came for it goes on to the next who waits.
+/// Receives a message: a future that is ready once a message came, or the channel is closed and empty. Dropped before, it takes no
+/// message and waits no more: a notification that came for it goes on to the next waiter.
 #[derive(Drop)]
 pub struct Recv<'a, T: Drop, A: Wake + Drop, B: Wake + Drop, R: Wait + Copy + Drop> {
     receiver: &'a Receiver<T, A, B, R>,
     waiting: Option<Listener<B, R>>,
-    // Once it has answered that nothing comes any more.
+    // Set once it has answered that nothing comes any more.
     ended: Option<Ended>,
 }
 
@@ -56,7 +56,7 @@ impl<T: Drop, A: Wake + Drop, B: Wake + Drop, R: Wait + Copy + Drop> Receiver<T,
         }
     }
 
-    /// One more receiver; refused where there are too many. It takes no memory.
+    /// Makes one more receiver; refused where there are too many. It takes no memory.
     pub fn clone(&self) -> Result<Self, NoMemory>
         ensures same { IfOk result (λ receiver. arc_value receiver.shared ≡ arc_value self.now.shared) }
     {
@@ -69,7 +69,7 @@ impl<T: Drop, A: Wake + Drop, B: Wake + Drop, R: Wait + Copy + Drop> Receiver<T,
         }
     }
 
-    /// Takes the oldest message, where one is there, and tells one who waits for its place. It takes no memory.
+    /// Takes the oldest message, where one is there, and notifies one who waits for a place. It takes no memory.
     pub fn try_recv(&self) -> Result<T, TryRecvError> {
         match self.shared.try_recv() {
             Ok(message) => Ok(message),
@@ -90,8 +90,9 @@ impl<T: Drop, A: Wake + Drop, B: Wake + Drop, R: Wait + Copy + Drop> Receiver<T,
         }
     }
 
-    /// As the poll of `recv`, for a future that has the receiver in a field. It takes memory where it has to wait. Who was told to
-    /// wait and won't poll again calls `give_up`, or drops the receiver: until then a call may come that others wait for.
+    /// Polls as the future of `recv` does, for a future that has the receiver in a field. It takes memory where it has to wait.
+    /// After a pending poll, a caller that won't poll again calls `give_up`, or drops the receiver. Until then a notification may
+    /// come that other waiters need.
     pub fn poll_recv(&mut self, waker: &B) -> Poll<Result<T, RecvError>>
         ensures waits { result ≡ poll.Pending → IsSome self.new.waiting }
         ensures over { result ≡ poll.Ready (Err recv.Closed) → IsSome self.new.ended }
@@ -102,8 +103,8 @@ impl<T: Drop, A: Wake + Drop, B: Wake + Drop, R: Wait + Copy + Drop> Receiver<T,
         )
     }
 
-    /// Waits no more, after a `poll_recv` that was pending: a call that came for it goes on to the next who waits. It may receive
-    /// again. It takes no memory.
+    /// Waits no more, after a `poll_recv` that was pending: a notification that came for it goes on to the next waiter. It may
+    /// receive again. It takes no memory.
     pub fn give_up(&mut self)
         ensures waits_not { self.new.waiting ≡ None }
         ensures same { (self.new.shared ≡ self.old.shared) × (self.new.ended ≡ self.old.ended) }
@@ -117,32 +118,32 @@ impl<T: Drop, A: Wake + Drop, B: Wake + Drop, R: Wait + Copy + Drop> Receiver<T,
         &*self.shared
     }
 
-    /// Closes the channel: nothing is sent any more, what was sent can still be received, and all who wait are told. Answers
-    /// whether it was open. It takes no memory.
+    /// Closes the channel and notifies all waiters. Nothing is sent any more; what was sent can still be received. Answers whether
+    /// the channel was open. It takes no memory.
     pub fn close(&self) -> bool {
         self.shared.close()
     }
 
-    /// How many messages there are, which others may change at once.
+    /// How many messages there are. Others may change that at once.
     pub fn len(&self) -> usize
         ensures { IfSome (arc_value self.now.shared).line.queue.capacity (λ places. result ≤ places) }
     {
         self.shared.len()
     }
 
-    /// Whether there is no message, which others may change at once.
+    /// Whether there is no message. Others may change that at once.
     pub fn is_empty(&self) -> bool {
         self.shared.is_empty()
     }
 
-    /// Whether each place has a message, which others may change at once.
+    /// Whether each place has a message. Others may change that at once.
     pub fn is_full(&self) -> bool
         ensures { ((arc_value self.now.shared).line.queue.capacity ≡ None) → (result ≡ false) }
     {
         self.shared.is_full()
     }
 
-    /// Whether the channel is closed: so it stays.
+    /// Whether the channel is closed. A closed channel stays closed.
     pub fn is_closed(&self) -> bool {
         self.shared.is_closed()
     }
@@ -155,7 +156,7 @@ impl<T: Drop, A: Wake + Drop, B: Wake + Drop, R: Wait + Copy + Drop> Receiver<T,
     }
 }
 
-/// What a poll answers. It keeps the end that it found.
+/// What a poll answers. It keeps the end of the channel that it found.
 fn answer<T>(found: Heard<T>, end: &mut Option<Ended>) -> Poll<Result<T, RecvError>>
     ensures waits { result ≡ poll.Pending → found ≡ heard.Waits }
     ensures over { result ≡ poll.Ready (Err recv.Closed) → IsSome end.new }
@@ -172,7 +173,7 @@ fn answer<T>(found: Heard<T>, end: &mut Option<Ended>) -> Poll<Result<T, RecvErr
 }
 
 impl<T: Drop, A: Wake + Drop, B: Wake + Drop, R: Wait + Copy + Drop> Drop for Receiver<T, A, B, R> {
-    /// Leaves those who wait. Where it is the last receiver it closes the channel, and drops the messages that are left.
+    /// Leaves the waiters. The last receiver closes the channel, and drops the messages that are left.
     fn drop(self) {
         let Receiver {
             shared,

@@ -1,4 +1,4 @@
-//! How a message is received by who may wait.
+//! How a receiver that may wait receives a message.
 ghost use Rattle.std.specs.Prelude.{◌≡◌, IsSome};
 ghost use Rattle.waiting.specs.declared.channel.receiving.Heard.TheVariants as heard;
 
@@ -8,14 +8,14 @@ use crate::listener::Listener;
 use async_task::{NoMemory, Wake};
 use std::sync::Wait;
 
-/// What who asks for a message hears.
+/// What a receiver that asks for a message finds.
 pub enum Heard<T> {
     Message(T),
-    /// None is there, and the waker is called when one comes.
+    /// None is there. The waker is called when one comes.
     Waits,
     /// None is left, and none comes any more.
     Over(Ended),
-    /// None is there, and there was no memory for a place among those who wait.
+    /// None is there, and there was no memory for a place among the waiters.
     NoMemory,
 }
 

@@ -14,9 +14,10 @@ use std::sync::{Arc, Wait};
 
 /// Sends messages. The drop of the last sender closes the channel: what was sent can still be received.
 ///
-/// It is `Sender` of the Rust crate `async-channel`, and waits with wakers of the type `A`. A message that isn't sent comes back in
-/// the error: `Closed`, or `Full` of a `try_send` that finds no place. Who has to wait takes memory, as each message of a channel
-/// without a bound does: `NoMemory` where there is none. In `actor` of `examples` a thread sends, and blocks while no place is free:
+/// It is `Sender` of the Rust crate `async-channel`, and waits with wakers of the type `A`. A message that isn't sent comes back
+/// in the error: `Closed`, or `Full` of a `try_send` that finds no place. A sender that has to wait takes memory, as each message
+/// of a channel without a bound does: they answer `NoMemory` where there is none. In `actor` of `examples` a thread sends, and
+/// blocks while no place is free:
 ///
 /// ```
 /// for amount in 1..=100 {
@@ -28,14 +29,14 @@ pub struct Sender<T: Drop, A: Wake + Drop, B: Wake + Drop, R: Wait + Copy + Drop
     waiting: Option<Listener<A, R>>,
 }
 
-/// Sends a message: a future that is ready once it was sent, or the channel is closed. Dropped before that, it drops the message,
-/// which wasn't sent, and waits no more: a call that came for it goes on to the next who waits.
+/// Sends a message: a future that is ready once the message was sent, or the channel is closed. Dropped before that, it drops the
+/// message unsent, and waits no more: a notification that came for it goes on to the next waiter.
 #[derive(Drop)]
 pub struct Send<'a, T: Drop, A: Wake + Drop, B: Wake + Drop, R: Wait + Copy + Drop> {
     sender: &'a Sender<T, A, B, R>,
     waiting: Option<Listener<A, R>>,
     message: Option<T>,
-    // Once it was sent.
+    // Set once the message was sent.
     sent: Option<Sent>,
 }
 
@@ -50,7 +51,7 @@ impl<T: Drop, A: Wake + Drop, B: Wake + Drop, R: Wait + Copy + Drop> Sender<T, A
         }
     }
 
-    /// One more sender; refused where there are too many. It takes no memory.
+    /// Makes one more sender; refused where there are too many. It takes no memory.
     pub fn clone(&self) -> Result<Self, NoMemory>
         ensures same { IfOk result (λ sender. arc_value sender.shared ≡ arc_value self.now.shared) }
     {
@@ -63,7 +64,8 @@ impl<T: Drop, A: Wake + Drop, B: Wake + Drop, R: Wait + Copy + Drop> Sender<T, A
         }
     }
 
-    /// Sends a message where a place is free, and tells one who waits for it. It takes memory only in a channel without a bound.
+    /// Sends a message where a place is free, and notifies one who waits for a message. It takes memory only in a channel without
+    /// a bound.
     pub fn try_send(&self, message: T) -> Result<(), TrySendError<T>>
         ensures { MayTrySend (arc_value self.now.shared).line.queue.capacity message result }
     {
@@ -87,9 +89,10 @@ impl<T: Drop, A: Wake + Drop, B: Wake + Drop, R: Wait + Copy + Drop> Sender<T, A
         }
     }
 
-    /// As the poll of `send`, for a future that has the sender in a field: sends the message that is there, and takes it out once
-    /// it was sent. One that wasn't sent stays. It takes memory where it has to wait. Who was told to wait and won't poll again calls
-    /// `give_up`, or drops the sender: until then a call may come that others wait for.
+    /// Polls as the future of `send` does, for a future that has the sender in a field. It sends the message that is there, and
+    /// takes it out once it was sent. A message that wasn't sent stays. It takes memory where it has to wait. After a pending
+    /// poll, a caller that won't poll again calls `give_up`, or drops the sender. Until then a notification may come that other
+    /// waiters need.
     pub fn poll_send(
         &mut self,
         waker: &A,
@@ -118,8 +121,8 @@ impl<T: Drop, A: Wake + Drop, B: Wake + Drop, R: Wait + Copy + Drop> Sender<T, A
         }
     }
 
-    /// Waits no more, after a `poll_send` that was pending: a call that came for it goes on to the next who waits. It may send again.
-    /// It takes no memory.
+    /// Waits no more, after a `poll_send` that was pending: a notification that came for it goes on to the next waiter. It may
+    /// send again. It takes no memory.
     pub fn give_up(&mut self)
         ensures waits_not { self.new.waiting ≡ None }
         ensures same { self.new.shared ≡ self.old.shared }
@@ -133,32 +136,32 @@ impl<T: Drop, A: Wake + Drop, B: Wake + Drop, R: Wait + Copy + Drop> Sender<T, A
         &*self.shared
     }
 
-    /// Closes the channel: nothing is sent any more, what was sent can still be received, and all who wait are told. Answers
-    /// whether it was open. It takes no memory.
+    /// Closes the channel and notifies all waiters. Nothing is sent any more; what was sent can still be received. Answers whether
+    /// the channel was open. It takes no memory.
     pub fn close(&self) -> bool {
         self.shared.close()
     }
 
-    /// How many messages there are, which others may change at once.
+    /// How many messages there are. Others may change that at once.
     pub fn len(&self) -> usize
         ensures { IfSome (arc_value self.now.shared).line.queue.capacity (λ places. result ≤ places) }
     {
         self.shared.len()
     }
 
-    /// Whether there is no message, which others may change at once.
+    /// Whether there is no message. Others may change that at once.
     pub fn is_empty(&self) -> bool {
         self.shared.is_empty()
     }
 
-    /// Whether each place has a message, which others may change at once.
+    /// Whether each place has a message. Others may change that at once.
     pub fn is_full(&self) -> bool
         ensures { ((arc_value self.now.shared).line.queue.capacity ≡ None) → (result ≡ false) }
     {
         self.shared.is_full()
     }
 
-    /// Whether the channel is closed: so it stays.
+    /// Whether the channel is closed. A closed channel stays closed.
     pub fn is_closed(&self) -> bool {
         self.shared.is_closed()
     }
@@ -172,7 +175,7 @@ impl<T: Drop, A: Wake + Drop, B: Wake + Drop, R: Wait + Copy + Drop> Sender<T, A
 }
 
 impl<T: Drop, A: Wake + Drop, B: Wake + Drop, R: Wait + Copy + Drop> Drop for Sender<T, A, B, R> {
-    /// Leaves those who wait, and closes the channel where it is the last sender.
+    /// Leaves the waiters. The last sender closes the channel.
     fn drop(self) {
         let Sender { shared, waiting } = self;
         drop(waiting);

@@ -1,4 +1,4 @@
-//! How a message is sent by who may wait.
+//! How a sender that may wait sends a message.
 ghost use Rattle.waiting.specs.Sending.{HasTried};
 
 use crate::channel::errors::{SendError, TrySendError};
@@ -8,17 +8,17 @@ use crate::listener::Listener;
 use async_task::{NoMemory, Wake};
 use std::sync::Wait;
 
-/// What a try to send came to.
+/// The outcome of one try to send.
 pub enum Tried<T> {
     Sent(Sent),
     Refused(SendError<T>),
-    /// No place is free, and the waker is called when one is.
+    /// No place is free. The waker is called when one is.
     Waits(T),
     /// No place was free; one may be now.
     Again(T),
 }
 
-/// Tries to send until the message is sent or refused, or has to wait.
+/// Tries to send until the message is sent or refused, or the sender has to wait.
 pub fn send_or_wait<T: Drop, A: Wake + Drop, B: Wake + Drop, R: Wait + Copy + Drop>(
     shared: &Shared<T, A, B, R>,
     waiting: &mut Option<Listener<A, R>>,
@@ -37,7 +37,7 @@ pub fn send_or_wait<T: Drop, A: Wake + Drop, B: Wake + Drop, R: Wait + Copy + Dr
     unreachable!()
 }
 
-/// Tries to send. Where no place is free it listens, or awaits the call for which it listens already.
+/// Tries to send. Where no place is free it listens, or awaits the notification for which it listens already.
 fn try_once<T: Drop, A: Wake + Drop, B: Wake + Drop, R: Wait + Copy + Drop>(
     shared: &Shared<T, A, B, R>,
     waiting: &mut Option<Listener<A, R>>,

@@ -16,9 +16,9 @@ use std::sync::atomic::AtomicU64;
 pub struct Shared<T: Drop, A: Wake + Drop, B: Wake + Drop, R: Wait + Copy + Drop> {
     rt: R,
     line: Line<T>,
-    /// Told for each place that comes free.
+    /// Notified for each place that comes free.
     places: Event<A, R>,
-    /// Told for each message that comes.
+    /// Notified for each message that comes.
     messages: Event<B, R>,
     /// How many senders there are.
     pub senders: AtomicU64,
@@ -44,7 +44,7 @@ impl<T: Drop, A: Wake + Drop, B: Wake + Drop, R: Wait + Copy + Drop> Shared<T, A
         })
     }
 
-    /// Appends the message, and then tells one who waits for it.
+    /// Appends the message, and then notifies one who waits for a message.
     pub fn try_send(&self, message: T) -> Result<Sent, TrySendError<T>>
         ensures { MayTrySend self.now.line.queue.capacity message result }
     {
@@ -54,7 +54,7 @@ impl<T: Drop, A: Wake + Drop, B: Wake + Drop, R: Wait + Copy + Drop> Shared<T, A
         }
     }
 
-    /// Takes the oldest message, and then tells one who waits for its place.
+    /// Takes the oldest message, and then notifies one who waits for a place.
     pub fn try_recv(&self) -> Result<T, Nothing> {
         match self.line.pop(&self.rt) {
             Ok((message, freed)) => {
@@ -65,14 +65,14 @@ impl<T: Drop, A: Wake + Drop, B: Wake + Drop, R: Wait + Copy + Drop> Shared<T, A
         }
     }
 
-    /// Closes the channel, and tells all who wait. Answers whether it was open.
+    /// Closes the channel, and notifies all waiters. Answers whether the channel was open.
     pub fn close(&self) -> bool {
         let shut = self.line.close(&self.rt);
         shut.tell(&self.places, &self.messages)
     }
 
-    /// Drops the messages that are left in a channel that is closed. A message whose sending began before the close is among them,
-    /// since a queue that is closed says so only once all that were appended are taken. So none is left, and none comes.
+    /// Drops the messages that are left in a closed channel. A message whose sending began before the close is among them: a
+    /// closed queue says that it is closed only once all appended messages are taken. So no message is left, and none comes.
     pub fn drain(&self) -> Ended {
         for _ in self.rt.forever() {
             match self.try_recv() {
@@ -134,15 +134,15 @@ impl<T: Drop, A: Wake + Drop, B: Wake + Drop, R: Wait + Copy + Drop> Shared<T, A
     }
 }
 
-/// What one who waits has to do.
+/// What a waiter has to do next.
 pub enum Turn {
     /// It waits, and its waker is called.
     Waits,
-    /// It looks again: it listens since now, or was told.
+    /// It looks again: it listens since now, or was notified.
     Looks,
 }
 
-/// Listens, or awaits the call where it listens already.
+/// Listens, or awaits the notification where it listens already.
 pub fn go_on<K: Wake + Drop, R: Wait + Copy + Drop>(
     event: &Event<K, R>,
     waiting: &mut Option<Listener<K, R>>,

@@ -11,18 +11,18 @@ use async_task::{Future, Poll, Wake};
 use std::mem;
 use std::sync::Wait;
 
-/// Takes a permit: a future that is ready once it has one, or the semaphore is closed. Each poll leaves its waker in the place of the
-/// one before; where no copy of the waker can be had it calls the waker, so that it is polled again. Once it gave a permit it is
-/// pending, and calls nobody.
+/// Takes a permit: a future that is ready once it has one, or the semaphore is closed. Each poll leaves its waker in the place of
+/// the one before. Where no copy of the waker can be had it calls the waker, so that it is polled again. Once it gave a permit it
+/// is pending, and calls no waker.
 ///
-/// Dropped before, it takes no permit, and waits no more: one that it was promised goes to the next who waits.
+/// Dropped before, it takes no permit, and waits no more: a permit that was promised to it goes to the next waiter.
 pub struct Acquire<K: Wake + Drop, R: Wait + Copy + Drop> {
     stage: Stage<K, R>,
-    // Once it has answered that the semaphore is closed.
+    // Set once it has answered that the semaphore is closed.
     no_more: Option<NoMore>,
 }
 
-/// How far it is.
+/// How far the future is.
 pub enum Stage<K: Wake + Drop, R: Wait + Copy + Drop> {
     /// It doesn't wait yet.
     Comes(Semaphore<K, R>),
@@ -41,7 +41,7 @@ impl<K: Wake + Drop, R: Wait + Copy + Drop> Acquire<K, R> {
         }
     }
 
-    /// From now on it is at this stage.
+    /// Sets the stage.
     fn goes_to(&mut self, stage: Stage<K, R>)
         ensures { self.new ≡ record self.old { stage = stage } }
     {

@@ -14,6 +14,6 @@ pub enum TryAcquireError {
 pub enum AcquireError {
     /// The semaphore is closed.
     Closed,
-    /// There was no memory for a place among those who wait.
+    /// There was no memory for a place among the waiters.
     NoMemory,
 }

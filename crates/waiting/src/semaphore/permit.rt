@@ -5,7 +5,7 @@ use crate::semaphore::Semaphore;
 use async_task::Wake;
 use std::sync::Wait;
 
-/// A permit of a semaphore. Its drop gives it back: it is promised to who has waited longest, or free.
+/// A permit of a semaphore. Its drop gives the permit back: it is promised to the waiter that has waited longest, or free.
 pub struct Permit<K: Wake + Drop, R: Wait + Copy + Drop> {
     semaphore: Semaphore<K, R>,
     held: Held,
@@ -18,7 +18,7 @@ impl<K: Wake + Drop, R: Wait + Copy + Drop> Permit<K, R> {
         Permit { semaphore, held }
     }
 
-    /// Takes it out for good: the semaphore has one permit less. It takes no memory.
+    /// Takes the permit out for good: the semaphore has one permit less. It takes no memory.
     pub fn forget(self) {
         let Permit { semaphore, held } = self;
         semaphore.forget(held);

@@ -65,7 +65,7 @@ fn listener<R: Runtime>(event: &Event<Nobody, R>) -> Result<Listener<Nobody, R>,
     Ok(listener)
 }
 
-/// Whether one was there, and was told.
+/// Whether one was there, and was notified.
 fn is_told<R: Runtime>(listener: Option<Listener<Nobody, R>>) -> bool {
     match listener {
         Some(mut listener) => matches!(listener.poll(&Nobody), Poll::Ready(())),

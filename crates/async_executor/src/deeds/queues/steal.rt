@@ -66,7 +66,7 @@ pub fn steal<R: Wait>(
 }
 
 impl Theft<'_> {
-    /// So many stand in the source. Whether there is something to steal.
+    /// This many stand in the source. Answers whether there is something to steal.
     #[inline(always)]
     fn see_length(&self, from: &At<'_>, length: usize, steps: &mut Steps) -> bool
         requires { steps.old ≡ reads_length self.now.name.now from.now self.now.then.now }
@@ -78,7 +78,7 @@ impl Theft<'_> {
         length != 0
     }
 
-    /// So many places are free in the own queue. How many are to be moved is the answer.
+    /// This many places are free in the own queue. Answers how many are to be moved.
     #[inline(always)]
     fn see_free(&self, from: &At<'_>, length: usize, free: usize, steps: &mut Steps) -> usize
         requires { steps.old ≡ reads_own_length self.now.name.now from.now self.now.then.now length }
@@ -89,7 +89,7 @@ impl Theft<'_> {
         share_of(length, free)
     }
 
-    /// This Runnable was taken from the source, where so many were still to be taken.
+    /// This Runnable was taken from the source, where this many were still to be taken.
     #[inline(always)]
     fn see_taken(&self, from: &At<'_>, runnable: &ExStoredRunnable, more: usize, steps: &mut Steps)
         requires some { 0 < more }
@@ -100,7 +100,7 @@ impl Theft<'_> {
         steps.follow(Saw::Found(TaskName::of_runnable(runnable)));
     }
 
-    /// Nothing was there any more, where so many were still to be taken.
+    /// Nothing was there any more, where this many were still to be taken.
     #[inline(always)]
     fn see_end(&self, from: &At<'_>, more: usize, steps: &mut Steps)
         requires some { 0 < more }
@@ -112,7 +112,7 @@ impl Theft<'_> {
     }
 }
 
-/// About half of so many, at most as many as places are free.
+/// About half of this many, at most as many as places are free.
 #[inline(always)]
 fn share_of(length: usize, free: usize) -> usize
     ensures { result ≡ share length free }

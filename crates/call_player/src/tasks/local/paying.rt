@@ -13,7 +13,7 @@ impl Owner {
         }
     }
 
-    /// Queues a task, where that is owed.
+    /// Queues a task, where it has to be scheduled.
     pub fn queue(&mut self, name: Name, info: Option<ScheduleInfo>) {
         let Some(info) = info else {
             return;

@@ -2,7 +2,7 @@ use Rattle.std.proofs.Common.{◌≡◌, length}
 use Rattle.combinators.specs.Rounds.{HaveGone}
 use Rattle.combinators.proofs.unordered.FuturesUnordered.poll_next.Given as goal
 
--- so many turns were pending
+-- this many turns were pending
 abbrev pub invariant-loop-turn : goal.invariant-loop-turn
 invariant-loop-turn g l =
     HaveGone l._turn l.fn.self.futures.items l.self.futures.items

@@ -13,3 +13,5 @@ pub mod Awaiting
 pub mod Badged
 pub mod Claims
 pub mod Storing
+pub mod Once
+pub mod OncePaused

@@ -6,3 +6,4 @@ pub mod Badges
 pub mod Tokens
 pub mod Awaiter
 pub mod Handles
+pub mod Once

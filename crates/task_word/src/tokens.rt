@@ -43,7 +43,7 @@ impl<F: 'static, T: 'static, W: 'static> Runnable<F, T, W> {
     pub(crate) fn of(cell: &'static Cell<F, T, W>, pass: Pass<F, T, W>) -> Self
         requires seat { IsSeatOf cell.now.board.shared pass }
         requires has { Has Queued pass }
-        ensures { IsClaimOf pass result.claim }
+        ensures { IsClaimOf pass result.claim × (result.cell.now ≡ cell.now) }
     {
         Runnable {
             cell,
@@ -74,7 +74,7 @@ impl<F: 'static, T: 'static, W: 'static> Waker<F, T, W> {
     pub(crate) fn of(cell: &'static Cell<F, T, W>, pass: Pass<F, T, W>) -> Self
         requires seat { IsSeatOf cell.now.board.shared pass }
         requires has { Has Reference pass }
-        ensures { IsClaimOf pass result.claim }
+        ensures { IsClaimOf pass result.claim × (result.cell.now ≡ cell.now) }
     {
         Waker {
             cell,

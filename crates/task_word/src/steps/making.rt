@@ -134,3 +134,25 @@ pub fn resume<F, T, W, R: Wait>(rt: &R, board: &Board<F, T, W>, pass: &mut Pass<
     }
     unreachable!()
 }
+
+/// One try of a resume. The answer is false where none rests, or somebody else stepped meanwhile: nothing has changed then.
+#[inline(always)]
+pub fn resume_once<F, T, W>(board: &Board<F, T, W>, pass: &mut Pass<F, T, W>) -> bool
+    requires seat { IsSeatOf board.now pass.old }
+    requires has { Has Nothing pass.old }
+    ensures same { IsSameSeat pass.old pass.new }
+    ensures right { MatchBool result (Has Queued pass.new) (Has Nothing pass.new) }
+{
+    let old = look(board, pass);
+    let word = decode(old);
+    if word.rests {
+        let new = encode(word.state, false);
+        if board.compare_exchange::<rule::Resume>(pass, 0, old, new) == old {
+            true
+        } else {
+            false
+        }
+    } else {
+        false
+    }
+}

@@ -1,8 +1,9 @@
 //! The moves of a run, from its take-up to the ends of its poll, and of a call that drops a closed
 //! task's future.
-ghost use Rattle.std.specs.Prelude.{◌≡◌, [], ◌∷◌, true, is_some, Some, IfSome};
+ghost use Rattle.std.specs.Prelude.{◌≡◌, [], ◌∷◌, true, is_some, Some, IfSome, MatchBool, MatchOption};
 ghost use Rattle.task_moves.specs.Moves as moves;
-ghost use Rattle.task_word.specs.Steps.{Makes, Has, HasFuture, HasPlace, TakenUp, Paused, IsHandedBack, IsSeatOf, IsSameSeat};
+ghost use Rattle.task_word.specs.Once.{begins};
+ghost use Rattle.task_word.specs.Steps.{Makes, Is, Has, HasQueued, HasFuture, HasPlace, TakenUp, Paused, IsHandedBack, IsSeatOf, IsSameSeat};
 ghost use Rattle.task_word.specs.declared.rule.Hold.TheVariants.{Leaving, Queued, Running, Closing, Ending};
 ghost use Rattle.task_word.specs.declared.rule.Content.TheVariants.{Future};
 
@@ -36,6 +37,30 @@ pub fn take_up<F, T, W, R: Wait>(rt: &R, board: &Board<F, T, W>, pass: &mut Pass
         }
     }
     unreachable!()
+}
+
+/// One try of the take-up of an open task, whose future is to be polled. The answer is false where the task is closed, or somebody
+/// else stepped meanwhile: nothing has changed then.
+#[inline(always)]
+pub fn take_up_once<F, T, W>(board: &Board<F, T, W>, pass: &mut Pass<F, T, W>) -> bool
+    requires seat { IsSeatOf board.now pass.old }
+    requires has { Has Queued pass.old }
+    ensures same { IsSameSeat pass.old pass.new }
+    ensures made { result ≡ true → Makes moves.take_up pass.new.me.0 begins }
+    ensures right { MatchBool result (HasFuture Running pass.new) (Has Queued pass.new) }
+{
+    let old = look(board, pass);
+    let word = decode(old);
+    if word.state.closed {
+        return false;
+    }
+    let moved = moves::take_up(word.state);
+    let new = encode(moved.state, word.rests);
+    if board.compare_exchange::<rule::TakeUp>(pass, 0, old, new) == old {
+        true
+    } else {
+        false
+    }
 }
 
 /// The future of a closed task was dropped before a poll.
@@ -121,6 +146,33 @@ pub fn end_ready<F, T, W, R: Wait>(
         }
     }
     unreachable!()
+}
+
+/// One try of the end of a poll without output. None where the task is closed, nobody can reach it any more, or somebody else
+/// stepped meanwhile: nothing has changed then.
+#[inline(always)]
+pub fn end_pending_once<F, T, W>(board: &Board<F, T, W>, pass: &mut Pass<F, T, W>) -> Option<Owed>
+    requires seat { IsSeatOf board.now pass.old }
+    requires has { HasFuture Running pass.old }
+    ensures same { IsSameSeat pass.old pass.new }
+    ensures made { IfSome result (λ owed. Makes moves.end_pending pass.new.me.0 owed) }
+    ensures right { MatchOption result (Is Running pass.old.me.1 pass.new.me) (λ owed. HasQueued owed.schedule pass.new) }
+{
+    let old = look(board, pass);
+    let word = decode(old);
+    if word.state.closed {
+        return None;
+    }
+    let moved = moves::end_pending(word.state);
+    if moved.owed.empty_cell {
+        return None;
+    }
+    let new = encode(moved.state, word.rests);
+    if board.compare_exchange::<rule::EndPending>(pass, 0, old, new) == old {
+        Some(moved.owed)
+    } else {
+        None
+    }
 }
 
 /// What the end of a poll without output leaves.

@@ -1,5 +1,5 @@
 //! What is done with a Runnable, and with a cell whose word one rests in: wake, resume, rest.
-ghost use Rattle.std.specs.Prelude.{◌≡◌, is_some, is_ok, IfErr, MatchResult};
+ghost use Rattle.std.specs.Prelude.{◌≡◌, is_some, is_ok, IfErr, IfSome, MatchResult};
 ghost use Rattle.task_moves.specs.Moves as moves;
 ghost use Rattle.task_word.specs.Tokens.{Shows, Owes, FindsNoRunnable};
 
@@ -24,6 +24,40 @@ impl<F: 'static, T: 'static, W: 'static> Cell<F, T, W> {
         match owed.schedule {
             Some(_) => (owed, Ok(Runnable::of(self, pass))),
             None => (owed, Err(Trace::of(pass))),
+        }
+    }
+
+    /// One try of a wake. None where somebody else stepped meanwhile: nothing has changed then.
+    #[inline(always)]
+    pub fn wake_once(&'static self) -> Option<(Owed, Result<Runnable<F, T, W>, Trace>)>
+        ensures made { IfSome result (λ r. MatchResult r.1
+            (λ q. Shows self.now.board.shared moves.wake_by_reference r.0 q.claim)
+            (λ t. Shows self.now.board.shared moves.wake_by_reference r.0 t.claim)) }
+        ensures paid { IfSome result (λ r. is_ok r.1 ≡ is_some r.0.schedule) }
+        ensures owes { IfSome result (λ r. Owes moves.wake_by_reference r.0) }
+    {
+        let mut pass = self.pass();
+        match wakers::wake_once(self.board(), &mut pass) {
+            Some(owed) => match owed.schedule {
+                Some(_) => Some((owed, Ok(Runnable::of(self, pass)))),
+                None => Some((owed, Err(Trace::of(pass)))),
+            },
+            None => {
+                drop(Trace::of(pass));
+                None
+            }
+        }
+    }
+
+    /// One try of a resume. None where no Runnable rests in the word, or somebody else stepped meanwhile.
+    #[inline(always)]
+    pub fn resume_once(&'static self) -> Option<Runnable<F, T, W>> {
+        let mut pass = self.pass();
+        if making::resume_once(self.board(), &mut pass) {
+            Some(Runnable::of(self, pass))
+        } else {
+            drop(Trace::of(pass));
+            None
         }
     }
 

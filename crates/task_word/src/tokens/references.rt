@@ -1,5 +1,5 @@
 //! What is done with a waker that is a reference: copy, redeem, store, release.
-ghost use Rattle.std.specs.Prelude.{◌≡◌, false, is_some, is_ok, not, IfSome, IfErr, MatchOption, MatchResult};
+ghost use Rattle.std.specs.Prelude.{◌≡◌, false, is_some, is_ok, not, IfSome, IfOk, IfErr, MatchOption, MatchResult};
 ghost use Rattle.task_moves.specs.Moves as moves;
 ghost use Rattle.task_word.specs.Steps as steps;
 ghost use Rattle.task_word.specs.Tokens.{Shows, Owes, FindsNoneStored};
@@ -27,6 +27,27 @@ impl<F: 'static, T: 'static, W: 'static> Cell<F, T, W> {
         }
     }
 
+    /// One try of a copy. None where somebody else stepped meanwhile: nothing has changed then.
+    #[inline(always)]
+    pub fn copy_once(&'static self) -> Option<(Owed, Result<Waker<F, T, W>, Trace>)>
+        ensures made { IfSome result (λ r. MatchResult r.1
+            (λ w. Shows self.now.board.shared steps.copy r.0 w.claim)
+            (λ t. Shows self.now.board.shared steps.copy r.0 t.claim)) }
+        ensures paid { IfSome result (λ r. is_ok r.1 ≡ not (is_some r.0.answer)) }
+    {
+        let mut pass = self.pass();
+        match wakers::copy_once(self.board(), &mut pass) {
+            Some(owed) => match owed.answer {
+                Some(_) => Some((owed, Err(Trace::of(pass)))),
+                None => Some((owed, Ok(Waker::of(self, pass)))),
+            },
+            None => {
+                drop(Trace::of(pass));
+                None
+            }
+        }
+    }
+
     /// Takes the reference of a waker that was stored, where one rests in the cell.
     #[inline(always)]
     pub fn redeem<R: Wait>(&'static self, rt: &R) -> Result<Waker<F, T, W>, Trace>
@@ -50,6 +71,20 @@ impl<F: 'static, T: 'static, W: 'static> Waker<F, T, W> {
         let (cell, mut pass) = self.open();
         stored::store(cell.board(), &mut pass);
         Trace::of(pass)
+    }
+
+    /// One try of its release. It comes back where it is the last of a task without handle, or somebody else stepped meanwhile.
+    #[inline(always)]
+    pub fn release_once(self) -> Result<Trace, Self>
+        ensures made { IfOk result (λ t. Shows self.entry.cell.now.board.shared moves.release moves.nothing t.claim) }
+        ensures back { IfErr result (λ back. back.cell.now ≡ self.entry.cell.now) }
+    {
+        let (cell, mut pass) = self.open();
+        if wakers::release_once(cell.board(), &mut pass) {
+            Ok(Trace::of(pass))
+        } else {
+            Err(Waker::of(cell, pass))
+        }
     }
 
     /// It goes. Where it was the last of an open task, a Runnable has to be scheduled, and is there.

@@ -1,6 +1,7 @@
 //! What is done with a Runnable that is taken up or let go, up to the end of its poll.
 ghost use Rattle.std.specs.Prelude.{◌≡◌, false, Some, is_some, is_ok, not, IfOk, IfErr, IfSome, MatchOption, MatchResult};
 ghost use Rattle.task_moves.specs.Moves as moves;
+ghost use Rattle.task_word.specs.Once.{begins};
 ghost use Rattle.task_word.specs.Steps.{IsSeatOf, HasPlace};
 ghost use Rattle.task_word.specs.Tokens.{Shows, ShowsSeat, Owes};
 ghost use Rattle.task_word.specs.declared.rule.Hold.TheVariants.{Running, Closing, Ending};
@@ -9,7 +10,7 @@ use crate::cell::Cell;
 use crate::slot::{put_future, take_future};
 use crate::steps::runs::Pause;
 use crate::steps::{Pass, closing, runs};
-use crate::tokens::{Debt, Left, OwingRun, PastRun, Runnable, take_left};
+use crate::tokens::{Debt, Left, OwingRun, PastRun, Runnable, Trace, take_left};
 use std::sync::Wait;
 use task_moves::moves::Owed;
 
@@ -75,6 +76,21 @@ impl<F: 'static, T: 'static, W: 'static> Runnable<F, T, W> {
         }
     }
 
+    /// One try of the take-up of an open task. It comes back where the task is closed, or somebody else stepped meanwhile.
+    #[inline(always)]
+    pub fn take_up_once(self) -> Result<Run<F, T, W>, Self>
+        ensures made { IfOk result (λ run. ShowsSeat self.entry.cell.now.board.shared moves.take_up begins run.pass) }
+        ensures same { MatchResult result (λ run. run.cell.now ≡ self.entry.cell.now) (λ back. back.cell.now ≡ self.entry.cell.now) }
+    {
+        let (cell, mut pass) = self.open();
+        if runs::take_up_once(cell.board(), &mut pass) {
+            let future = take_future(cell.board(), &mut pass);
+            Ok(Run { cell, pass, future })
+        } else {
+            Err(Runnable::of(cell, pass))
+        }
+    }
+
     /// It is let go: the task is closed, and its future is to be dropped.
     #[inline(always)]
     pub fn let_go<R: Wait>(self, rt: &R) -> (Owed, ClosedRunnable<F, T, W>, Debt<F>)
@@ -118,6 +134,34 @@ impl<F: 'static, T: 'static, W: 'static> ClosedRun<F, T, W> {
 }
 
 impl<F: 'static, T: 'static, W: 'static> Run<F, T, W> {
+    /// One try of the end of a poll without output, with the Runnable, where one is owed. The run comes back where the task is
+    /// closed, nobody can reach it any more, or somebody else stepped meanwhile.
+    #[inline(always)]
+    pub fn pend_once(self) -> Result<(Owed, Result<Runnable<F, T, W>, Trace>), Self>
+        ensures made { IfOk result (λ r. MatchResult r.1
+            (λ q. Shows self.cell.now.board.shared moves.end_pending r.0 q.claim)
+            (λ t. Shows self.cell.now.board.shared moves.end_pending r.0 t.claim)) }
+        ensures paid { IfOk result (λ r. is_ok r.1 ≡ is_some r.0.schedule) }
+        ensures back { IfErr result (λ back. (back.cell.now ≡ self.cell.now) × (back.future ≡ self.future)) }
+    {
+        let Run {
+            cell,
+            mut pass,
+            future,
+        } = self;
+        put_future(cell.board(), &mut pass, future);
+        match runs::end_pending_once(cell.board(), &mut pass) {
+            Some(owed) => match owed.schedule {
+                Some(_) => Ok((owed, Ok(Runnable::of(cell, pass)))),
+                None => Ok((owed, Err(Trace::of(pass)))),
+            },
+            None => {
+                let future = take_future(cell.board(), &mut pass);
+                Err(Run { cell, pass, future })
+            }
+        }
+    }
+
     /// The poll gave no output. The future goes back into the cell; or it is to be dropped, where the task was closed meanwhile,
     /// and where nobody can reach it any more.
     #[inline(always)]
@@ -175,7 +219,7 @@ impl<F: 'static, T: 'static, W: 'static> Run<F, T, W> {
     /// The poll gave an output. The future comes out, to be dropped; `store` follows.
     #[inline(always)]
     pub fn ready(self) -> (ReadyRun<F, T, W>, Debt<F>)
-        ensures { (result.0.cell.now ≡ self.cell.now) × (result.0.pass ≡ self.pass) }
+        ensures { (result.0.cell.now ≡ self.cell.now) × (result.0.pass ≡ self.pass) × (result.1 ≡ self.future) }
     {
         let Run { cell, pass, future } = self;
         (ReadyRun { cell, pass }, Debt::of(future))

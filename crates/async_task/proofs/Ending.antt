@@ -53,3 +53,9 @@ at_err ok err result error e m = subst (λ r. MatchResult r ok err) e m
 pub at_ok : {A E : Type 0} (ok : A → Type 0) (err : E → Type 0) (result : Result A E) (value : A) → result ≡ Ok value
     → MatchResult result ok err → ok value
 at_ok ok err result value e m = subst (λ r. MatchResult r ok err) e m
+
+-- what a claim shows in either case
+pub shown : {A E C : Type 0} (P : C → Type 0) (f : A → C) (g : E → C) (result : Result A E)
+    → MatchResult result (λ value. P (f value)) (λ error. P (g error)) → (claim : C) × P claim
+shown P f g (Ok value) m = (f value, m)
+shown P f g (Err error) m = (g error, m)

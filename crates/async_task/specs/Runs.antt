@@ -1,7 +1,8 @@
 -- How a run begins and ends.
-use Rattle.std.specs.Prelude.{◌≡◌, Bool, true, false, is_some, MatchOption, MatchResult, ⊤}
+use Rattle.std.specs.Prelude.{◌≡◌, Bool, true, false, is_some, Option, Some, MatchOption, MatchResult, ⊤}
 use Rattle.atomic_table.specs.declared.shared.Shared.{Shared}
 use Rattle.async_task.specs.declared.cell.Kept.{Kept}
+use Rattle.async_task.specs.declared.cell.scheduled.Due.{Due}
 use Rattle.async_task.specs.declared.cell.turns.Remains.{Remains}
 use Rattle.async_task.specs.declared.runnable.Closed.{Closed}
 use Rattle.async_task.specs.declared.runnable.Closed.TheVariants.{Runnable, Run, Left}
@@ -18,6 +19,7 @@ use Rattle.task_moves.specs.declared.local_task.answers.Back.TheVariants.{Ready,
 use Rattle.task_moves.specs.declared.moves.owed.Owed.{Owed}
 use Rattle.task_moves.specs.Moves as moves
 use Rattle.task_word.specs.declared.rule.View.{View}
+use Rattle.task_word.specs.declared.tokens.claim.Claim.{Claim}
 use Rattle.task_word.specs.Cell.{Slot}
 use Rattle.task_word.specs.Tokens.{Shows, ShowsSeat, Owes}
 
@@ -56,6 +58,12 @@ module _ {F T S M W R K P : Type 0} where
       IsLentBy waker pause.held × IsLeftBy board pause.remains × (is_some pause.remains.owed.future ≡ false)
   EndsRun board waker (Pending future) (Drop dropped closing) =
       (dropped ≡ future) × IsLentBy waker closing.held × ClosesBy board closing.closed
+
+module _ {F T S M W R K P : Type 0} where
+  -- without an output it has made the move that ends such a poll, on its own task's word: the task is due exactly where that move says so
+  abbrev pub PausesBy : Shared (Slot F T (Kept W)) View K P → Awaiter F T S M W R → Option (Due F T S M W R) → Type 0
+  PausesBy board waker due = (owed : Owed) × (claim : Claim) × Shows board moves.end_pending owed claim
+      × MatchOption due (is_some owed.schedule ≡ false) (λ due. IsLentBy waker due.runnable × (owed.schedule ≡ Some due.info))
 
 module _ {F T S M W R : Type 0} where
   -- what a Runnable begins is a run or a closing call of its own task, which is closed then

@@ -21,7 +21,7 @@ pub use crate::cell::returning::{GoesBack, Returning, close_returned};
 pub(crate) use crate::cell::scheduled::find_with;
 pub use crate::cell::scheduled::{Due, Scheduled, StoredRunnable, StoredWaker};
 pub(crate) use crate::cell::site::Site;
-pub(crate) use crate::cell::turns::{Remains, Rest, Woken, paid, was_woken};
+pub(crate) use crate::cell::turns::{Remains, Rest, Woken, owed_runnable, paid, was_woken};
 use crate::realm::{Cells, Vacant};
 use crate::stored_task::StoredTask;
 use counted_slot::{FREE, PRESENT, TAKEN};

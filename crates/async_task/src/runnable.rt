@@ -1,4 +1,5 @@
-ghost use Rattle.std.specs.Prelude.{◌≡◌, IfOk, MatchOption, None, Some};
+ghost use Rattle.std.specs.Prelude.{◌≡◌, IfErr, IfOk, MatchOption, None, Some};
+ghost use Rattle.async_task.specs.declared.runnable.Started.TheVariants.{Poll};
 ghost use Rattle.async_task.specs.Rests.{was_woken_by};
 ghost use Rattle.async_task.specs.Runs.{BeginsAt, was_closed};
 
@@ -155,6 +156,24 @@ where
         Scheduled { held, token }
     }
 
+    /// One try of taking the future out to be polled. The Runnable comes back where its task is closed, or somebody else stepped
+    /// meanwhile; `start` takes it then.
+    #[inline(always)]
+    pub fn start_once(self) -> Result<(F, Running<F, T, S, M, W, R>), Self>
+        ensures begins { IfOk result (λ started. BeginsAt self (Poll started.0 started.1)) }
+        ensures back { IfErr result (λ back. back ≡ self) }
+    {
+        let Self { held, token } = self;
+        match token.take_up_once() {
+            Ok(run) => {
+                let (run, future) = run.ready();
+                let waker = Awaiter::Lent(LentWaker::of(held));
+                Ok((future.pay(), Running { waker, run }))
+            }
+            Err(token) => Err(Runnable { held, token }),
+        }
+    }
+
     /// Takes the future out: to be polled, or to be dropped where the task is closed.
     #[inline(always)]
     pub fn start(self) -> Started<F, T, S, M, W, R>
@@ -185,6 +204,16 @@ where
     /// Polls the future once, or drops it where the task is closed. The answer is true exactly where the task was woken during the
     /// poll and not closed. It was then handed to its schedule value, which was passed the same.
     pub fn run(self) -> bool {
+        match self.start_once() {
+            Ok((future, running)) => running.poll(future),
+            Err(runnable) => runnable.run_apart(),
+        }
+    }
+
+    /// The same of a task that one try didn't take up.
+    #[cold]
+    #[inline(never)]
+    fn run_apart(self) -> bool {
         match self.start() {
             Started::Poll(future, running) => running.poll(future),
             Started::Drop(future, closing) => {

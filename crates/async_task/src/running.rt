@@ -1,8 +1,9 @@
-ghost use Rattle.std.specs.Prelude.{◌≡◌, true};
+ghost use Rattle.std.specs.Prelude.{◌≡◌, true, IfErr, IfOk};
 ghost use Rattle.async_task.specs.Awaiters.{is_lent};
 
 use crate::bounds::{Output, OutsideWaker};
-use crate::cell::{Kept, Remains, Scheduled, paid};
+use crate::cell::{Due, Kept, Remains, Scheduled, Woken, owed_runnable, paid, pay_due};
+use crate::lent::LentWaker;
 use crate::poll::{Future, Poll};
 use crate::runnable::{Closed, Closing, Pause, RunEnd};
 use crate::schedule::Schedule;
@@ -32,16 +33,36 @@ where
     M: Copy + Drop + 'static,
     R: Wait + Copy + Drop,
 {
+    /// Polls the future, and ends the run. The answer is whether the task was woken during the poll, and was handed to its schedule
+    /// value.
     #[inline(always)]
     pub(crate) fn poll(self, future: F) -> bool {
         let mut future = future;
-        let back = match future.poll(&self.waker) {
+        match future.poll(&self.waker) {
             Poll::Ready(output) => {
                 drop(future);
-                Back::Ready(output)
+                self.end(Back::Ready(output))
             }
-            Poll::Pending => Back::Pending(future),
-        };
+            Poll::Pending => match self.pause_once(future) {
+                Ok(Some(due)) => {
+                    pay_due(Some(due));
+                    true
+                }
+                Ok(None) => false,
+                Err((running, future)) => running.end_apart(future),
+            },
+        }
+    }
+
+    /// The end of a poll without output that one try didn't make.
+    #[cold]
+    #[inline(never)]
+    fn end_apart(self, future: F) -> bool {
+        self.end(Back::Pending(future))
+    }
+
+    #[inline(always)]
+    fn end(self, back: Back<F, T>) -> bool {
         match self.settle(back) {
             RunEnd::Over => false,
             RunEnd::Pause(pause) => pause.finish(),
@@ -61,7 +82,7 @@ where
     M: Copy + Drop + 'static,
     R: Wait + Copy + Drop,
 {
-    ghost use Rattle.async_task.specs.Runs.{EndsRun};
+    ghost use Rattle.async_task.specs.Runs.{EndsRun, PausesBy};
 
     /// The waker that the future is polled with.
     #[inline(always)]
@@ -69,6 +90,36 @@ where
         ensures { result.now ≡ self.now.waker }
     {
         &self.waker
+    }
+
+    /// One try of ending the run of a future that gave no output, with the task where it was woken during the poll. The run comes back
+    /// with its future where the task is closed, nobody can reach it any more, or somebody else stepped meanwhile; `settle` takes it
+    /// then.
+    #[inline(always)]
+    pub fn pause_once(self, future: F) -> Result<Option<Due<F, T, S, M, W, R>>, (Self, F)>
+        ensures ended { IfOk result (PausesBy self.run.cell.now.board.shared self.waker) }
+        ensures back { IfErr result (λ back. (back.0.waker ≡ self.waker) × (back.0.run.cell.now ≡ self.run.cell.now) × (back.1 ≡ future)) }
+    {
+        let Self { waker, run } = self;
+        let held = match waker {
+            Awaiter::Lent(waker) => waker.into_held(),
+            Awaiter::Task(_) => unreachable!(),
+            Awaiter::Outside(_) => unreachable!(),
+        };
+        match run.give_back(future).pend_once() {
+            Ok((owed, runnable)) => match owed_runnable(owed, runnable) {
+                Some(Woken { token, info }) => Ok(Some(Due {
+                    runnable: Scheduled { held, token },
+                    info,
+                })),
+                None => Ok(None),
+            },
+            Err(run) => {
+                let (run, future) = run.ready();
+                let waker = Awaiter::Lent(LentWaker::of(held));
+                Err((Running { waker, run }, future.pay()))
+            }
+        }
     }
 
     /// Ends the run. Where the future has given its output, it is dropped before this call.

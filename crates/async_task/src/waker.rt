@@ -105,7 +105,7 @@ where
     fn wake(self) {
         let Self { held, token } = self;
         held.wake_and_queue();
-        held.pay(held.site().release(token));
+        held.release(token);
     }
 
     fn wake_by_ref(&self) {
@@ -137,7 +137,7 @@ where
 {
     fn drop(self) {
         let Self { held, token } = self;
-        held.pay(held.site().release(token));
+        held.release(token);
     }
 }
 

@@ -29,6 +29,17 @@ where
     pub(crate) fn release_later(self, token: WakerToken<F, T, W>) -> Option<Due<F, T, S, M, W, R>>
         ensures { IfSome result (IsDueBy self) }
     {
+        match token.release_once() {
+            Ok(_) => None,
+            Err(token) => self.release_last_later(token),
+        }
+    }
+
+    /// A waker goes, which may be the last.
+    #[inline(never)]
+    fn release_last_later(self, token: WakerToken<F, T, W>) -> Option<Due<F, T, S, M, W, R>>
+        ensures { IfSome result (IsDueBy self) }
+    {
         match self.release(token) {
             Rest::Queue(woken) => Some(self.due(woken)),
             Rest::Drop(kept) => {
@@ -213,10 +224,39 @@ where
     /// A wake, which schedules the task where that has to be done.
     #[inline(always)]
     pub(crate) fn wake_and_queue(&self) {
-        if let Ok(Woken { token, info }) = self.site().wake() {
-            let held = self.share();
-            self.hand_over_apart(Scheduled { held, token }, info);
+        match self.site().wake_once() {
+            Some(Ok(Woken { token, info })) => {
+                let held = self.share();
+                self.hand_over_apart(Scheduled { held, token }, info);
+            }
+            Some(Err(_)) => {}
+            None => self.wake_and_queue_apart(),
         }
+    }
+
+    /// A wake that one try didn't make.
+    #[cold]
+    #[inline(never)]
+    fn wake_and_queue_apart(&self) {
+        if let Ok(Woken { token, info }) = self.site().wake_apart() {
+            let held = self.share();
+            self.hand_over(Scheduled { held, token }, info);
+        }
+    }
+
+    /// A waker goes.
+    #[inline(always)]
+    pub(crate) fn release(&self, token: WakerToken<F, T, W>) {
+        match token.release_once() {
+            Ok(_) => {}
+            Err(token) => self.release_last(token),
+        }
+    }
+
+    /// A waker goes, which may be the last.
+    #[inline(never)]
+    fn release_last(&self, token: WakerToken<F, T, W>) {
+        self.pay(self.site().release(token));
     }
 
     /// One more waker, or None where the task has 2^40 references already.

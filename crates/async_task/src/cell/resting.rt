@@ -146,6 +146,18 @@ where
         }
     }
 
+    /// One try of `resume`. It comes back too where somebody else stepped meanwhile.
+    #[inline(always)]
+    pub(crate) fn resume_once(&self, rested: Rested) -> Result<RunnableToken<F, T, W>, Rested> {
+        match self.cell.word.resume_once() {
+            Some(token) => {
+                let Rested(()) = rested;
+                Ok(token)
+            }
+            None => Err(rested),
+        }
+    }
+
     /// A reference that rests in the cell.
     #[inline(always)]
     pub(crate) fn redeem(&self, stored: Stored) -> Result<WakerToken<F, T, W>, Stored> {

@@ -184,6 +184,65 @@ impl<M> StoredRunnable<M> {
         ensures here { IfOk result (λ found. found.identity.realm ≡ realm.now.number) }
         ensures back { IfErr result (λ back. back ≡ self) }
     {
+        match self.redeem_once(rt, realm) {
+            Ok(found) => Ok(found),
+            Err(stored) => stored.redeem_apart(rt, realm),
+        }
+    }
+
+    /// One try of `redeem`. It comes back too where somebody else stepped meanwhile.
+    #[inline(always)]
+    fn redeem_once<F, T: Output, S, W: OutsideWaker, R>(
+        self,
+        rt: R,
+        realm: &'static Realm<F, T, S, M, W>,
+    ) -> Result<Scheduled<F, T, S, M, W, R>, Self>
+    where
+        F: Drop + 'static,
+        S: Drop + 'static,
+        M: Copy + Drop + 'static,
+        R: Wait + Copy + Drop,
+        ensures found { IfOk result (λ found. found ≡ self) }
+        ensures here { IfOk result (λ found. found.identity.realm ≡ realm.now.number) }
+        ensures back { IfErr result (λ back. back ≡ self) }
+    {
+        let StoredRunnable {
+            returns,
+            place,
+            metadata,
+            rested,
+        } = self;
+        let rested = match find_with(rt, realm, returns, place, metadata) {
+            Some(held) => match held.site().resume_once(rested) {
+                Ok(token) => return Ok(Scheduled { held, token }),
+                Err(rested) => rested,
+            },
+            None => rested,
+        };
+        Err(StoredRunnable {
+            returns,
+            place,
+            metadata,
+            rested,
+        })
+    }
+
+    #[cold]
+    #[inline(never)]
+    fn redeem_apart<F, T: Output, S, W: OutsideWaker, R>(
+        self,
+        rt: R,
+        realm: &'static Realm<F, T, S, M, W>,
+    ) -> Result<Scheduled<F, T, S, M, W, R>, Self>
+    where
+        F: Drop + 'static,
+        S: Drop + 'static,
+        M: Copy + Drop + 'static,
+        R: Wait + Copy + Drop,
+        ensures found { IfOk result (λ found. found ≡ self) }
+        ensures here { IfOk result (λ found. found.identity.realm ≡ realm.now.number) }
+        ensures back { IfErr result (λ back. back ≡ self) }
+    {
         let StoredRunnable {
             returns,
             place,

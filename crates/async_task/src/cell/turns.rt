@@ -70,6 +70,19 @@ where
     /// One reference more, where that is allowed.
     #[inline(always)]
     pub(crate) fn hold(&self) -> Result<WakerToken<F, T, W>, TooManyReferences> {
+        match self.cell.word.copy_once() {
+            Some(tried) => match tried.1 {
+                Ok(token) => Ok(token),
+                Err(trace) => Err(TooManyReferences { trace }),
+            },
+            None => self.hold_apart(),
+        }
+    }
+
+    /// One reference more, that one try didn't take.
+    #[cold]
+    #[inline(never)]
+    fn hold_apart(&self) -> Result<WakerToken<F, T, W>, TooManyReferences> {
         match self.cell.word.copy(&self.rt).1 {
             Ok(token) => Ok(token),
             Err(trace) => Err(TooManyReferences { trace }),
@@ -94,6 +107,33 @@ where
     /// A wake: the answer is a Runnable where one has to be scheduled, and else what shows that none had to be.
     #[inline(always)]
     pub(crate) fn wake(&self) -> Result<Woken<F, T, W>, StaysAwake>
+        ensures { IfOk result (λ woken. WasIdle woken.info) }
+    {
+        match self.wake_once() {
+            Some(tried) => tried,
+            None => self.wake_apart(),
+        }
+    }
+
+    /// One try of a wake. None where somebody else stepped meanwhile.
+    #[inline(always)]
+    pub(crate) fn wake_once(&self) -> Option<Result<Woken<F, T, W>, StaysAwake>>
+        ensures { IfSome result (λ tried. IfOk tried (λ woken. WasIdle woken.info)) }
+    {
+        match self.cell.word.wake_once() {
+            Some((owed, Ok(token))) => match owed.schedule {
+                Some(info) => Some(Ok(Woken { token, info })),
+                None => unreachable!(),
+            },
+            Some((_, Err(trace))) => Some(Err(StaysAwake { trace })),
+            None => None,
+        }
+    }
+
+    /// A wake that one try didn't make.
+    #[cold]
+    #[inline(never)]
+    pub(crate) fn wake_apart(&self) -> Result<Woken<F, T, W>, StaysAwake>
         ensures { IfOk result (λ woken. WasIdle woken.info) }
     {
         let (owed, runnable) = self.cell.word.wake(&self.rt);

@@ -14,7 +14,7 @@ use crate::deeds::sections::Taken;
 use crate::deeds::task_run::{Dropping, Polling};
 use crate::deeds::{Steps, sections};
 use crate::entry::Unlocked;
-use crate::names::{ExStoredRunnable, ExWaker};
+use crate::names::{ExRunnable, ExStoredRunnable, ExWaker};
 use crate::task_name::TaskName;
 use async_task::{Back, Future, GoesBack, Output, OutsideWaker, Poll, Runtime, Started};
 use executor_parts::EntryPlace;
@@ -36,19 +36,42 @@ where
     {
         let name = TaskName::of_runnable(&stored);
         match stored.redeem(self.rt, self.realm) {
-            Ok(scheduled) => match scheduled.into_runnable().start() {
-                Started::Poll(place, running) => {
+            Ok(scheduled) => match scheduled.into_runnable().start_once() {
+                Ok((place, running)) => {
                     let polling = Polling::begin(running, &name, steps);
                     self.poll(place, polling, &name, steps, unlocked);
                 }
-                Started::Drop(place, closing) => {
-                    let dropping = Dropping::begin(closing, &name, steps);
-                    self.drop_future(place, dropping, &name, steps, unlocked);
-                }
+                Err(runnable) => self.start_apart(runnable, &name, steps, unlocked),
             },
             Err(elsewhere) => {
                 elsewhere.go_back();
                 steps.take_up_elsewhere(&name);
+            }
+        }
+    }
+
+    /// Runs a task that one try didn't take up.
+    #[cold]
+    #[inline(never)]
+    fn start_apart(
+        &self,
+        runnable: ExRunnable<T, W, R>,
+        name: &TaskName,
+        steps: &mut Steps,
+        unlocked: &mut Unlocked,
+    )
+        requires named { runnable.identity ≡ name.now }
+        requires taken_up { top steps.old ≡ Some (step.Move move.TakeUp name.now) }
+        ensures { steps.new ≡ below steps.old }
+    {
+        match runnable.start() {
+            Started::Poll(place, running) => {
+                let polling = Polling::begin(running, name, steps);
+                self.poll(place, polling, name, steps, unlocked);
+            }
+            Started::Drop(place, closing) => {
+                let dropping = Dropping::begin(closing, name, steps);
+                self.drop_future(place, dropping, name, steps, unlocked);
             }
         }
     }

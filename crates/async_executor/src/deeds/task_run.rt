@@ -1,5 +1,5 @@
 //! A task while it is run. Its end calls the awaiter, so it is lent an `Unlocked`.
-ghost use Rattle.std.specs.Prelude.{◌≡◌, ◌∷◌, true, Some};
+ghost use Rattle.std.specs.Prelude.{◌≡◌, ◌∷◌, true, Some, IfErr, IfOk, IfSome};
 ghost use Rattle.task_moves.specs.declared.moves.owed.Move.TheVariants as move;
 ghost use Rattle.async_task.specs.Awaiters.{identity_of};
 ghost use Rattle.async_task.specs.Runs.{was_closed};
@@ -13,7 +13,7 @@ use crate::body::Body;
 use crate::deeds::Steps;
 use crate::entry::Unlocked;
 use crate::marked::Marked;
-use crate::names::{ExClosing, ExRunEnd, ExRunning, ExWaker};
+use crate::names::{ExClosing, ExDue, ExRunEnd, ExRunning, ExWaker};
 use crate::task_name::TaskName;
 use async_task::moves::{FutureDebt, Move, Owed};
 use async_task::{Back, Due, Future, Output, OutsideWaker, RunEnd, Runtime, ScheduleInfo};
@@ -72,17 +72,77 @@ impl<T: Output, W: OutsideWaker, R: Runtime> Polling<T, W, R> {
         requires ends { top steps.old ≡ Some (step.Move (end_by back) name.now) }
         ensures { steps.new ≡ below steps.old }
     {
+        match back {
+            Back::Ready(output) => {
+                self.settle_in_all(body, Back::Ready(output), name, steps, unlocked)
+            }
+            Back::Pending(place) => match self.pause_once(place, name, unlocked) {
+                Ok(due) => end_pending(body, due, name, steps, unlocked),
+                Err((polling, place)) => {
+                    polling.settle_apart(body, place, name, steps, unlocked)
+                }
+            },
+        }
+    }
+
+    /// One try of the end of a poll without an output. It comes back where that takes more.
+    #[inline(always)]
+    fn pause_once(
+        self,
+        place: EntryPlace,
+        name: &TaskName,
+        unlocked: &Unlocked,
+    ) -> Result<Option<ExDue<T, W, R>>, (Self, EntryPlace)>
+        requires { identity_of self.running.waker ≡ Some name.now }
+        ensures due { IfOk result (λ due. IfSome due (λ due. due.runnable.identity ≡ name.now)) }
+        ensures back { IfErr result (λ back. identity_of back.0.running.waker ≡ Some name.now) }
+    {
+        let (_, _) = (unlocked, name);
+        let Polling { running } = self;
+        match running.pause_once(place) {
+            Ok(due) => Ok(due),
+            Err((running, place)) => Err((Polling { running }, place)),
+        }
+    }
+
+    /// The end of a poll without an output that one try didn't make.
+    #[cold]
+    #[inline(never)]
+    fn settle_apart<F>(
+        self,
+        body: &Body<F, T, W, R>,
+        place: EntryPlace,
+        name: &TaskName,
+        steps: &mut Steps,
+        unlocked: &mut Unlocked,
+    )
+    where
+        F: Future<ExWaker<T, W, R>, Output = T> + Drop,
+        requires named { identity_of self.running.waker ≡ Some name.now }
+        requires ends { top steps.old ≡ Some (step.Move move.EndPending name.now) }
+        ensures { steps.new ≡ below steps.old }
+    {
+        self.settle_in_all(body, Back::Pending(place), name, steps, unlocked)
+    }
+
+    #[inline(always)]
+    fn settle_in_all<F>(
+        self,
+        body: &Body<F, T, W, R>,
+        back: Back<EntryPlace, T>,
+        name: &TaskName,
+        steps: &mut Steps,
+        unlocked: &mut Unlocked,
+    )
+    where
+        F: Future<ExWaker<T, W, R>, Output = T> + Drop,
+        requires named { identity_of self.running.waker ≡ Some name.now }
+        requires ends { top steps.old ≡ Some (step.Move (end_by back) name.now) }
+        ensures { steps.new ≡ below steps.old }
+    {
         match self.end(back, name, unlocked) {
             RunEnd::Over => steps.see_moved(false),
-            RunEnd::Pause(pause) => match pause.into_due() {
-                Some(Due { runnable, info: _ }) => {
-                    see_due(name, steps);
-                    let marked = Marked::of(runnable);
-                    body.state
-                        .push_and_pay(body.rt, body.realm, steps, marked, unlocked);
-                }
-                None => steps.see_moved(false),
-            },
+            RunEnd::Pause(pause) => end_pending(body, pause.into_due(), name, steps, unlocked),
             RunEnd::Drop(place, closing) => {
                 let dropping = Dropping::left(closing, name, steps);
                 body.drop_future(place, dropping, name, steps, unlocked);
@@ -159,6 +219,32 @@ impl<T: Output, W: OutsideWaker, R: Runtime> Dropping<T, W, R> {
         } else {
             steps.follow(Saw::Awaiter(false, None));
         }
+    }
+}
+
+/// A poll has ended without an output: its task is queued where it was woken meanwhile.
+#[inline(always)]
+fn end_pending<F, T: Output, W: OutsideWaker, R: Runtime>(
+    body: &Body<F, T, W, R>,
+    due: Option<ExDue<T, W, R>>,
+    name: &TaskName,
+    steps: &mut Steps,
+    unlocked: &mut Unlocked,
+)
+where
+    F: Future<ExWaker<T, W, R>, Output = T> + Drop,
+    requires due { IfSome due (λ due. due.runnable.identity ≡ name.now) }
+    requires ends { top steps.old ≡ Some (step.Move move.EndPending name.now) }
+    ensures { steps.new ≡ below steps.old }
+{
+    match due {
+        Some(Due { runnable, info: _ }) => {
+            see_due(name, steps);
+            let marked = Marked::of(runnable);
+            body.state
+                .push_and_pay(body.rt, body.realm, steps, marked, unlocked);
+        }
+        None => steps.see_moved(false),
     }
 }
 

@@ -1,20 +1,12 @@
 -- What a receive with a time limit leaves and answers.
 use Rattle.std.specs.Prelude.{◌≡◌, IsSome, Option, None, Result, Ok, Err}
-use Rattle.std.specs.declared.io.ErrorKind.{ErrorKind}
-use Rattle.std.specs.declared.io.ErrorKind.TheVariants as kind
 use Rattle.async_task.specs.declared.poll.Poll.{Poll}
 use Rattle.async_task.specs.declared.poll.Poll.TheVariants.{Ready, Pending}
 use Rattle.timer.specs.Errors.{woken}
 use Rattle.timer.specs.declared.errors.Stopped.{Stopped as Stop}
 use Rattle.timer.specs.declared.sleep.Sleep.{Sleep}
-use Rattle.combinators.specs.declared.errors.RecvTimeoutError.{RecvTimeoutError}
-use Rattle.combinators.specs.declared.errors.RecvTimeoutError.TheVariants.{Elapsed, Stopped, Closed, NoMemory}
-
-abbrev pub kind_of : RecvTimeoutError → ErrorKind
-kind_of Elapsed = kind.TimedOut
-kind_of Stopped = kind.BrokenPipe
-kind_of Closed = kind.BrokenPipe
-kind_of NoMemory = kind.OutOfMemory
+use Rattle.waiting.specs.declared.channel.errors.RecvTimeoutError.{RecvTimeoutError}
+use Rattle.waiting.specs.declared.channel.errors.RecvTimeoutError.TheVariants.{Elapsed, Stopped, Closed, NoMemory}
 
 module _ {K R : Type 0} where
   -- the sleep is over, and ended so

@@ -4,7 +4,6 @@
 
 mod all_of_four;
 mod all_of_three;
-mod errors;
 mod first_of_three;
 mod making;
 mod part;
@@ -15,13 +14,13 @@ mod unordered;
 
 pub use all_of_four::Join4;
 pub use all_of_three::Join3;
-pub use errors::RecvTimeoutError;
 pub use first_of_three::{Either3, Select3};
 pub use making::{join3, join4, recv_timeout, select3, try_join, try_join3};
 pub use timed_recv::RecvTimeout;
 pub use tried_three::TryJoin3;
 pub use tried_two::TryJoin;
 pub use unordered::{FuturesUnordered, Next};
+pub use waiting::channel::RecvTimeoutError;
 
 #[cfg(test)]
 mod tests;

@@ -3,11 +3,10 @@ ghost use Rattle.async_task.specs.declared.poll.Poll.TheVariants as poll;
 ghost use Rattle.combinators.specs.Receiving.{HasReceived};
 ghost use Rattle.std.specs.Prelude.{◌≡◌, Err, None};
 
-use crate::errors::RecvTimeoutError;
 use async_task::{Future, Poll, Wake};
 use std::sync::Wait;
 use timer::{Sleep, Stopped};
-use waiting::channel::{Receiver, RecvError};
+use waiting::channel::{Receiver, RecvError, RecvTimeoutError};
 
 /// Receives a message within the time of a sleep: a future that is ready with the message, or with an error. It has the receiver
 /// itself, and so lies in a field of another. Where the message is there and the time is up, it answers the message.

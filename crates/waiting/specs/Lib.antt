@@ -1,6 +1,7 @@
 pub mod Acquiring
 pub mod Ascending
 pub mod Both
+pub mod Receiving
 pub mod Sending
 pub mod Slots
 pub mod Waiters

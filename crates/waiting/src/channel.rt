@@ -11,7 +11,7 @@ mod sending;
 mod shared;
 
 use async_task::{NoMemory, Wake};
-pub use errors::{RecvError, SendError, TryRecvError, TrySendError};
+pub use errors::{RecvError, RecvTimeoutError, SendError, TryRecvError, TrySendError};
 use line::Line;
 pub use receiver::{Receiver, Recv};
 pub use sender::{Send, Sender};

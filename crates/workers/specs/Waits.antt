@@ -11,8 +11,10 @@ use Rattle.waiting.specs.declared.semaphore.errors.TryAcquireError.{TryAcquireEr
 use Rattle.waiting.specs.declared.semaphore.errors.TryAcquireError.TheVariants as wanted
 use Rattle.waiting.specs.declared.semaphore.errors.AcquireError.{AcquireError}
 use Rattle.waiting.specs.declared.semaphore.errors.AcquireError.TheVariants as acquired
+use Rattle.waiting.specs.declared.channel.errors.RecvTimeoutError.{RecvTimeoutError}
+use Rattle.waiting.specs.declared.channel.errors.RecvTimeoutError.TheVariants as timed
 use Rattle.workers.specs.declared.fault.Fault.{Fault}
-use Rattle.workers.specs.declared.fault.Fault.TheVariants.{Full, NoMemory, Closed, Empty}
+use Rattle.workers.specs.declared.fault.Fault.TheVariants.{Full, NoMemory, Closed, Elapsed, Empty}
 
 module _ {T : Type 0} where
   abbrev pub of_try_send : TrySendError T → Fault
@@ -31,6 +33,12 @@ of_try_recv looked.Closed = Closed
 abbrev pub of_recv : RecvError → Fault
 of_recv received.Closed = Closed
 of_recv received.NoMemory = NoMemory
+
+abbrev pub of_recv_timeout : RecvTimeoutError → Fault
+of_recv_timeout timed.Elapsed = Elapsed
+of_recv_timeout timed.Stopped = Closed
+of_recv_timeout timed.Closed = Closed
+of_recv_timeout timed.NoMemory = NoMemory
 
 abbrev pub of_try_acquire : TryAcquireError → Fault
 of_try_acquire wanted.NoPermits = Full

@@ -1,10 +1,10 @@
 //! How `?` converts errors to a `Fault`: those of what waits. A message that wasn't sent is dropped.
 ghost use Rattle.std.specs.Prelude.{◌≡◌};
-ghost use Rattle.workers.specs.Waits.{of_acquire, of_recv, of_send, of_try_acquire, of_try_recv, of_try_send};
+ghost use Rattle.workers.specs.Waits.{of_acquire, of_recv, of_recv_timeout, of_send, of_try_acquire, of_try_recv, of_try_send};
 ghost use Rattle.workers.specs.declared.fault.Fault.TheVariants as fault;
 
 use crate::fault::Fault;
-use waiting::channel::{RecvError, SendError, TryRecvError, TrySendError};
+use waiting::channel::{RecvError, RecvTimeoutError, SendError, TryRecvError, TrySendError};
 use waiting::oneshot::Canceled;
 use waiting::semaphore::{AcquireError, TryAcquireError};
 
@@ -49,6 +49,18 @@ impl From<RecvError> for Fault {
         match error {
             RecvError::Closed => Fault::Closed,
             RecvError::NoMemory => Fault::NoMemory,
+        }
+    }
+}
+
+impl From<RecvTimeoutError> for Fault {
+    ghost from_gives = { λ error given. given ≡ of_recv_timeout error };
+
+    fn from(error: RecvTimeoutError) -> Fault {
+        match error {
+            RecvTimeoutError::Elapsed => Fault::Elapsed,
+            RecvTimeoutError::Stopped | RecvTimeoutError::Closed => Fault::Closed,
+            RecvTimeoutError::NoMemory => Fault::NoMemory,
         }
     }
 }

@@ -7,6 +7,7 @@ mod guard;
 mod lane;
 pub mod parts;
 mod poller;
+mod polling;
 mod reactor;
 mod source;
 mod table;

@@ -4,11 +4,15 @@
 #[cfg(test)]
 mod bell;
 #[cfg(test)]
+mod between;
+#[cfg(test)]
 mod board;
 #[cfg(test)]
 mod game;
 #[cfg(test)]
 mod orders;
+#[cfg(test)]
+mod polls;
 #[cfg(test)]
 mod rows;
 #[cfg(test)]

@@ -16,7 +16,7 @@ use std::thread::{self, Promise, Threads};
 /// Does jobs on worker threads, and answers the result of each, in order. At most 100,000 jobs and 1 to 64 workers.
 ///
 /// 1. The jobs are pushed into an unbounded queue, which is closed. Each worker's thread runs a future that pops a job, spawns
-///    it on one executor, awaits its handle and pops the next.
+///    it on one executor, polls one that is due, awaits the handle of its own and pops the next.
 /// 2. Where a thread couldn't be started, those that were are joined, and the answer is `NoThread`; where one met a want of
 ///    memory it is `NoMemory`; where a job didn't come back once it is `Missing` with the least such number.
 pub fn run_jobs<P: JobSite<R> + Sync + Drop, R: Runtime + Threads + Sync>(

@@ -8,7 +8,7 @@ use crate::gate::Gate;
 use crate::site::{Awaited, JobWaker, Next, Site};
 use async_task::{NoMemory, Poll, Runtime};
 
-/// A worker's desk at a site: it pops a job and spawns it, and awaits that job's handle.
+/// A worker's desk at a site: it pops a job and spawns it, polls one that is due, and awaits that job's handle.
 ///
 /// Its drop drops the handle that it awaits, which cancels that job.
 pub struct SiteDesk<'e, G: Drop, R: Runtime> {
@@ -42,6 +42,8 @@ impl<G: Gate + Copy + Drop, R: Runtime> Desk for SiteDesk<'_, G, R> {
         match self.site.begin() {
             Ok(Next::Begun(awaited)) => {
                 self.awaited = Some(awaited);
+                // The job is due. Polled here it has often come back before it is awaited, and its worker needn't fall asleep.
+                let _ = self.site.try_tick();
                 Ok(true)
             }
             Ok(Next::Lost) => Ok(true),

@@ -12,10 +12,15 @@ def text_of(path):
         return file.read()
 
 
-def crates_of(root):
-    """Returns the libraries of the repository that each crate uses, by the list crates.txt."""
+def uses_of(root):
+    """Returns the libraries that each crate uses, the kit's too, by the list crates.txt."""
     rows = [it.partition("#")[0].strip() for it in open(f"{root}/crates.txt")]
-    uses = {it.partition(":")[0].split()[0]: it.partition(":")[2].split() for it in rows if it}
+    return {it.partition(":")[0].split()[0]: it.partition(":")[2].split() for it in rows if it}
+
+
+def crates_of(root):
+    """Returns the libraries of the repository that each crate uses."""
+    uses = uses_of(root)
     return {name: [it for it in used if it in uses] for name, used in uses.items()}
 
 

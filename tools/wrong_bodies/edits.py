@@ -39,7 +39,13 @@ class Edit:
     is_outside: bool = False
     guards: str = ""  # in a word, what it guards
     compiler: str = ""  # the error by which the compiler refuses it, where the prover is not reached
+    breaks: str = ""  # the law that it breaks, with its clause, where the edit proves the law's opposite
+    proof: str = ""  # of that opposite
+    opposite: str = ""  # what was said of it once it was proved
     fault: str = ""
+
+    def guarded(self):
+        return f" (guards: {self.guards})" if self.guards else ""
 
 
 def edits_of(folder):
@@ -49,7 +55,9 @@ def edits_of(folder):
 
 def read_edit(path):
     edit, file, old = Edit(os.path.basename(path)[: -len(".edit")], text_of(path)), "", ""
-    for line in edit.text.split("\n"):
+    head, _, opposite = edit.text.partition("\nfalse: ")
+    edit.breaks, _, edit.proof = opposite.partition("\n")
+    for line in head.split("\n"):
         word, _, text = line.partition(": ")
         if word == "file":
             file = text.strip()

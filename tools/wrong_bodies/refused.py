@@ -16,7 +16,7 @@ from .edits import changed_below
 
 HEAD = "judged by "
 # What judges, of this tool.
-JUDGES = ("edits.py", "copies.py", "judging.py")
+JUDGES = ("edits.py", "copies.py", "judging.py", "opposites.py")
 
 
 @dataclass

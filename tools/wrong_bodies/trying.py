@@ -12,6 +12,7 @@ from .copies import packs_of, rt, try_pack
 from .crates import below, copy, crates_of, lay_out, link_or_copy, text_of, write
 from .edits import changed_below, edits_of, name_demanded, place
 from .judging import judge
+from .opposites import try_opposites
 from .proved import take_proved
 from .refused import Line, judge_now, read_lines, sum_of, sum_of_tree, write_lines
 
@@ -63,6 +64,11 @@ class Trial:
         self.lines[name][edit.label] = Line(judge_now(), self.sums[name, edit.label], goals)
         self.write(name)
 
+    def pass_on(self, name, edit, why):
+        """Says that an edit was refused, and keeps that."""
+        self.keep(name, edit, why)
+        print(f"{name}/{edit.label}: refused: {why}{edit.guarded()}", flush=True)
+
     def fail(self, name, edit, why):
         """Says that an edit was not refused, and takes its line, if it had one."""
         print(f"{name}/{edit.label}: {why}", flush=True)
@@ -86,6 +92,9 @@ class Trial:
 
     def run(self, edits):
         """Tries these edits, by crate, those of several crates side by side, and the dearest first, so that none is left alone at the end."""
+        edits = try_opposites(self, edits)
+        if not edits:
+            return
         self.take_proved()
         edits = dict(sorted(edits.items(), key=lambda it: -weight_of(f"{self.root}/crates/{it[0]}", it[1])))
         needed, changed = [], {it for name, found in edits.items() for it in changed_below(found, name)} - self.changed
@@ -210,15 +219,10 @@ def settle(trial, name, pack, said):
         with trial.lock:
             trial.tried += 1
         if not is_refused:
-            trial.fail(name, edit, f"NOT REFUSED: {why}{guards_of(edit)}")
+            trial.fail(name, edit, f"NOT REFUSED: {why}{edit.guarded()}")
         else:
-            trial.keep(name, edit, why)
-            print(f"{name}/{edit.label}: refused: {why}{guards_of(edit)}", flush=True)
+            trial.pass_on(name, edit, "; ".join(filter(None, [why, edit.opposite])))
     return doubted
-
-
-def guards_of(edit):
-    return f" (guards: {edit.guards})" if edit.guards else ""
 
 
 def weight_of(folder, edits):

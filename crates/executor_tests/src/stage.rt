@@ -240,6 +240,15 @@ impl<F: Planned<R>, R: Runtime + Abort> Stage<F, R> {
         }
     }
 
+    /// Whether two runs wait whose walks begin as two seeds say, and the second still does once the first is gone.
+    pub fn lets_two_runs_wait(&self) -> bool {
+        let mut one = self.run(Work::Pend, 1);
+        let mut two = self.run(Work::Pend, 2);
+        let do_both = (self.poll(&mut one) == End::Pending) & (self.poll(&mut two) == End::Pending);
+        drop(one);
+        do_both & (self.poll(&mut two) == End::Pending)
+    }
+
     /// Whether there is no memory for an executor with more places than memory can have.
     pub fn refuses_too_many_places(&self) -> bool {
         let made = TestExecutor::<F, R>::new(self.rt, self.alloc, self.realm, usize::MAX);

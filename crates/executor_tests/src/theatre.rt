@@ -11,7 +11,7 @@ use std::sync::atomic::Ordering::SeqCst;
 use std::test::Fail;
 use std::thread::{self, Threads};
 
-/// What is played, as `act` says. Two are for an executor of either kind: static or not.
+/// What is played, as `act` says. Three are for an executor of either kind: static or not.
 #[derive(Clone, Copy)]
 enum Scene {
     TooMany,
@@ -19,6 +19,7 @@ enum Scene {
     Told,
     NoLock,
     InnerTick,
+    Seeds(bool),
     Ticks(bool),
     Chain(bool),
     Sleep,
@@ -28,6 +29,7 @@ impl Scene {
     /// Whether its executor is static, and how many places that has.
     fn house(self) -> (bool, usize) {
         match self {
+            Scene::Seeds(is_static) => (is_static, 8),
             Scene::Ticks(is_static) => (is_static, 1_000),
             Scene::Chain(is_static) => (is_static, CHAIN as usize),
             _ => (false, 8),
@@ -96,6 +98,7 @@ impl<F: Planned<R>, R: Runtime + Abort> Plays for Company<F, R> {
             (Scene::NoLock, _) => stage.ask_all(),
             (Scene::InnerTick, 0) => stage.tick_when_asked(),
             (Scene::InnerTick, _) => stage.tick_the_first_of_two(),
+            (Scene::Seeds(_), _) => stage.lets_two_runs_wait(),
             (Scene::Ticks(_), _) => stage.tick_until_empty(),
             (Scene::Chain(_), _) => stage.run_until_empty(part as u64),
             (Scene::Sleep, 0) => stage.tick_when_called(&self.slumbering, ROUNDS),
@@ -148,6 +151,8 @@ const SCENES: &[Scene] = &[
     Scene::Told,
     Scene::NoLock,
     Scene::InnerTick,
+    Scene::Seeds(false),
+    Scene::Seeds(true),
     Scene::Ticks(false),
     Scene::Ticks(true),
     Scene::Sleep,

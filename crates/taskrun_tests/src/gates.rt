@@ -56,29 +56,44 @@ fn two_workers_have_two_jobs_at_a_time_and_each_meets_the_gate_once(
     Ok(())
 }
 
-/// Polls a worker once, and is ready: whether the worker waits for a job.
+/// Counts the jobs that meet it.
+#[derive(Default, Drop)]
+struct Met(AtomicU64);
+
+impl Gate for Met {
+    fn meet(&self, _job: u64) {
+        self.0.fetch_add(1, SeqCst);
+    }
+}
+
+/// Polls two workers once, and is ready: whether both wait for a job.
 #[derive(Drop)]
-struct PolledOnce<D: Desk + Drop, R>(Worker<D, R>);
+struct PolledOnce<D: Desk + Drop, R>(Worker<D, R>, Worker<D, R>);
 
 impl<K, D: Awaits<K> + Drop, R: Wait> Future<K> for PolledOnce<D, R> {
     type Output = bool;
 
     fn poll(&mut self, waker: &K) -> Poll<bool> {
-        Poll::Ready(matches!(self.0.poll(waker), Poll::Pending))
+        let first_waits = matches!(self.0.poll(waker), Poll::Pending);
+        let second_waits = matches!(self.1.poll(waker), Poll::Pending);
+        Poll::Ready(first_waits & second_waits)
     }
 }
 
-/// The job that it awaited is cancelled: it is dropped in its queue's turn, and not polled.
+/// The jobs that they awaited are cancelled: each is dropped in its queue's turn, and not polled again. The first needs a thousand
+/// polls, and had two, one by each worker. The second had none.
 #[test]
-fn a_worker_that_is_dropped_gives_its_job_up(rt: HostRuntime) -> Result<(), Fail> {
-    let (alloc, both) = (rt.alloc(), Both::default());
+fn workers_that_are_dropped_give_their_jobs_up(rt: HostRuntime) -> Result<(), Fail> {
+    let (alloc, met) = (rt.alloc(), Met::default());
     let realm = JobRealm::<HostRuntime>::leak(rt, alloc)?;
-    let list = [Job::Sum(1)];
-    let site = Site::new(rt, alloc, realm, &list, &both)?;
-    let worker = Worker::at(rt, alloc, SiteDesk::at(&site));
-    let has_waited = block_on(&rt, alloc, PolledOnce(worker));
-    assert!(rt; matches!(has_waited, Ok(true)));
-    let has_dropped = site.try_tick();
-    assert!(rt; has_dropped & site.is_empty() & (both.first.load(SeqCst) == 0));
+    let list = [Job::Sum(1_000_000), Job::Sum(1)];
+    let site = Site::new(rt, alloc, realm, &list, &met)?;
+    let first = Worker::at(rt, alloc, SiteDesk::at(&site));
+    let second = Worker::at(rt, alloc, SiteDesk::at(&site));
+    let have_waited = block_on(&rt, alloc, PolledOnce(first, second));
+    assert!(rt; matches!(have_waited, Ok(true)));
+    let has_dropped_one = site.try_tick() & !site.is_empty();
+    let has_dropped_both = site.try_tick() & site.is_empty();
+    assert!(rt; has_dropped_one & has_dropped_both & (met.0.load(SeqCst) == 1));
     Ok(())
 }

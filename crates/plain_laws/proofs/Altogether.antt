@@ -1,5 +1,7 @@
 -- Where no future is urgent it takes all futures in order.
-use Rattle.std.proofs.Common.{◌≡◌, ℕ, zero, suc, ◌&&◌, is_some, cond, filter, map, Bool, true, false, List, [], ◌∷◌, ◌++◌, Option, Some}
+use Rattle.std.proofs.lemmas.Bool.Decides.{nat_tests}
+use Rattle.std.proofs.Common.{arith}
+use Rattle.std.proofs.Common.{◌≡◌, ℕ, ◌&&◌, is_some, cond, filter, map, Bool, true, false, List, [], ◌∷◌, ◌++◌, Option, Some}
 use Rattle.std.proofs.Common.{None, slice_get, refl, sym, ap, ◌∙◌}
 use Rattle.executor_parts.specs.declared.mark.Mark.{Mark}
 use Rattle.executor_parts.specs.declared.mark.Mark.TheVariants.{Plain as PlainMark, Urgent}
@@ -25,25 +27,11 @@ filter_as P t s same (x ∷ xs) all =
     ∙ ap (λ l. cond (s x) (x ∷ l) l) (filter_as P t s same xs all.1)
 
 both_so : (b : Bool) (d : Due) → d.mark ≡ PlainMark → (b && same_mark PlainMark d.mark) ≡ b
-both_so b d is = ap (λ m. b && same_mark PlainMark m) is ∙ by b
-  where
-    by : (b : Bool) → (b && true) ≡ b
-    by true = refl
-    by false = refl
+both_so b d is = grind (arith, nat_tests)
 
 module _ {T A : Type 0} where
   abbrev pub ArePlain : List (Future T A) → Type 0
   ArePlain fs = (j : ℕ) (m : Mark) → at has_mark fs j ≡ Some m → m ≡ PlainMark
-
-  plain_so : (x : Future T A) (m : Mark) → same_mark Urgent x.mark ≡ false → Some x.mark ≡ Some m → m ≡ PlainMark
-  plain_so x m is here = by m (ap (same_mark Urgent) (the_same here) ∙ is)
-    where
-      the_same : Some x.mark ≡ Some m → m ≡ x.mark
-      the_same is = cc
-
-      by : (m : Mark) → same_mark Urgent m ≡ false → m ≡ PlainMark
-      by PlainMark is = refl
-      by Urgent is = absurd cc
 
   pub are_plain : (fs : List (Future T A)) → any is_urgent fs ≡ false → ArePlain fs
   are_plain [] none j m is = absurd cc
@@ -51,9 +39,7 @@ module _ {T A : Type 0} where
     where
       by : (b : Bool) → same_mark Urgent x.mark ≡ b → cond b true (any is_urgent fs) ≡ false → (any is_urgent fs ≡ false → ArePlain fs)
           → (j : ℕ) → at has_mark (x ∷ fs) j ≡ Some m → m ≡ PlainMark
-      by true so none rest j is = absurd cc
-      by false so none rest zero is = plain_so x m so is
-      by false so none rest (suc j) is = rest none j m is
+      by b so none rest j is = grind (arith, nat_tests)
 
   of_all : (q : Plain T A) → ArePlain q.futures → (fs : List ℕ) → of_mark PlainMark q fs ≡ fs
   of_all q plain [] = refl
@@ -68,8 +54,7 @@ module _ {T A : Type 0} where
       by (Some x) is = is x.mark refl
 
   pub unkept_so : (q : Plain T A) → Marked q → ArePlain q.futures → filter (is_common PlainMark) q.due ≡ filter is_unkept q.due
-  unkept_so q marked plain =
-      filter_as (IsMarked q) (is_common PlainMark) is_unkept (λ d is. both_so (is_unkept d) d (plain d.future d.mark is)) q.due marked.due
+  unkept_so q marked plain = grind (arith, nat_tests, filter_as, IsMarked, both_so)
 
   line_all : (r : ℕ) (q : Plain T A) → Marked q → ArePlain q.futures → line PlainMark r q.due ≡ whole_line r q.due
   line_all r q marked plain =
@@ -111,7 +96,4 @@ module _ {T A : Type 0} where
     pub all_in_order : (limit : ℕ) (is_static : Bool) (before cs : List (Choice × Call T A))
         → IsAlone wakes r cs (course wakes before (new limit is_static))
         → InWholeOrder wakes r cs (course wakes before (new limit is_static))
-    all_in_order limit is_static before cs alone none =
-        let p = course wakes before (new limit is_static) in
-        in_order_from cs p (are_marked wakes limit is_static before) alone.is_there alone.keeps_alone alone.takes_alone
-        (are_plain (course wakes cs p).futures none)
+    all_in_order limit is_static before cs alone = grind (arith, nat_tests, in_order_from, are_marked, are_plain)

@@ -1,14 +1,14 @@
 -- Only a run that was polled and isn't over keeps futures.
+use Rattle.std.proofs.lemmas.Bool.Decides.{nat_tests}
 use Rattle.std.proofs.Common.{◌≡◌, ℕ, zero, suc, ◌+◌, fold, ◌==◌, not, count_by, cond, filter, Bool, true, false, List, [], ◌∷◌, length}
 use Rattle.std.proofs.Common.{find, Option, Some, None, slice_get, slice_set, refl, sym, subst, ap, ◌∙◌, arith}
 use Rattle.plain_scheduler.specs.State.{ARun, Answer, Choice, Close as Closing, Code, Drop, DropOwn, Due, Lose, Plain, Poll, PollOwn}
-use Rattle.plain_scheduler.specs.State.{Running}
 use Rattle.plain_scheduler.specs.Lists.{any, on, or, repeat, without}
 use Rattle.plain_scheduler.specs.Moves.{answers, appended, given_back, is_kept, mark, runs, tell}
 use Rattle.plain_scheduler.specs.Calls as calls
 use Rattle.plain_scheduler.specs.Calls.{Call, course, does, new}
 use Rattle.plain_laws.specs.Order.{IsOnlyBegun, all_go_idle, goes_idle, is_of_run, is_others, is_over, polls, was_polled}
-use Rattle.plain_laws.proofs.Words.{both_true, filter_both, filter_found, is_itself, nothing_behind, same_number}
+use Rattle.plain_laws.proofs.Words.{both_true, filter_both, filter_found, nothing_behind, same_number}
 use Rattle.plain_laws.proofs.Walk.{Keeps, Lasts, leaves_good, on_good, tell_good}
 use Rattle.plain_laws.proofs.Idle.{Idle, call_idle, none_in}
 use Rattle.plain_laws.proofs.Over.{GoesOn, IsNoEnd, call_on}
@@ -22,15 +22,11 @@ module _ {X : Type 0} (t : X → Bool) where
       with_none a = omega arith
   folded a (x ∷ xs) = folded (a + cond (t x) 1 0) xs ∙ by (t x)
     where
-      one_more : (a l : ℕ) → (a + 1) + l ≡ a + suc l
-      one_more a l = omega arith
-
       no_more : (a l : ℕ) → (a + 0) + l ≡ a + l
       no_more a l = omega arith
 
       by : (b : Bool) → (a + cond b 1 0) + length (filter t xs) ≡ a + length (cond b (x ∷ filter t xs) (filter t xs))
-      by true = one_more a (length (filter t xs))
-      by false = no_more a (length (filter t xs))
+      by b = grind (arith, nat_tests)
 
   pub counted_so : (xs : List X) → count_by t xs ≡ length (filter t xs)
   counted_so xs = folded 0 xs ∙ plain (length (filter t xs))
@@ -47,8 +43,7 @@ module _ {X : Type 0} (t : X → Bool) where
 
       by : (b : Bool) → (length (filter t xs) ≡ 0 → any t xs ≡ false) → length (cond b (x ∷ filter t xs) (filter t xs)) ≡ 0
           → cond b true (any t xs) ≡ false
-      by true rest is = never (length (filter t xs)) is
-      by false rest is = rest is
+      by b rest is = grind (arith, nat_tests)
 
   pub none_there : (xs : List X) → find t xs ≡ None → filter t xs ≡ []
   none_there [] is = refl
@@ -56,12 +51,10 @@ module _ {X : Type 0} (t : X → Bool) where
     where
       by : (b : Bool) → (find t xs ≡ None → filter t xs ≡ []) → cond b (Some x) (find t xs) ≡ None
           → cond b (x ∷ filter t xs) (filter t xs) ≡ []
-      by true rest is = absurd cc
-      by false rest is = rest is
+      by b rest is = grind (arith, nat_tests)
 
 clash : (b : Bool) → b ≡ true → b ≡ false → ⊥
-clash true one two = cc
-clash false one two = cc
+clash b one two = grind (arith, nat_tests)
 
 -- none but r keeps any, if no other does
 none_others : (r : ℕ) (due : List Due) → ((k : ℕ) → (r == k) ≡ false → any (is_kept k) due ≡ false) → any (is_others r) due ≡ false
@@ -71,12 +64,7 @@ none_others r (d ∷ due) none =
     ∙ none_others r due (λ k away. (none_in (is_kept k) d due (none k away)).1)
   where
     by : (o : Option ℕ) → ((k : ℕ) → (r == k) ≡ false → or o (λ j. k == j) false ≡ false) → or o (λ k. not (r == k)) false ≡ false
-    by None none = refl
-    by (Some k) none = this (r == k) refl
-      where
-        this : (b : Bool) → (r == k) ≡ b → not b ≡ false
-        this true so = refl
-        this false so = absurd (clash (k == k) (is_itself k) (none k so))
+    by o none = grind (arith, nat_tests)
 
 less : (a n : ℕ) → suc a ≡ suc n → a ≡ n
 less a n is = omega (arith, is)
@@ -153,26 +141,13 @@ module _ {T A : Type 0} (k : ℕ) where
         (subst (λ i. Keeping 0 (repeat i (λ p. tell wakes c (given_back k p)) q)) (sym (counted_so (is_kept k) p.due)) (all_given n q over))
 
     goes_clear : (answer : Answer T) (p : Plain T A) → any (is_of_run k) p.inside ≡ false → Idle k (answers answer (calls.gone wakes c k p))
-    goes_clear answer p none =
-        let it = gone_clears p none in
-        record { codes = it.codes; kept = none_left (is_kept k) (calls.gone wakes c k p).due it.many }
+    goes_clear answer p none = grind (arith, nat_tests, p, gone_clears, none_left)
 
   on_so : (p : Plain T A) → is_over k p ≡ false → GoesOn k p
-  on_so p is = by (slice_get p.runs k) is
-    where
-      by : (o : Option Running) → or o (λ run. run.is_over) true ≡ false → or o (λ x. Some x.is_over) None ≡ Some false
-      by None is = absurd cc
-      by (Some x) is = ap Some is
+  on_so p is = grind (arith, nat_tests)
 
   not_over : (p : Plain T A) → GoesOn k p → is_over k p ≡ false
-  not_over p is = by (slice_get p.runs k) is
-    where
-      by : (o : Option Running) → or o (λ x. Some x.is_over) None ≡ Some false → or o (λ run. run.is_over) true ≡ false
-      by None is = absurd cc
-      by (Some x) is = the_same is
-        where
-          the_same : Some x.is_over ≡ Some false → x.is_over ≡ false
-          the_same is = cc
+  not_over p is = grind (arith, nat_tests)
 
   abbrev IdleOver : Plain T A → Type 0
   IdleOver p = is_over k p ≡ true → Idle k p
@@ -180,9 +155,7 @@ module _ {T A : Type 0} (k : ℕ) where
 module _ (T A : Type 0) (k : ℕ) (wakes : A → Option ℕ) (c : Choice) where
   -- a call behind which it goes on
   still : (call : Call T A) (p : Plain T A) → IsNoEnd T A k wakes c call p.inside → is_over k p ≡ false → IdleOver k (does wakes c call p)
-  still call p is on_now over =
-      absurd (clash (is_over k (does wakes c call p)) over
-      (not_over k (does wakes c call p) (call_on T A k wakes c call p is (on_so k p on_now))))
+  still call p is on_now = grind (arith, nat_tests, p, clash, not_over, call_on, on_so)
 
   drop_ends : (p : Plain T A) (codes : List (Code T A)) → p.inside ≡ codes → goes_idle {T = T} {A = A} calls.Ends codes ≡ true
       → is_over k p ≡ false → IdleOver k (does wakes c calls.Ends p)
@@ -190,8 +163,7 @@ module _ (T A : Type 0) (k : ℕ) (wakes : A → Option ℕ) (c : Choice) where
   drop_ends p (DropOwn j answer ∷ rest) is idle on_now = by (k == j) refl
     where
       not_any : (b : Bool) → not b ≡ true → b ≡ false
-      not_any true it_is = absurd cc
-      not_any false it_is = refl
+      not_any b it_is = grind (arith, nat_tests)
 
       by : (b : Bool) → (k == j) ≡ b → IdleOver k (does wakes c calls.Ends p)
       by true so =
@@ -221,8 +193,7 @@ module _ (T A : Type 0) (k : ℕ) (wakes : A → Option ℕ) (c : Choice) where
   next_over call p idle before = by (is_over k p) refl
     where
       by : (b : Bool) → is_over k p ≡ b → IdleOver k (does wakes c call p)
-      by true is = λ over. call_idle T A k wakes c call p (λ polled. is) (before is)
-      by false is = goes_on call p idle is
+      by b is = grind (arith, nat_tests, call_idle, p, goes_on)
 
 module _ {T A : Type 0} (wakes : A → Option ℕ) where
   never_polled : (k : ℕ) (cs : List (Choice × Call T A)) (p : Plain T A) → was_polled k cs ≡ false → Idle k p → Idle k (course wakes cs p)
@@ -249,19 +220,16 @@ module _ {T A : Type 0} (wakes : A → Option ℕ) where
       p = course wakes before (new limit is_static)
 
       fresh : (k : ℕ) → Idle k (new {T = T} {A = A} limit is_static)
-      fresh k = record { codes = refl; kept = refl }
+      fresh k = grind (arith, nat_tests)
 
       is_r : (k : ℕ) → (r == k) ≡ false → k ≡ r → ⊥
-      is_r k away same =
-          clash (r == r) (is_itself r) (subst (λ i. (r == i) ≡ false) same away)
+      is_r k away same = grind (arith, nat_tests)
 
       over_too : (k : ℕ) → (r == k) ≡ false → was_polled k before ≡ true → (b : Bool)
           → is_over k (course wakes before (new limit is_static)) ≡ b
           → any (is_kept k) (course wakes before (new limit is_static)).due ≡ false
-      over_too k away polled true so = (idle_over k before (new limit is_static) idle (λ over. fresh k) so).kept
-      over_too k away polled false so = absurd (is_r k away (only k polled so))
+      over_too k away polled b so = grind (arith, nat_tests, idle_over, fresh, is_r)
 
       by : (k : ℕ) → (r == k) ≡ false → (b : Bool) → was_polled k before ≡ b
           → any (is_kept k) (course wakes before (new limit is_static)).due ≡ false
-      by k away false is = (never_polled k before (new limit is_static) is (fresh k)).kept
-      by k away true is = over_too k away is (is_over k (course wakes before (new limit is_static))) refl
+      by k away b is = grind (arith, nat_tests, never_polled, fresh, over_too)

@@ -1,20 +1,22 @@
 -- What lasts so is behind each call, where it is behind each take that the call may come to.
-use Rattle.std.proofs.Common.{◌≡◌, ℕ, nat_lt, cond, Bool, true, false, List, [], ◌∷◌, ◌++◌, length, Option, Some, None, slice_get, refl}
+use Rattle.std.proofs.lemmas.Bool.Decides.{nat_tests}
+use Rattle.std.proofs.Common.{arith}
+use Rattle.std.proofs.Common.{◌≡◌, ℕ, nat_lt, cond, true, false, List, [], ◌∷◌, ◌++◌, length, Option, Some, None, slice_get, refl}
 use Rattle.executor_parts.specs.declared.mark.Mark.{Mark}
 use Rattle.task_moves.specs.AbstractTask as abstract
 use Rattle.task_moves.specs.AbstractTask.{AbstractTask, Left}
-use Rattle.plain_scheduler.specs.State.{Answer, ATick, Cancelled, Choice, Close as Closing, Closed, Code, Done, Drop, DropOwn, Drops, End}
-use Rattle.plain_scheduler.specs.State.{Finished, Full, Future, Gave, Gives, Lose, Loses, Made, No, NoMemory, Pending, Plain, Poll}
+use Rattle.plain_scheduler.specs.State.{Answer, ATick, Choice, Close as Closing, Closed, Code, Done, Drop, DropOwn, Drops, End}
+use Rattle.plain_scheduler.specs.State.{Finished, Full, Future, Gave, Lose, Loses, Made, No, NoMemory, Plain, Poll}
 use Rattle.plain_scheduler.specs.State.{PollOwn, Ready, Run, Taker, Tick, Try, Yes}
 use Rattle.plain_scheduler.specs.Lists.{on, or}
-use Rattle.plain_scheduler.specs.Moves.{answers, appended, becomes, called, changed, copied, enters, leaves, let_go, put, release}
+use Rattle.plain_scheduler.specs.Moves.{answers, appended, becomes, changed, enters, leaves, let_go, put, release}
 use Rattle.plain_scheduler.specs.Moves.{see, task, tell, used, wake}
 use Rattle.plain_scheduler.specs.Takes as takes
 use Rattle.plain_scheduler.specs.Calls as calls
 use Rattle.plain_scheduler.specs.Calls.{Call, does, is_granted, living_from}
 use Rattle.plain_laws.proofs.Words.{last_there}
 use Rattle.plain_laws.proofs.Walk.{Lasts, becomes_good, calls_good, copied_good, each_good, freed_good, given_up_good, goes_good, if_so}
-use Rattle.plain_laws.proofs.Walk.{is_some_so, leaves_good, put_good, release_good, says, tell_good, used_good, wake_good}
+use Rattle.plain_laws.proofs.Walk.{is_some_so, leaves_good, put_good, release_good, tell_good, used_good, wake_good}
 
 -- a try or tick that has taken one takes none behind that
 abbrev pub MayNextOf : {A : Type 0} → (Taker A → Type 0) → Taker A → Type 0
@@ -86,7 +88,7 @@ module _ {T A : Type 0} (wakes : A → Option ℕ) (c : Choice) (Good After : Pl
   Leads f = (p : Plain T A) → Good p → After (f p)
 
   same_good : (p q : Plain T A) → p.futures ≡ q.futures → p.due ≡ q.due → p.runs ≡ q.runs → p.inside ≡ q.inside → Good p → Good q
-  same_good p q one two three four good = ways.lasts.alike p q one two three four good
+  same_good p q one two three four good = grind (arith, nat_tests)
 
   -- a drop begins
   dropping_so : (f : ℕ) (end : End T) (by : Taker A) → MayNext by → Leads (takes.dropping wakes c f end by)
@@ -97,7 +99,7 @@ module _ {T A : Type 0} (wakes : A → Option ℕ) (c : Choice) (Good After : Pl
 
   -- an answer ends it
   says_so : (a : Answer T) → Leads (answers a)
-  says_so a p good = ways.stops (answers a p) (says Good ways.lasts wakes c a p good)
+  says_so a = grind (arith, nat_tests)
 
   next_so : (by : Taker A) → MayNext by → Leads (takes.next wakes c by)
   next_so Try may p good = says_so Yes p good
@@ -107,10 +109,7 @@ module _ {T A : Type 0} (wakes : A → Option ℕ) (c : Choice) (Good After : Pl
       (takes.gives_way wakes c k w p) (ways.take (Run k w) may p good) (ways.gives_way k w may p good)
 
   lost_so : (awaiter : Option A) (by : Option (Taker A)) → MayBy by → Leads (takes.lost wakes c awaiter by)
-  lost_so awaiter None may p good =
-      says_so Done (on awaiter (called wakes tells_so) p) (calls_good Good ways.lasts wakes c awaiter p good)
-  lost_so awaiter (Some by) may p good =
-      next_so by may (on awaiter (called wakes tells_so) p) (calls_good Good ways.lasts wakes c awaiter p good)
+  lost_so awaiter by may = grind (arith, nat_tests, says_so, calls_good, by, next_so)
 
   out_so : (l : Left T A) (by : Option (Taker A)) → MayBy by → Leads (takes.out wakes c l by)
   out_so l by may p good = out l.dropped
@@ -126,7 +125,7 @@ module _ {T A : Type 0} (wakes : A → Option ℕ) (c : Choice) (Good After : Pl
           (same_good p (see (Loses v) p) refl refl refl refl good))
 
   ended_so : (f : ℕ) (l : Left T A) (by : Option (Taker A)) → MayBy by → Leads (takes.ended wakes c f l by)
-  ended_so f l by may p good = out_so l by may (put f l.task p) (put_good Good ways.lasts wakes f l.task p good)
+  ended_so f l by may = grind (arith, nat_tests, by, out_so, put_good)
 
   dropped_so : (f : ℕ) (end : End T) (by : Taker A) → MayNext by → Leads (takes.dropped wakes c f end by)
   dropped_so f end by may p good =
@@ -138,7 +137,7 @@ module _ {T A : Type 0} (wakes : A → Option ℕ) (c : Choice) (Good After : Pl
 
   -- calls
   granted_so : (x p : Plain T A) → After x → Good p → After (cond (is_granted c.refusal) x (answers NoMemory p))
-  granted_so x p one good = if_so After (is_granted c.refusal) x (answers NoMemory p) one (says_so NoMemory p good)
+  granted_so x p one good = grind (arith, nat_tests)
 
   spawn_so : (m : Mark) → Leads (calls.spawn wakes c m)
   spawn_so m p good =
@@ -156,22 +155,10 @@ module _ {T A : Type 0} (wakes : A → Option ℕ) (c : Choice) (Good After : Pl
       (says_so Full p good)
 
   registered_so : (f : ℕ) (w : A) → Leads (calls.registered wakes c f w)
-  registered_so f w p good =
-      let l = abstract.poll w (task f p) in
-      says_so Pending (on l.let_go (let_go wakes tells_so) (put f l.task p))
-      (goes_good Good ways.lasts wakes c l.let_go (put f l.task p) (put_good Good ways.lasts wakes f l.task p good))
+  registered_so f w = grind (arith, nat_tests, says_so, goes_good, put_good)
 
   handle_so : (f : ℕ) (w : A) (e : abstract.Polled T) → Leads (calls.handle_by wakes c f w e)
-  handle_so f w (abstract.Polled.Output v) p good =
-      says_so (Gives v) (put f (abstract.poll w (task f p)).task p)
-      (put_good Good ways.lasts wakes f (abstract.poll w (task f p)).task p good)
-  handle_so f w abstract.Polled.Cancelled p good = says_so Cancelled p good
-  handle_so f w abstract.Polled.Waits p good =
-      granted_so (calls.registered wakes c f w (copied wakes w p)) p
-      (registered_so f w (copied wakes w p) (copied_good Good ways.lasts wakes w p good)) good
-
-  abbrev becoming : (AbstractTask T A → AbstractTask T A) → ℕ → Plain T A → Plain T A
-  becoming op f p = becomes wakes tells_so f (op (task f p)) p
+  handle_so f w e = grind (arith, nat_tests, says_so, put_good, granted_so, registered_so, copied_good)
 
   cancel_good : (f : ℕ) (p : Plain T A) → Good p → Good (calls.cancel wakes c f p)
   cancel_good f p good =
@@ -226,17 +213,12 @@ module _ {T A : Type 0} (wakes : A → Option ℕ) (c : Choice) (Good After : Pl
   innermost_so : (end : Code T A → Plain T A → Plain T A) (May : Code T A → Type 0) → ((code : Code T A) → May code → Leads (end code))
       → (codes : List (Code T A)) → (p : Plain T A) → p.inside ≡ codes → MayInside May codes → Good p
       → After (calls.innermost wakes c codes end p)
-  innermost_so end May leads [] p is may good = ways.stops p good
-  innermost_so end May leads (code ∷ rest) p is may good = leads code may (record p { inside = rest }) (ways.pops code rest p is good)
+  innermost_so end May leads codes p is may good = grind (arith, nat_tests)
 
   over_so : (k : ℕ) (a : Answer T) (code : Code T A) (p : Plain T A)
       → (or (slice_get p.runs k) (λ run. run.is_over) true ≡ false → ways.MayEnter code) → Good p
       → After (cond (or (slice_get p.runs k) (λ run. run.is_over) true) (answers a p) (enters code p))
-  over_so k a code p may good = by (or (slice_get p.runs k) (λ run. run.is_over) true) refl
-    where
-      by : (b : Bool) → or (slice_get p.runs k) (λ run. run.is_over) true ≡ b → After (cond b (answers a p) (enters code p))
-      by true is = says_so a p good
-      by false is = ways.stops (enters code p) (ways.enter code (may is) p good)
+  over_so k a code p may good = grind (arith, nat_tests)
 
   pub call_so : (call : Call T A) (p : Plain T A) → MayCall call p → Good p → After (does wakes c call p)
   call_so (calls.Spawn m) p may good = spawn_so m p good

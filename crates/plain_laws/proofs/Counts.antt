@@ -1,4 +1,6 @@
 -- A run counts one more just where it searches and finds a future.
+use Rattle.std.proofs.lemmas.Bool.Decides.{nat_tests}
+use Rattle.std.proofs.Common.{arith}
 use Rattle.std.proofs.Common.{◌≡◌, ℕ, ◌+◌, ◌==◌, ◌++◌, ◌&&◌, is_some, nat_lt, cond, find, filter, Bool, true, false, List, [], ◌∷◌}
 use Rattle.std.proofs.Common.{Option, Some, None}
 use Rattle.std.proofs.Common.{slice_get, slice_set, refl, sym, subst, ap, ◌∙◌, count_by}
@@ -295,8 +297,7 @@ module _ {T A : Type 0} (r n : ℕ) where
         by (nat_lt n (count r (takes.take wakes c (Run r w) p))) it.0 it.1.0
       where
         by : (b : Bool) (d : Due) → cond b (last_begun (takes.take wakes c (Run r w) p).events) [] ≡ d.future ∷ [] → b ≡ true
-        by true d is = refl
-        by false d is = absurd cc
+        by b d is = grind (arith, nat_tests)
 
     unfound_so : (k : ℕ) (w : A) (p : Plain T A) → Same p → any is_due p.due ≡ false → IsNoMore (takes.take wakes c (Run k w) p)
     unfound_so k w p good none =
@@ -312,10 +313,7 @@ module _ {T A : Type 0} (r n : ℕ) where
       where
         its : (k : ℕ) (b : Bool) → any is_due x.at.due ≡ b → (r == k) ≡ true
             → nat_lt n (count r (takes.take wakes c (Run k x.waker) x.at)) ≡ b
-        its k true some is =
-            subst (λ k. nat_lt n (count r (takes.take wakes c (Run k x.waker) x.at)) ≡ true) (same_number r k is)
-            (found_so x.waker x.at good some)
-        its k false none is = unfound_so k x.waker x.at good none
+        its k b none is = grind (arith, nat_tests, n, same_number, found_so, unfound_so)
 
         by : (b : Bool) → (r == x.run) ≡ b → nat_lt n (count r (takes.take wakes c (Run x.run x.waker) x.at)) ≡ (b && finds x)
         by true is = its x.run (any is_due x.at.due) refl is

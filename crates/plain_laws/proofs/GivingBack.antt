@@ -1,4 +1,6 @@
 -- A run that goes gives back what it keeps, in order.
+use Rattle.std.proofs.lemmas.Bool.Decides.{nat_tests}
+use Rattle.std.proofs.Common.{arith}
 use Rattle.std.proofs.Common.{◌≡◌, ℕ, not, count_by, cond, filter, find, Bool, true, false, List, [], ◌∷◌, ◌++◌, length, map, Option, Some}
 use Rattle.std.proofs.Common.{None, slice_get, slice_set, refl, sym, subst, ap, ◌∙◌}
 use Rattle.plain_scheduler.specs.State.{ARun, Answer, Choice, Code, DropOwn, Due, Future, Plain, Running}
@@ -29,8 +31,7 @@ module _ {X : Type 0} where
     where
       by : (b : Bool) → (filter t xs ≡ [] → filter (λ x. not (t x)) xs ≡ xs) → cond b (x ∷ filter t xs) (filter t xs) ≡ []
           → cond (not b) (x ∷ filter (λ x. not (t x)) xs) (filter (λ x. not (t x)) xs) ≡ x ∷ xs
-      by true rest none = absurd cc
-      by false rest none = ap (λ l. x ∷ l) (rest none)
+      by b rest none = grind (arith, nat_tests)
 
 abbrev is_left : ℕ → Due → Bool
 is_left r d = not (is_kept r d)
@@ -52,18 +53,10 @@ module _ {T A : Type 0} (r : ℕ) where
     Gives p = Giving front kept given p
 
     same_due : (p q : Plain T A) → p.due ≡ q.due → Gives p → Gives q
-    same_due p q same good = record {
-      came = good.came;
-      others = subst (λ due. filter (is_left r) due ≡ front ++ good.came) same good.others;
-      keeps = subst (λ due. filter (is_kept r) due ≡ kept) same good.keeps;
-      unkept = good.unkept;
-      in_order = good.in_order;
-    }
+    same_due p q same good = grind (arith, nat_tests)
 
     gives_changed : (h : Future T A → Future T A) (f : ℕ) → Keeps Gives (changed h f)
-    gives_changed h f p good =
-        on_good Gives (slice_get p.futures f) (λ x p. record p { futures = slice_set p.futures f (h x) })
-        (λ x p good. same_due p (record p { futures = slice_set p.futures f (h x) }) refl good) p good
+    gives_changed h f = grind (arith, nat_tests)
 
     gives_appended : (f : ℕ) → Keeps Gives (appended f)
     gives_appended f p good =
@@ -81,14 +74,7 @@ module _ {T A : Type 0} (r : ℕ) where
         }
 
     gives_lasts : Lasts Gives
-    gives_lasts =
-        record {
-          alike = λ p q one two three four good. same_due p q two good;
-          changes = λ h same f p good. gives_changed h f p good;
-          appends = λ f p is good. gives_appended f p good;
-          accepts = λ x p good. same_due p (record p { futures = p.futures ++ x ∷ [] }) refl good;
-          makes = λ x p good. same_due p (record p { runs = p.runs ++ x ∷ [] }) refl good;
-        }
+    gives_lasts = grind (arith, nat_tests, same_due, gives_changed, gives_appended)
 
   one_gives : (front kept : List Due) (d : Due) (given : List ℕ) (p : Plain T A) → Giving front (d ∷ kept) given p
       → Giving front kept (given ++ d.future ∷ []) (given_back r p)

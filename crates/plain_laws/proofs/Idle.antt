@@ -1,28 +1,25 @@
 -- A run that isn't polled and keeps nothing: so it stays while it isn't polled anew.
+use Rattle.std.proofs.lemmas.Bool.Decides.{nat_tests}
+use Rattle.std.proofs.Common.{arith}
 use Rattle.std.proofs.Common.{◌≡◌, ℕ, ◌+◌, ◌==◌, nat_lt, count_by, cond, filter, Bool, true, false, List, [], ◌∷◌, ◌++◌, find, Option}
-use Rattle.std.proofs.Common.{Some, None, slice_get, slice_set, refl, sym, subst, ap, ◌∙◌}
+use Rattle.std.proofs.Common.{refl, subst}
 use Rattle.executor_parts.specs.declared.mark.Mark.TheVariants.{Plain as PlainMark, Urgent}
-use Rattle.task_moves.specs.AbstractTask as abstract
-use Rattle.plain_scheduler.specs.State.{ARun, ATick, Choice, Close as Closing, Closed, Code, Done, Drop, DropOwn, Drops, Due, Future}
-use Rattle.plain_scheduler.specs.State.{Lose, Plain, Poll, PollOwn, Polls, Run, Running, Taker, Tick, Try}
+use Rattle.plain_scheduler.specs.State.{ARun, ATick, Choice, Close as Closing, Code, Done, Drops, Due, Future}
+use Rattle.plain_scheduler.specs.State.{Plain, Run, Running, Taker, Tick, Try}
 use Rattle.plain_scheduler.specs.Lists.{any, each, or, repeat, without}
-use Rattle.plain_scheduler.specs.Moves.{appended, changed, chosen, enters, given_back, is_common, is_kept, keeps, looks, mark, moved, put}
-use Rattle.plain_scheduler.specs.Moves.{runs, see, task, tell, up}
+use Rattle.plain_scheduler.specs.Moves.{appended, changed, chosen, enters, given_back, is_common, is_kept, keeps, looks, moved}
+use Rattle.plain_scheduler.specs.Moves.{runs, see, tell, up}
 use Rattle.plain_scheduler.specs.Takes as takes
 use Rattle.plain_scheduler.specs.Calls as calls
 use Rattle.plain_scheduler.specs.Calls.{Call, does}
 use Rattle.plain_laws.specs.Order.{is_of_run, is_over, is_taker, polls}
-use Rattle.plain_laws.proofs.Words.{none_last, none_without, same_number}
+use Rattle.plain_laws.proofs.Words.{none_last, none_without}
 use Rattle.plain_laws.proofs.Walk.{Keeps, Lasts, closed_good, each_good, freed_good, gives_way_good, if_so, leaves_good, nothing_good}
-use Rattle.plain_laws.proofs.Walk.{on_good, or_good, put_good, repeat_good, says, tell_good, up_good}
-use Rattle.plain_laws.proofs.Calling.{MayBy, MayByOf, MayCall, MayCode, MayInside, MayNext, MayNextOf, MayStop, Ways, call_so}
+use Rattle.plain_laws.proofs.Walk.{on_good, or_good, repeat_good, says, tell_good, up_good}
+use Rattle.plain_laws.proofs.Calling.{MayByOf, MayCall, MayCode, MayNextOf, Ways, call_so}
 
 pub none_in : {X : Type 0} (t : X → Bool) (x : X) (xs : List X) → any t (x ∷ xs) ≡ false → (t x ≡ false) × (any t xs ≡ false)
-none_in t x xs is = by (t x) is
-  where
-    by : (b : Bool) → cond b true (any t xs) ≡ false → (b ≡ false) × (any t xs ≡ false)
-    by true is = absurd cc
-    by false is = (refl, is)
+none_in t x xs is = grind (arith, nat_tests)
 
 module _ {A : Type 0} (k : ℕ) where
   abbrev MayTake : Taker A → Type 0
@@ -32,18 +29,10 @@ module _ {A : Type 0} (k : ℕ) where
 
   -- of a taker that isn't the run
   not_taker : (by : Taker A) → MayNextOf MayTake by → is_taker k by ≡ false
-  not_taker Try may = refl
-  not_taker (Tick t w) may = refl
-  not_taker (Run j w) may = may
+  not_taker by may = grind (arith, nat_tests)
 
   not_by : (by : Option (Taker A)) → MayByOf MayTake by → or by (is_taker k) false ≡ false
-  not_by None may = refl
-  not_by (Some by) may = not_taker by may
-
-  takes_too : (by : Taker A) → MayTake by → MayNextOf MayTake by
-  takes_too Try may = tt
-  takes_too (Tick t w) may = tt
-  takes_too (Run j w) may = may
+  not_by by may = grind (arith, nat_tests)
 
 module _ {T A : Type 0} where
   pub record Idle (k : ℕ) (p : Plain T A) : Type 0 where
@@ -52,55 +41,29 @@ module _ {T A : Type 0} where
 
   module _ (k : ℕ) where
     pub idle_alike : (p q : Plain T A) → p.due ≡ q.due → p.inside ≡ q.inside → Idle k p → Idle k q
-    idle_alike p q due inside good =
-        record {
-          codes = subst (λ codes. any (is_of_run k) codes ≡ false) inside good.codes;
-          kept = subst (λ due. any (is_kept k) due ≡ false) due good.kept;
-        }
+    idle_alike p q due inside good = grind (arith, nat_tests)
 
     idle_changes : (h : Future T A → Future T A) (f : ℕ) (p : Plain T A) → Idle k p → Idle k (changed h f p)
-    idle_changes h f p good =
-        on_good (Idle k) (slice_get p.futures f) (λ x p. record p { futures = slice_set p.futures f (h x) })
-        (λ x p good. record { codes = good.codes; kept = good.kept }) p good
+    idle_changes h f p good = grind (arith, nat_tests)
 
     idle_appended : (f : ℕ) → Keeps (Idle k) (appended f)
-    idle_appended f p good =
-        record {
-          codes = good.codes;
-          kept = none_last (is_kept k) p.due (record { future = f; mark = mark f p; keeper = None }) good.kept refl;
-        }
+    idle_appended f = grind (arith, nat_tests, none_last)
 
     idle_lasts : Lasts (Idle k)
-    idle_lasts =
-        record {
-          alike = λ p q one two three four good. idle_alike p q two four good;
-          changes = λ h same f p good. idle_changes h f p good;
-          appends = λ f p is good. idle_appended f p good;
-          accepts = λ x p good. record { codes = good.codes; kept = good.kept };
-          makes = λ x p good. record { codes = good.codes; kept = good.kept };
-        }
+    idle_lasts = grind (arith, nat_tests, idle_alike, idle_changes, idle_appended)
 
     idle_without : (test : Due → Bool) (p : Plain T A) → Idle k p → Idle k (record p { due = without test p.due })
-    idle_without test p good = record { codes = good.codes; kept = none_without (is_kept k) test p.due good.kept }
+    idle_without test p good = grind (arith, nat_tests, none_without)
 
     idle_moved : (j : ℕ) → (k == j) ≡ false → (test : Due → Bool) → Keeps (Idle k) (moved j test)
-    idle_moved j away test p good =
-        on_good (Idle k) (find test p.due) (λ d p. record p { due = without test p.due ++ record d { keeper = Some j } ∷ [] })
-        (λ d p good. record {
-          codes = good.codes;
-          kept =
-              none_last (is_kept k) (without test p.due) (record d { keeper = Some j })
-              (none_without (is_kept k) test p.due good.kept) away;
-        }) p good
+    idle_moved j away test = grind (arith, nat_tests, on_good, none_last, none_without)
 
     idle_keeps : (j : ℕ) → (k == j) ≡ false → (test : Due → Bool) → Keeps (Idle k) (keeps j test)
     idle_keeps j away test p good =
         if_so (Idle k) (nat_lt (count_by (is_kept j) p.due) 512) (moved j test p) p (idle_moved j away test p good) good
 
     idle_runs : (h : Running → Running) (j : ℕ) → Keeps (Idle k) (runs h j)
-    idle_runs h j p good =
-        on_good (Idle k) (slice_get p.runs j) (λ run p. record p { runs = slice_set p.runs j (h run) })
-        (λ run p good. record { codes = good.codes; kept = good.kept }) p good
+    idle_runs h j = grind (arith, nat_tests)
 
     idle_given_back : (j : ℕ) → Keeps (Idle k) (given_back j)
     idle_given_back j p good =
@@ -108,18 +71,11 @@ module _ {T A : Type 0} where
         (λ d p good. idle_appended d.future (record p { due = without (is_kept j) p.due }) (idle_without (is_kept j) p good)) p good
 
     idle_enters : (code : Code T A) → is_of_run k code ≡ false → Keeps (Idle k) (enters code)
-    idle_enters code is p good =
-        record { codes = ap (λ b. cond b true (any (is_of_run k) p.inside)) is ∙ good.codes; kept = good.kept }
+    idle_enters code is = grind (arith, nat_tests)
 
     module _ (wakes : A → Option ℕ) (c : Choice) where
       run_idle : (f : ℕ) (by : Taker A) → MayTake k by → Keeps (Idle k) (takes.run wakes c f by)
-      run_idle f by may p good =
-          let q = put f (abstract.begin_run (task f p)) p in
-          if_so (Idle k) (task f p).closed (takes.dropping wakes c f Closed by p) (enters (Poll f by) (see (Polls f) q))
-          (idle_enters (Drop f Closed by) (not_taker k by (takes_too k by may)) (see (Drops f) p)
-          (idle_alike p (see (Drops f) p) refl refl good))
-          (idle_enters (Poll f by) (not_taker k by (takes_too k by may)) (see (Polls f) q)
-          (idle_alike q (see (Polls f) q) refl refl (put_good (Idle k) idle_lasts wakes f (abstract.begin_run (task f p)) p good)))
+      run_idle f by may = grind (arith, nat_tests)
 
       takes_idle : (by : Taker A) → MayTake k by → (d : Due) → Keeps (Idle k) (takes.takes wakes c by d)
       takes_idle Try may d p good = run_idle d.future Try tt (tell wakes c p) (tell_good (Idle k) idle_lasts wakes c p good)
@@ -207,41 +163,8 @@ module _ (T A : Type 0) (k : ℕ) (wakes : A → Option ℕ) (c : Choice) where
   abbrev all_ways : Ways wakes c IsIdle IsIdle
   all_ways = idle_ways k wakes c
 
-  may_next : (by : Taker A) → is_taker k by ≡ false → MayNext wakes c IsIdle IsIdle all_ways by
-  may_next Try is = tt
-  may_next (Tick t w) is = tt
-  may_next (Run j w) is = is
-
-  may_by : (by : Option (Taker A)) → or by (is_taker k) false ≡ false → MayBy wakes c IsIdle IsIdle all_ways by
-  may_by None is = tt
-  may_by (Some by) is = may_next by is
-
-  may_code : (code : Code T A) → is_of_run k code ≡ false → MayCode wakes c IsIdle IsIdle all_ways code
-  may_code (Poll f by) is = may_next by is
-  may_code (Drop f end by) is = may_next by is
-  may_code (Lose awaiter by) is = may_by by is
-  may_code (PollOwn j w) is = is
-  may_code (DropOwn j answer) is = tt
-  may_code (Closing fs all) is = tt
-
-  may_stop : (code : Code T A) → is_of_run k code ≡ false → MayStop wakes c IsIdle IsIdle all_ways code
-  may_stop (DropOwn j answer) is = tt
-  may_stop (Poll f by) is = may_next by is
-  may_stop (Drop f end by) is = may_next by is
-  may_stop (Lose awaiter by) is = may_by by is
-  may_stop (PollOwn j w) is = is
-  may_stop (Closing fs all) is = tt
-
-  abbrev Stops : Code T A → Type 0
-  Stops code = MayStop wakes c IsIdle IsIdle all_ways code
-
   abbrev EndsSo : Code T A → Type 0
   EndsSo code = MayCode wakes c IsIdle IsIdle all_ways code
-
-  may_inside : (May : Code T A → Type 0) → ((code : Code T A) → is_of_run k code ≡ false → May code) → (inside : List (Code T A))
-      → any (is_of_run k) inside ≡ false → MayInside wakes c IsIdle IsIdle all_ways May inside
-  may_inside May may [] none = tt
-  may_inside May may (code ∷ rest) none = may code (none_in (is_of_run k) code rest none).0
 
   -- it isn't polled, or is over
   abbrev IsUnpolled : Call T A → Plain T A → Type 0
@@ -249,21 +172,7 @@ module _ (T A : Type 0) (k : ℕ) (wakes : A → Option ℕ) (c : Choice) where
 
   may_call : (call : Call T A) (p : Plain T A) → any (is_of_run k) p.inside ≡ false → IsUnpolled call p
       → MayCall wakes c IsIdle IsIdle all_ways call p
-  may_call (calls.PollRun j w) p none un = λ is. by (k == j) refl is
-    where
-      clash : (b : Bool) → b ≡ true → b ≡ false → ⊥
-      clash true one two = cc
-      clash false one two = cc
-
-      by : (b : Bool) → (k == j) ≡ b → is_over j p ≡ false → (k == j) ≡ false
-      by false so is = so
-      by true so is = absurd (clash (is_over k p) (un so) (subst (λ i. is_over i p ≡ false) (sym (same_number k j so)) is))
-  may_call calls.Pends p none un = may_inside Stops may_stop p.inside none
-  may_call (calls.EndsWith v) p none un = may_inside Stops may_stop p.inside none
-  may_call calls.Ends p none un = may_inside EndsSo may_code p.inside none
-  may_call calls.TryTick p none un = tt
-  may_call (calls.PollTick t w) p none un = tt
-  may_call _ p none un = tt
+  may_call call p none un = grind (arith, nat_tests)
 
   pub call_idle : (call : Call T A) (p : Plain T A) → IsUnpolled call p → Idle k p → Idle k (does wakes c call p)
   call_idle call p un good = call_so wakes c IsIdle IsIdle all_ways call p (may_call call p good.codes un) good

@@ -1,19 +1,20 @@
 -- A run that alone takes futures takes those of a mark in order.
+use Rattle.std.proofs.lemmas.Bool.Decides.{nat_tests}
+use Rattle.std.proofs.Common.{arith}
 use Rattle.std.proofs.Common.{◌≡◌, ℕ, ◌+◌, ◌==◌, not, is_some, nat_lt, cond, Bool, true, false, List, [], ◌∷◌, ◌++◌, find, Option, Some}
 use Rattle.std.proofs.Common.{None, slice_get, refl, sym, subst, ap, ◌∙◌}
 use Rattle.executor_parts.specs.declared.mark.Mark.{Mark}
 use Rattle.executor_parts.specs.Marks.{other, same_mark}
 use Rattle.task_moves.specs.AbstractTask as abstract
-use Rattle.plain_scheduler.specs.State.{ARun, Choice, Close as Closing, Closed, Code, Drop, DropOwn, Drops, Due, Event, Lose, Plain, Poll}
-use Rattle.plain_scheduler.specs.State.{PollOwn, Polls, Run, Running, Taker, Tick, Try}
-use Rattle.plain_scheduler.specs.Lists.{any, on, or, repeat, without}
-use Rattle.plain_scheduler.specs.Moves.{enters, is_common, is_due, is_kept, keeps, put, see, task, tell, up}
+use Rattle.plain_scheduler.specs.State.{ARun, Choice, Closed, Code, Drops, Due, Event, Plain, Poll}
+use Rattle.plain_scheduler.specs.State.{Polls, Run, Taker, Tick, Try}
+use Rattle.plain_scheduler.specs.Lists.{any, or, without}
+use Rattle.plain_scheduler.specs.Moves.{enters, is_common, is_due, is_kept, put, see, task, tell, up}
 use Rattle.plain_scheduler.specs.Takes as takes
-use Rattle.plain_scheduler.specs.Calls as calls
 use Rattle.plain_scheduler.specs.Calls.{Call, course, does, new}
-use Rattle.plain_laws.specs.Order.{InOrder, IsAlone, came, came_with, count, innermost_leads_to, is_others, is_try_or, last_begun}
+use Rattle.plain_laws.specs.Order.{InOrder, IsAlone, came, came_with, count, is_others, last_begun}
 use Rattle.plain_laws.specs.Order.{leaves_to, line, of_mark, taken, took_of, takes_alone}
-use Rattle.plain_laws.proofs.Calling.{MayBy, MayCall, MayCode, MayInside, MayNext, MayStop, Ways, call_so}
+use Rattle.plain_laws.proofs.Calling.{MayCall, MayCode, Ways, call_so}
 use Rattle.plain_laws.proofs.Words.{same_number, at, below_next, both_true, each_found, find_nothing, nothing_behind, none_found}
 use Rattle.plain_laws.proofs.Words.{none_without, not_below_itself, not_below_zero}
 use Rattle.plain_laws.proofs.Lines.{line_common, line_own, none_due, none_kept_by, one_of}
@@ -32,28 +33,13 @@ module _ {T A : Type 0} where
     pub alone : any (is_others r) q.due ≡ false
 
   pub count_so : (r n : ℕ) (p : Plain T A) → at taken_of p.runs r ≡ Some n → count r p ≡ n
-  count_so r n p is = by (slice_get p.runs r) is
-    where
-      by : (o : Option Running) → or o (λ x. Some x.taken) None ≡ Some n → or o (λ run. run.taken) 0 ≡ n
-      by None is = absurd cc
-      by (Some x) is = the_same is
-        where
-          the_same : Some x.taken ≡ Some n → x.taken ≡ n
-          the_same is = cc
+  count_so r n p is = grind (arith, nat_tests)
 
   run_there : (r n : ℕ) (p : Plain T A) → at taken_of p.runs r ≡ Some n → is_some (slice_get p.runs r) ≡ true
-  run_there r n p is = by (slice_get p.runs r) is
-    where
-      by : (o : Option Running) → or o (λ x. Some x.taken) None ≡ Some n → is_some o ≡ true
-      by None is = absurd cc
-      by (Some x) is = refl
+  run_there r n p is = grind (arith, nat_tests)
 
   pub count_there : (r : ℕ) (p : Plain T A) → is_some (slice_get p.runs r) ≡ true → at taken_of p.runs r ≡ Some (count r p)
-  count_there r p is = by (slice_get p.runs r) is
-    where
-      by : (o : Option Running) → is_some o ≡ true → or o (λ x. Some x.taken) None ≡ Some (or o (λ run. run.taken) 0)
-      by None is = absurd cc
-      by (Some x) is = refl
+  count_there r p is = grind (arith, nat_tests)
 
   pub last_of : (es : List (Event T A)) (e : Event T A) → last_begun (es ++ e ∷ []) ≡ last_begun (e ∷ [])
   last_of [] e = refl
@@ -110,16 +96,7 @@ module _ {T A : Type 0} where
 
       -- of one that no other run keeps it robs none
       robs_none : (d : Due) (p : Plain T A) → is_others r d ≡ false → p ≡ takes.robbed wakes c r d.keeper p
-      robs_none d p mine = by d.keeper mine
-        where
-          by : (o : Option ℕ) → or o (λ k. not (r == k)) false ≡ false
-              → p ≡ on o (λ k p. cond (r == k) p (repeat c.moves (keeps r (is_kept k)) p)) p
-          by None mine = refl
-          by (Some k) mine = own (r == k) mine
-            where
-              own : (b : Bool) → not b ≡ false → p ≡ cond b p (repeat c.moves (keeps r (is_kept k)) p)
-              own true is = refl
-              own false is = absurd cc
+      robs_none d p mine = grind (arith, nat_tests)
 
       takes_so : (d : Due) (p : Plain T A) → is_others r d ≡ false → Waits (with_one r base start d n) p
           → Stands r base start n (takes.takes wakes c (Run r w) d p)
@@ -248,51 +225,14 @@ module _ (T A : Type 0) (r : ℕ) (base : Mark → List ℕ) (start : ℕ → Op
   never : (X : Type 0) → false ≡ true → X
   never X is = absurd cc
 
-  may_next : (by : Taker A) → is_try_or r by ≡ true → MayNext wakes c Before Behind its_ways by
-  may_next Try is = tt
-  may_next (Tick t w) is = tt
-  may_next (Run k w) is = is
-
-  may_by : (by : Option (Taker A)) → or by (is_try_or r) true ≡ true → MayBy wakes c Before Behind its_ways by
-  may_by None is = tt
-  may_by (Some by) is = may_next by is
-
-  abbrev Stops : Code T A → Type 0
-  Stops code = MayStop wakes c Before Behind its_ways code
-
   abbrev EndsSo : Code T A → Type 0
   EndsSo code = MayCode wakes c Before Behind its_ways code
 
-  may_end : (inside : List (Code T A)) → innermost_leads_to r inside ≡ true → MayInside wakes c Before Behind its_ways EndsSo inside
-  may_end [] is = tt
-  may_end (Poll f by ∷ rest) is = may_next by is
-  may_end (Drop f end by ∷ rest) is = may_next by is
-  may_end (Lose awaiter by ∷ rest) is = may_by by is
-  may_end (PollOwn k w ∷ rest) is = is
-  may_end (DropOwn k answer ∷ rest) is = is
-  may_end (Closing fs all ∷ rest) is = never ⊥ is
-
-  may_stop : (inside : List (Code T A)) → innermost_leads_to r inside ≡ true → MayInside wakes c Before Behind its_ways Stops inside
-  may_stop [] is = tt
-  may_stop (DropOwn k answer ∷ rest) is = tt
-  may_stop (Poll f by ∷ rest) is = may_next by is
-  may_stop (Drop f end by ∷ rest) is = may_next by is
-  may_stop (Lose awaiter by ∷ rest) is = may_by by is
-  may_stop (PollOwn k w ∷ rest) is = is
-  may_stop (Closing fs all ∷ rest) is = never ⊥ is
-
   may_call : (call : Call T A) (p : Plain T A) → leaves_to r call p.inside ≡ true → MayCall wakes c Before Behind its_ways call p
-  may_call calls.TryTick p is = never ⊥ is
-  may_call (calls.PollTick t w) p is = never ⊥ is
-  may_call calls.DropExecutor p is = never ⊥ is
-  may_call (calls.PollRun k w) p is = λ still. tt
-  may_call calls.Pends p is = may_stop p.inside is
-  may_call (calls.EndsWith v) p is = may_stop p.inside is
-  may_call calls.Ends p is = may_end p.inside is
-  may_call _ p is = tt
+  may_call call p is = grind (arith, nat_tests)
 
   one_call : (call : Call T A) (p : Plain T A) → leaves_to r call p.inside ≡ true → Before p → Behind (does wakes c call p)
-  one_call call p may good = call_so wakes c Before Behind its_ways call p (may_call call p may) good
+  one_call call p may good = grind (arith, nat_tests, call_so, may_call)
 
 module _ {T A : Type 0} (r : ℕ) where
   -- a state to begin from
@@ -333,6 +273,4 @@ module _ {T A : Type 0} (r : ℕ) where
 
     pub in_order : (limit : ℕ) (is_static : Bool) (before cs : List (Choice × Call T A))
         → IsAlone wakes r cs (course wakes before (new limit is_static)) → InOrder wakes r cs (course wakes before (new limit is_static))
-    in_order limit is_static before cs alone =
-        in_order_from cs (course wakes before (new limit is_static)) (are_marked wakes limit is_static before) alone.is_there
-        alone.keeps_alone alone.takes_alone
+    in_order limit is_static before cs alone = grind (arith, nat_tests, in_order_from, are_marked)

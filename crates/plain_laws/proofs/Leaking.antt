@@ -1,15 +1,15 @@
 -- A leak appends idle futures in the order of spawning, where nobody lies.
-use Rattle.std.proofs.Common.{◌≡◌, ℕ, zero, suc, ◌<◌, ◌==◌, ◌&&◌, not, min, ◌-◌, cond, filter, Bool, true, false, List, [], ◌∷◌, ◌++◌}
+use Rattle.std.proofs.Common.{◌≡◌, ℕ, zero, suc, ◌<◌, ◌==◌, ◌&&◌, not, ◌-◌, cond, filter, Bool, true, false, List, [], ◌∷◌, ◌++◌}
 use Rattle.std.proofs.Common.{length}
-use Rattle.std.proofs.Common.{map, Option, Some, None, is_some, slice_get, slice_set, refl, sym, subst, ap, ◌∙◌, arith}
+use Rattle.std.proofs.Common.{map, Option, None, is_some, slice_get, slice_set, refl, sym, ap, ◌∙◌, arith}
 use Rattle.std.proofs.lemmas.Bool.Decides.{nat_tests}
 use Rattle.executor_parts.specs.declared.mark.Mark.TheVariants.{Plain as PlainMark}
 use Rattle.task_moves.specs.AbstractTask as abstract
 use Rattle.task_moves.specs.AbstractTask.{AbstractTask, Phase, is_idle}
 use Rattle.task_moves.specs.AbstractTask.Phase.{Finished, Idle, Polling, PollingWoken, Queued}
-use Rattle.task_moves.specs.LocalTask.{info_from, info_of, told}
-use Rattle.plain_scheduler.specs.State.{Choice, Due, Future, Lying, Plain}
-use Rattle.plain_scheduler.specs.Lists.{any, each, on, or}
+use Rattle.task_moves.specs.LocalTask.{info_of, told}
+use Rattle.plain_scheduler.specs.State.{Choice, Due, Future, Plain}
+use Rattle.plain_scheduler.specs.Lists.{each, on, or}
 use Rattle.plain_scheduler.specs.Moves.{appended, called, changed, is_called, mark, no_task, put, task, tell, told_at}
 use Rattle.plain_scheduler.specs.Moves as moves
 use Rattle.plain_scheduler.specs.Calls as calls
@@ -37,41 +37,18 @@ module _ {T A : Type 0} where
   is_open_idle t = is_idle t.phase && not t.closed
 
   no_news : (old new : AbstractTask T A) → new.infos ≡ old.infos → is_some (info_of old new) ≡ false
-  no_news old new same =
-      ap (λ (xs : List Bool). is_some (info_from (slice_get xs (length old.infos)))) same
-      ∙ ap (λ o. is_some (info_from o)) (nothing_past old.infos)
+  no_news old new same = grind (arith, nat_tests, nothing_past)
 
   -- a wake queues what is open and idle
   woken_so : (t : AbstractTask T A) → is_some (info_of t (abstract.wake t)) ≡ is_open_idle t
   woken_so t = by t.closed t.phase
     where
       by : (b : Bool) (ph : Phase) → is_some (info_of t (cond b t (abstract.wake_open ph t))) ≡ (is_idle ph && not b)
-      by true Idle = no_news t t refl
-      by true Queued = no_news t t refl
-      by true Polling = no_news t t refl
-      by true PollingWoken = no_news t t refl
-      by true Finished = no_news t t refl
-      by false Idle = ap (λ o. is_some (info_from o)) (last_there t.infos false)
-      by false Queued = no_news t t refl
-      by false Polling = no_news t (record t { phase = PollingWoken }) refl
-      by false PollingWoken = no_news t t refl
-      by false Finished = no_news t t refl
+      by b ph = grind (arith, nat_tests, no_news, last_there)
 
   -- then it isn't both
   busy_so : (t : AbstractTask T A) → is_open_idle (abstract.wake t) ≡ false
-  busy_so t = by t.closed refl t.phase refl
-    where
-      by : (b : Bool) → t.closed ≡ b → (ph : Phase) → t.phase ≡ ph → is_open_idle (cond b t (abstract.wake_open ph t)) ≡ false
-      by true shut Idle is = ap (λ ph. is_idle ph && not t.closed) is ∙ ap not shut
-      by true shut Queued is = ap (λ ph. is_idle ph && not t.closed) is
-      by true shut Polling is = ap (λ ph. is_idle ph && not t.closed) is
-      by true shut PollingWoken is = ap (λ ph. is_idle ph && not t.closed) is
-      by true shut Finished is = ap (λ ph. is_idle ph && not t.closed) is
-      by false shut Idle is = refl
-      by false shut Queued is = ap (λ ph. is_idle ph && not t.closed) is
-      by false shut Polling is = refl
-      by false shut PollingWoken is = ap (λ ph. is_idle ph && not t.closed) is
-      by false shut Finished is = ap (λ ph. is_idle ph && not t.closed) is
+  busy_so t = grind (arith, nat_tests)
 
   -- and a waker that goes queues nothing
   released_so : (t : AbstractTask T A) → is_open_idle t ≡ false → is_some (info_of t (abstract.release t)) ≡ false
@@ -82,9 +59,7 @@ module _ {T A : Type 0} where
 
       by : (a b : Bool) → (a && b) ≡ false
           → is_some (info_of t (cond (a && (b && (not t.handle && (t.wakers - 1 == 0)))) (abstract.close less) less)) ≡ false
-      by true true is = absurd cc
-      by true false is = no_news t less refl
-      by false b is = no_news t less refl
+      by a b is = grind (arith, nat_tests, no_news, less)
 
 -- each stands there once
 abbrev Apart : List ℕ → Type 0
@@ -92,34 +67,12 @@ Apart [] = Unit {0}
 Apart (f ∷ fs) = Each (λ g. (f == g) ≡ false) fs × Apart fs
 
 module _ {T A : Type 0} (wakes : A → Option ℕ) (c : Choice) where
-  -- nobody is told where nobody lies
-  tells_none : (p : Plain T A) → p.lying ≡ [] → tell wakes c p ≡ p
-  tells_none p none =
-      ap
-      (λ (ls : List (Lying A)).
-      cond (any is_called ls) p
-      (on (slice_get ls (min c.tells (length ls - 1)))
-      (λ l p.
-      on l.waker (called wakes (λ s. s))
-      (record p { lying = slice_set p.lying (min c.tells (length ls - 1)) (record l { waker = None }) }))
-      p)) none
-
   module _ (f : ℕ) (new : AbstractTask T A) (p : Plain T A) where
     put_due : (put f new p).due ≡ p.due
-    put_due = by (slice_get p.futures f)
-      where
-        by : (o : Option (Future T A))
-            → (on o (λ x p. record p { futures = slice_set p.futures f (record x { task = told new }) }) p).due ≡ p.due
-        by None = refl
-        by (Some x) = refl
+    put_due = grind (arith, nat_tests)
 
     put_lying : (put f new p).lying ≡ p.lying
-    put_lying = by (slice_get p.futures f)
-      where
-        by : (o : Option (Future T A))
-            → (on o (λ x p. record p { futures = slice_set p.futures f (record x { task = told new }) }) p).lying ≡ p.lying
-        by None = refl
-        by (Some x) = refl
+    put_lying = grind (arith, nat_tests)
 
     put_elsewhere : (g : ℕ) → (f == g) ≡ false → slice_get (put f new p).futures g ≡ slice_get p.futures g
     put_elsewhere g apart = by (slice_get p.futures f)
@@ -127,30 +80,21 @@ module _ {T A : Type 0} (wakes : A → Option ℕ) (c : Choice) where
         by : (o : Option (Future T A))
             → slice_get (on o (λ x p. record p { futures = slice_set p.futures f (record x { task = told new }) }) p).futures g
             ≡ slice_get p.futures g
-        by None = refl
-        by (Some x) = set_elsewhere p.futures f (record x { task = told new }) g apart
+        by o = grind (arith, nat_tests, set_elsewhere)
 
     put_mark : mark f (put f new p) ≡ mark f p
     put_mark = by (slice_get p.futures f) refl
       where
         by : (o : Option (Future T A)) → slice_get p.futures f ≡ o
             → mark f (on o (λ x p. record p { futures = slice_set p.futures f (record x { task = told new }) }) p) ≡ mark f p
-        by None is = refl
-        by (Some x) is =
-            ap (λ o. or o (λ (x : Future T A). x.mark) PlainMark)
-            (set_there p.futures f (record x { task = told new }) (ap is_some is))
-            ∙ sym (ap (λ o. or o (λ (x : Future T A). x.mark) PlainMark) is)
+        by o is = grind (arith, nat_tests, set_there)
 
     put_busy : is_open_idle new ≡ false → is_open_idle (task f (put f new p)) ≡ false
     put_busy busy = by (slice_get p.futures f) refl
       where
         by : (o : Option (Future T A)) → slice_get p.futures f ≡ o
             → is_open_idle (task f (on o (λ x p. record p { futures = slice_set p.futures f (record x { task = told new }) }) p)) ≡ false
-        by None is = ap (λ o. is_open_idle (or o (λ (x : Future T A). x.task) no_task)) is
-        by (Some x) is =
-            ap (λ o. is_open_idle (or o (λ (x : Future T A). x.task) no_task))
-            (set_there p.futures f (record x { task = told new }) (ap is_some is))
-            ∙ busy
+        by o is = grind (arith, nat_tests, set_there)
 
   -- one future
   record Freed (f : ℕ) (p q : Plain T A) : Type 0 where
@@ -160,10 +104,7 @@ module _ {T A : Type 0} (wakes : A → Option ℕ) (c : Choice) where
 
   becomes_so : (f : ℕ) (new : AbstractTask T A) (p : Plain T A) → p.lying ≡ [] → (b : Bool) → is_some (info_of (task f p) new) ≡ b
       → moves.becomes wakes (tell wakes c) f new p ≡ cond b (appended f (put f new p)) (put f new p)
-  becomes_so f new p none true is =
-      ap (λ b. cond b (tell wakes c (appended f (put f new p))) (put f new p)) is
-      ∙ tells_none (appended f (put f new p)) (put_lying f new p ∙ none)
-  becomes_so f new p none false is = ap (λ b. cond b (tell wakes c (appended f (put f new p))) (put f new p)) is
+  becomes_so f new p none b is = grind (arith, nat_tests)
 
   wake_freed : (f : ℕ) (p : Plain T A) → p.lying ≡ [] → (b : Bool) → is_open_idle (task f p) ≡ b
       → let new = abstract.wake (task f p) in
@@ -187,20 +128,7 @@ module _ {T A : Type 0} (wakes : A → Option ℕ) (c : Choice) where
       )
 
   freed_so : (f : ℕ) (p : Plain T A) → p.lying ≡ [] → Freed f p (calls.freed wakes c f p)
-  freed_so f p none =
-      let new = abstract.wake (task f p) in
-      let idle = is_open_idle (task f p) in
-      let q : Plain T A = cond idle (appended f (put f new p)) (put f new p) in
-      let it = wake_freed f p none idle refl in
-      let last = abstract.release (task f q) in
-      subst (Freed f p)
-      (sym (ap (λ (q : Plain T A). moves.release wakes (tell wakes c) f q) (becomes_so f new p none idle (woken_so (task f p)))
-      ∙ becomes_so f last q it.0 false (released_so (task f q) it.2)))
-      (record {
-        lying = put_lying f last q ∙ it.0;
-        due = put_due f last q ∙ it.1;
-        elsewhere = λ g apart. put_elsewhere f last q g apart ∙ it.3 g apart;
-      })
+  freed_so f p none = grind (arith, nat_tests, wake_freed, becomes_so, woken_so, released_so, put_lying, put_due, put_elsewhere)
 
   abbrev coming : Plain T A → List ℕ → List Due
   coming p fs = map (unkept p) (filter (waits_idle p) fs)
@@ -241,8 +169,7 @@ module _ {T A : Type 0} (wakes : A → Option ℕ) (c : Choice) where
     where
       by : (b : Bool) → (p.due ++ cond b (unkept p f ∷ []) []) ++ coming p fs
           ≡ p.due ++ map (unkept p) (cond b (f ∷ filter (waits_idle p) fs) (filter (waits_idle p) fs))
-      by true = assoc p.due (unkept p f ∷ []) (coming p fs)
-      by false = ap (λ l. l ++ coming p fs) (nothing_behind p.due)
+      by b = grind (arith, nat_tests, assoc, nothing_behind)
 
   -- the numbers of futures stand apart
   all_above : (n m : ℕ) → n < m → (xs : List (Future T A)) → Each (λ g. (n == g) ≡ false) (living_from m xs)
@@ -251,8 +178,7 @@ module _ {T A : Type 0} (wakes : A → Option ℕ) (c : Choice) where
     where
       by : (b : Bool) → Each (λ g. (n == g) ≡ false) (living_from (suc m) xs)
           → Each (λ g. (n == g) ≡ false) (cond b (living_from (suc m) xs) (m ∷ living_from (suc m) xs))
-      by true rest = rest
-      by false rest = (grind (arith, less, nat_tests), rest)
+      by b rest = grind (arith, nat_tests)
 
   living_apart : (n : ℕ) (xs : List (Future T A)) → Apart (living_from n xs)
   living_apart n [] = tt
@@ -264,5 +190,4 @@ module _ {T A : Type 0} (wakes : A → Option ℕ) (c : Choice) where
 
   pub leaks_so : (p : Plain T A) → p.lying ≡ []
       → (does wakes c calls.Leak p).due ≡ p.due ++ map (unkept p) (filter (waits_idle p) (living_from 0 p.futures))
-  leaks_so p none =
-      all_freed (living_from 0 p.futures) (living_apart 0 p.futures) (record p { is_static = true }) none
+  leaks_so p none = grind (arith, nat_tests, all_freed, living_apart)

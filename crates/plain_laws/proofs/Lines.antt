@@ -1,15 +1,14 @@
 -- Which futures wait for a run, where one is appended, kept or taken.
-use Rattle.std.proofs.Common.{◌≡◌, ℕ, ◌==◌, ◌&&◌, not, is_some, cond, Bool, true, false, List, [], ◌∷◌, ◌++◌, map, filter, find, Option}
-use Rattle.std.proofs.Common.{Some, None, refl, sym, subst, ap, ◌∙◌, arith}
+use Rattle.std.proofs.Common.{◌≡◌, ℕ, ◌==◌, ◌&&◌, not, cond, Bool, true, false, List, [], ◌∷◌, ◌++◌, map, filter, find}
+use Rattle.std.proofs.Common.{Some, None, refl, sym, ap, ◌∙◌, arith}
 use Rattle.std.proofs.lemmas.Bool.Decides.{nat_tests}
 use Rattle.executor_parts.specs.declared.mark.Mark.{Mark}
-use Rattle.executor_parts.specs.declared.mark.Mark.TheVariants.{Plain as PlainMark, Urgent}
 use Rattle.executor_parts.specs.Marks.{other, same_mark}
 use Rattle.plain_scheduler.specs.State.{Due}
-use Rattle.plain_scheduler.specs.Lists.{any, or, without}
+use Rattle.plain_scheduler.specs.Lists.{any, without}
 use Rattle.plain_scheduler.specs.Moves.{is_common, is_due, is_kept}
 use Rattle.plain_laws.specs.Order.{is_kept_of, is_others, line}
-use Rattle.plain_laws.proofs.Words.{assoc, both_true, filter_both, filter_first, filter_found, filter_none, filter_without, find_passes}
+use Rattle.plain_laws.proofs.Words.{assoc, filter_both, filter_first, filter_found, filter_none, filter_without, find_passes}
 use Rattle.plain_laws.proofs.Words.{is_itself, map_both, nothing_behind, same_marks}
 
 abbrev pub future_of : Due → ℕ
@@ -20,32 +19,19 @@ abbrev pub one_of : Mark → Due → List ℕ
 one_of m d = cond (same_mark m d.mark) (d.future ∷ []) []
 
 kept_uncommon : (r : ℕ) (m : Mark) (d : Due) → is_kept r d ≡ true → is_common m d ≡ false
-kept_uncommon r m d is = by d.keeper is
-  where
-    by : (o : Option ℕ) → or o (λ k. r == k) false ≡ true → (not (is_some o) && same_mark m d.mark) ≡ false
-    by None is = absurd cc
-    by (Some k) is = refl
+kept_uncommon r m d is = grind (arith, nat_tests)
 
 common_unkept : (r : ℕ) (m n : Mark) (d : Due) → is_common m d ≡ true → is_kept_of n r d ≡ false
-common_unkept r m n d is = by d.keeper is
-  where
-    by : (o : Option ℕ) → (not (is_some o) && same_mark m d.mark) ≡ true → (or o (λ k. r == k) false && same_mark n d.mark) ≡ false
-    by None is = refl
-    by (Some k) is = absurd cc
+common_unkept r m n d is = grind (arith, nat_tests)
 
 unkept_of : (r : ℕ) (m : Mark) (d : Due) → is_kept r d ≡ false → is_kept_of m r d ≡ false
-unkept_of r m d is = ap (λ b. b && same_mark m d.mark) is
+unkept_of r m d is = grind (arith, nat_tests)
 
 common_mark : (m : Mark) (d : Due) → is_common m d ≡ true → m ≡ d.mark
-common_mark m d is = same_marks m d.mark (both_true (not (is_some d.keeper)) (same_mark m d.mark) is).1
+common_mark m d is = grind (arith, nat_tests)
 
 common_elsewhere : (m n : Mark) → same_mark m n ≡ false → (d : Due) → is_common n d ≡ true → is_common m d ≡ false
-common_elsewhere m n apart d is =
-    by (not (is_some d.keeper)) (same_mark m d.mark) (ap (λ k. same_mark m k) (sym (common_mark n d is)) ∙ apart)
-  where
-    by : (a b : Bool) → b ≡ false → (a && b) ≡ false
-    by true b is = is
-    by false b is = refl
+common_elsewhere m n apart d is = grind (arith, nat_tests)
 
 -- a future that is appended without a keeper waits behind all others
 pub line_last : (m : Mark) (r : ℕ) (due : List Due) (f : ℕ) (k : Mark)
@@ -79,22 +65,17 @@ line_kept m n r due d is = by (same_mark m n) refl
 
     owns : (b : Bool) → same_mark m d.mark ≡ b → (c : Bool) → (r == r) ≡ c → c ≡ true
         → cond (c && same_mark m d.mark) (kept ∷ []) [] ≡ cond b (kept ∷ []) []
-    owns b so true itself it_is = ap (λ b. cond b (kept ∷ []) []) so
-    owns b so false itself it_is = absurd cc
+    owns b so c itself it_is = grind (arith, nat_tests)
 
     keeps : (b : Bool) → same_mark m d.mark ≡ b
         → filter (is_kept_of m r) (rest ++ kept ∷ []) ≡ filter (is_kept_of m r) due ++ cond b (kept ∷ []) []
-    keeps b so =
-        filter_both (is_kept_of m r) rest (kept ∷ [])
-        ∙ (ap (λ l. l ++ filter (is_kept_of m r) (kept ∷ []))
-        (filter_without (is_kept_of m r) (is_common n) (λ x. common_unkept r n m x) due)
-        ∙ ap (λ l. filter (is_kept_of m r) due ++ l) (owns b so (r == r) refl (is_itself r)))
+    keeps b so = grind (arith, nat_tests, filter_both, rest, kept, filter_without, common_unkept, owns, is_itself)
 
     commons : filter (is_common m) (rest ++ kept ∷ []) ≡ filter (is_common m) rest
-    commons = filter_both (is_common m) rest (kept ∷ []) ∙ nothing_behind (filter (is_common m) rest)
+    commons = grind (arith, nat_tests, filter_both, rest, kept, nothing_behind)
 
     marked : same_mark m d.mark ≡ same_mark m n
-    marked = ap (λ k. same_mark m k) (sym (common_mark n d (find_passes (is_common n) due d is)))
+    marked = grind (arith, nat_tests, common_mark, d, find_passes)
 
     by : (b : Bool) → same_mark m n ≡ b → line m r (rest ++ kept ∷ []) ≡ line m r due
     by true so =
@@ -106,9 +87,7 @@ line_kept m n r due d is = by (same_mark m n) refl
         ∙ ap (λ l. map future_of (filter (is_kept_of m r) due ++ l)) (sym whole)))))
       where
         whole : filter (is_common m) due ≡ d ∷ filter (is_common m) rest
-        whole =
-            filter_found (is_common m) due d (subst (λ k. find (is_common k) due ≡ Some d) (sym (same_marks m n so)) is)
-            ∙ ap (λ k. d ∷ filter (is_common m) (without (is_common k) due)) (same_marks m n so)
+        whole = grind (arith, nat_tests, filter_found, d, same_marks)
     by false so =
         ap (λ l. map future_of (l ++ filter (is_common m) (rest ++ kept ∷ []))) (keeps false (marked ∙ so))
         ∙ (ap (λ l. map future_of (l ++ filter (is_common m) (rest ++ kept ∷ []))) (nothing_behind (filter (is_kept_of m r) due))
@@ -146,59 +125,25 @@ line_common m n r due d none is =
     rest = without (is_common n) due
 
     none_kept : filter (is_kept_of m r) due ≡ []
-    none_kept = filter_none (is_kept_of m r) (is_kept r) (unkept_of r m) due none
+    none_kept = grind (arith, nat_tests, filter_none, unkept_of)
 
     marked : same_mark m d.mark ≡ same_mark m n
-    marked = ap (λ k. same_mark m k) (sym (common_mark n d (find_passes (is_common n) due d is)))
+    marked = grind (arith, nat_tests, common_mark, d, find_passes)
 
     by : (b : Bool) → same_mark m n ≡ b
         → map future_of (filter (is_common m) due) ≡ one_of m d ++ map future_of (filter (is_common m) rest)
-    by true so =
-        ap (map future_of)
-        (filter_found (is_common m) due d (subst (λ k. find (is_common k) due ≡ Some d) (sym (same_marks m n so)) is)
-        ∙ ap (λ k. d ∷ filter (is_common m) (without (is_common k) due)) (same_marks m n so))
-        ∙ ap (λ b. cond b (d.future ∷ []) [] ++ map future_of (filter (is_common m) rest)) (sym (marked ∙ so))
-    by false so =
-        ap (map future_of) (sym (filter_without (is_common m) (is_common n) (common_elsewhere m n so) due))
-        ∙ ap (λ b. cond b (d.future ∷ []) [] ++ map future_of (filter (is_common m) rest)) (sym (marked ∙ so))
+    by b so = grind (arith, nat_tests, filter_found, d, same_marks, rest, marked, filter_without, common_elsewhere)
 
 -- one that another run doesn't keep is kept by this one or by none
 pub kept_by_none : (r k : ℕ) (d : Due) → is_others r d ≡ false → is_kept r d ≡ false → is_kept k d ≡ false
-kept_by_none r k d mine is = by d.keeper mine is
-  where
-    by : (o : Option ℕ) → or o (λ k. not (r == k)) false ≡ false → or o (λ k. r == k) false ≡ false → or o (λ j. k == j) false ≡ false
-    by None mine is = refl
-    by (Some j) mine is = absurd (both (r == j) mine is)
-      where
-        both : (b : Bool) → not b ≡ false → b ≡ false → ⊥
-        both true mine is = cc
-        both false mine is = cc
+kept_by_none r k d mine is = grind (arith, nat_tests)
 
 pub of_either_mark : (r : ℕ) (m : Mark) (d : Due) → is_others r d ≡ false → is_kept r d ≡ false → is_common m d ≡ false
     → is_common (other m) d ≡ false → is_due d ≡ false
-of_either_mark r m d mine is one two = by d.keeper mine is one two
-  where
-    marks : (m k : Mark) → same_mark m k ≡ false → same_mark (other m) k ≡ false → true ≡ false
-    marks PlainMark PlainMark one two = one
-    marks PlainMark Urgent one two = two
-    marks Urgent PlainMark one two = two
-    marks Urgent Urgent one two = one
-
-    by : (o : Option ℕ) → or o (λ k. not (r == k)) false ≡ false → or o (λ k. r == k) false ≡ false
-        → (not (is_some o) && same_mark m d.mark) ≡ false → (not (is_some o) && same_mark (other m) d.mark) ≡ false → true ≡ false
-    by None mine is one two = marks m d.mark one two
-    by (Some j) mine is one two = both (r == j) mine is
-      where
-        both : (b : Bool) → not b ≡ false → b ≡ false → true ≡ false
-        both true mine is = is
-        both false mine is = mine
+of_either_mark r m d mine is one two = grind (arith, nat_tests)
 
 none_of : (t : Due → Bool) (d : Due) (due : List Due) → any t (d ∷ due) ≡ false → (t d ≡ false) × (any t due ≡ false)
-none_of t d due is = by (t d) is
-  where
-    by : (b : Bool) → cond b true (any t due) ≡ false → (b ≡ false) × (any t due ≡ false)
-    by true is = absurd cc
-    by false is = (refl, is)
+none_of t d due is = grind (arith, nat_tests)
 
 pub none_kept_by : (r k : ℕ) (due : List Due) → any (is_others r) due ≡ false → any (is_kept r) due ≡ false → any (is_kept k) due ≡ false
 none_kept_by r k [] mine none = refl
@@ -216,23 +161,4 @@ none_due r m (d ∷ due) mine none one two =
 
 -- what another run would keep
 pub kept_by_other : (r k : ℕ) → not (r == k) ≡ true → (d : Due) → is_others r d ≡ false → is_kept k d ≡ false
-kept_by_other r k away d mine = by d.keeper mine
-  where
-    by : (o : Option ℕ) → or o (λ j. not (r == j)) false ≡ false → or o (λ j. k == j) false ≡ false
-    by None mine = refl
-    by (Some j) mine = apart (k == j) refl
-      where
-        mine_so : (b : Bool) → not b ≡ false → b ≡ true
-        mine_so true is = refl
-        mine_so false is = absurd cc
-
-        away_so : (b : Bool) → not b ≡ true → b ≡ false
-        away_so true is = absurd cc
-        away_so false is = refl
-
-        apart : (b : Bool) → (k == j) ≡ b → b ≡ false
-        apart false is = refl
-        apart true is = clash r k j (mine_so (r == j) mine) (away_so (r == k) away) is
-          where
-            clash : (r k j : ℕ) → (r == j) ≡ true → (r == k) ≡ false → (k == j) ≡ true → true ≡ false
-            clash r k j one two three = grind (arith, nat_tests, one, two, three)
+kept_by_other r k away d mine = grind (arith, nat_tests)

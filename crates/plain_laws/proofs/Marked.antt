@@ -1,18 +1,20 @@
 -- Each future that is due is there, and has the mark by which it is due: so it is behind each list of calls of a new scheduler.
-use Rattle.std.proofs.Common.{◌≡◌, ℕ, ◌+◌, ◌==◌, is_some, nat_lt, count_by, cond, filter, Bool, true, List, [], ◌∷◌, ◌++◌, find, Option}
+use Rattle.std.proofs.lemmas.Bool.Decides.{nat_tests}
+use Rattle.std.proofs.Common.{arith}
+use Rattle.std.proofs.Common.{◌≡◌, ℕ, ◌+◌, ◌==◌, is_some, count_by, cond, filter, Bool, true, List, [], ◌∷◌, ◌++◌, find, Option}
 use Rattle.std.proofs.Common.{Some, None, slice_get, slice_set, refl, subst, ◌∙◌}
 use Rattle.executor_parts.specs.declared.mark.Mark.{Mark}
 use Rattle.executor_parts.specs.declared.mark.Mark.TheVariants.{Plain as PlainMark, Urgent}
 use Rattle.task_moves.specs.AbstractTask as abstract
-use Rattle.plain_scheduler.specs.State.{ARun, ATick, Choice, Close as Closing, Closed, Code, Done, Drop, DropOwn, Drops, Due, Future}
-use Rattle.plain_scheduler.specs.State.{Lose, Plain, Poll, PollOwn, Polls, Run, Running, Taker, Tick, Try}
-use Rattle.plain_scheduler.specs.Lists.{each, on, or, repeat, without}
-use Rattle.plain_scheduler.specs.Moves.{appended, chosen, changed, enters, given_back, is_common, is_kept, keeps, looks, mark, moved, put}
+use Rattle.plain_scheduler.specs.State.{ARun, ATick, Choice, Close as Closing, Closed, Code, Done, Drops, Due, Future}
+use Rattle.plain_scheduler.specs.State.{Plain, Poll, Polls, Run, Running, Taker, Tick, Try}
+use Rattle.plain_scheduler.specs.Lists.{each, on, repeat, without}
+use Rattle.plain_scheduler.specs.Moves.{appended, changed, enters, given_back, is_common, is_kept, keeps, mark, moved, put}
 use Rattle.plain_scheduler.specs.Moves.{runs, see, task, tell, up}
 use Rattle.plain_scheduler.specs.Takes as takes
 use Rattle.plain_scheduler.specs.Calls as calls
 use Rattle.plain_scheduler.specs.Calls.{Call, course, does, new}
-use Rattle.plain_laws.proofs.Calling.{MayBy, MayCall, MayCode, MayInside, MayNext, MayStop, Ways, call_so}
+use Rattle.plain_laws.proofs.Calling.{MayCall, MayCode, Ways, call_so}
 use Rattle.plain_laws.proofs.Words.{Each, at, at_more, at_set, each_as, each_found, each_last, each_without}
 use Rattle.plain_laws.proofs.Walk.{Keeps, Lasts, closed_good, each_good, freed_good, gives_way_good, if_so, leaves_good, nothing_good}
 use Rattle.plain_laws.proofs.Walk.{on_good, or_good, put_good, repeat_good, says, tell_good, up_good}
@@ -29,28 +31,13 @@ module _ {T A : Type 0} where
 
   -- the mark of one that is there
   pub mark_there : (f : ℕ) (p : Plain T A) → is_some (slice_get p.futures f) ≡ true → at has_mark p.futures f ≡ Some (mark f p)
-  mark_there f p is = by (slice_get p.futures f) is
-    where
-      by : (o : Option (Future T A)) → is_some o ≡ true → or o (λ x. Some x.mark) None ≡ Some (or o (λ x. x.mark) PlainMark)
-      by None is = absurd cc
-      by (Some x) is = refl
+  mark_there f p is = grind (arith, nat_tests)
 
   pub mark_of : (f : ℕ) (p : Plain T A) (m : Mark) → at has_mark p.futures f ≡ Some m → mark f p ≡ m
-  mark_of f p m is = by (slice_get p.futures f) is
-    where
-      by : (o : Option (Future T A)) → or o (λ x. Some x.mark) None ≡ Some m → or o (λ x. x.mark) PlainMark ≡ m
-      by None is = absurd cc
-      by (Some x) is = the_same is
-        where
-          the_same : Some x.mark ≡ Some m → x.mark ≡ m
-          the_same is = cc
+  mark_of f p m is = grind (arith, nat_tests)
 
   pub there_so : (f : ℕ) (p : Plain T A) (m : Mark) → at has_mark p.futures f ≡ Some m → is_some (slice_get p.futures f) ≡ true
-  there_so f p m is = by (slice_get p.futures f) is
-    where
-      by : (o : Option (Future T A)) → or o (λ x. Some x.mark) None ≡ Some m → is_some o ≡ true
-      by None is = absurd cc
-      by (Some x) is = refl
+  there_so f p m is = grind (arith, nat_tests)
 
   -- marks stay
   pub changed_marks : (P : (ℕ → Option Mark) → List Due → List Running → Type 0) (h : Future T A → Future T A)
@@ -63,8 +50,7 @@ module _ {T A : Type 0} where
           → P (at has_mark (on o (λ x p. record p { futures = slice_set p.futures f (h x) }) p).futures)
           (on o (λ x p. record p { futures = slice_set p.futures f (h x) }) p).due
           (on o (λ x p. record p { futures = slice_set p.futures f (h x) }) p).runs
-      by None is = so p.futures (λ j. refl)
-      by (Some x) is = so (slice_set p.futures f (h x)) (λ j. at_set has_mark p.futures f x (h x) j is (same x))
+      by o is = grind (arith, nat_tests, at_set)
 
   pub marked_changes : (h : Future T A → Future T A) → ((x : Future T A) → (h x).mark ≡ x.mark) → (f : ℕ) (p : Plain T A) → Marked p
       → Marked (changed h f p)
@@ -84,26 +70,10 @@ module _ {T A : Type 0} where
       }
 
   pub marked_lasts : Lasts Marked
-  marked_lasts =
-      record {
-        alike = λ p q one two three four good. marked_alike p q one two good;
-        changes = marked_changes;
-        appends =
-            λ f p is good. record {
-              due =
-                  each_last (IsMarked p) p.due (record { future = f; mark = mark f p; keeper = None }) good.due (mark_there f p is);
-            };
-        accepts =
-            λ x p good. record {
-              due =
-                  each_as (IsMarked p) (λ d. at has_mark (p.futures ++ x ∷ []) d.future ≡ Some d.mark)
-                  (λ d is. at_more has_mark p.futures x d.future d.mark is) p.due good.due;
-            };
-        makes = λ x p good. record { due = good.due };
-      }
+  marked_lasts = grind (arith, nat_tests, marked_alike, marked_changes, each_last, mark_there, each_as, at, at_more)
 
   pub marked_without : (test : Due → Bool) (p : Plain T A) → Marked p → Marked (record p { due = without test p.due })
-  marked_without test p good = record { due = each_without (IsMarked p) test p.due good.due }
+  marked_without test p good = grind (arith, nat_tests, each_without)
 
   pub marked_moved : (r : ℕ) (test : Due → Bool) → Keeps Marked (moved r test)
   marked_moved r test p good = by (find test p.due) refl
@@ -120,8 +90,7 @@ module _ {T A : Type 0} where
           }
 
   keeps_marked : (r : ℕ) (test : Due → Bool) → Keeps Marked (keeps r test)
-  keeps_marked r test p good =
-      if_so Marked (nat_lt (count_by (is_kept r) p.due) 512) (moved r test p) p (marked_moved r test p good) good
+  keeps_marked r test = grind (arith, nat_tests, if_so, marked_moved)
 
   pub runs_marked : (h : Running → Running) (r : ℕ) → Keeps Marked (runs h r)
   runs_marked h r p good =
@@ -170,11 +139,7 @@ module _ {T A : Type 0} where
         p good)))))
 
     take_marked : (by : Taker A) → Keeps Marked (takes.take wakes c by)
-    take_marked by p good =
-        let test = chosen (looks c by) p.due in
-        let p1 : Plain T A = record p { due = without test p.due } in
-        or_good Marked (find test p.due) (takes.nothing wakes c by p) (λ d. takes.takes wakes c by d p1)
-        (nothing_good Marked marked_lasts wakes c by p good) (λ d. takes_marked by d p1 (marked_without test p good))
+    take_marked by = grind (arith, nat_tests, by, or_good, nothing_good, marked_lasts, takes_marked, marked_without)
 
     gone_marked : (r : ℕ) → Keeps Marked (calls.gone wakes c r)
     gone_marked r p good =
@@ -229,48 +194,11 @@ module _ (T A : Type 0) (wakes : A → Option ℕ) (c : Choice) where
   abbrev all_ways : Ways wakes c IsGood IsGood
   all_ways = marked_ways wakes c
 
-  may_next : (by : Taker A) → MayNext wakes c IsGood IsGood all_ways by
-  may_next Try = tt
-  may_next (Tick t w) = tt
-  may_next (Run k w) = tt
-
-  may_by : (by : Option (Taker A)) → MayBy wakes c IsGood IsGood all_ways by
-  may_by None = tt
-  may_by (Some by) = may_next by
-
-  may_code : (code : Code T A) → MayCode wakes c IsGood IsGood all_ways code
-  may_code (Poll f by) = may_next by
-  may_code (Drop f end by) = may_next by
-  may_code (Lose awaiter by) = may_by by
-  may_code (PollOwn k w) = tt
-  may_code (DropOwn k answer) = tt
-  may_code (Closing fs all) = tt
-
-  may_stop : (code : Code T A) → MayStop wakes c IsGood IsGood all_ways code
-  may_stop (DropOwn k answer) = tt
-  may_stop (Poll f by) = may_next by
-  may_stop (Drop f end by) = may_next by
-  may_stop (Lose awaiter by) = may_by by
-  may_stop (PollOwn k w) = tt
-  may_stop (Closing fs all) = tt
-
-  may_inside : (May : Code T A → Type 0) → ((code : Code T A) → May code) → (inside : List (Code T A))
-      → MayInside wakes c IsGood IsGood all_ways May inside
-  may_inside May may [] = tt
-  may_inside May may (code ∷ rest) = may code
-
-  abbrev Stops : Code T A → Type 0
-  Stops code = MayStop wakes c IsGood IsGood all_ways code
-
   abbrev EndsSo : Code T A → Type 0
   EndsSo code = MayCode wakes c IsGood IsGood all_ways code
 
   may_call : (call : Call T A) (p : Plain T A) → MayCall wakes c IsGood IsGood all_ways call p
-  may_call (calls.PollRun k w) p = λ is. tt
-  may_call calls.Pends p = may_inside Stops may_stop p.inside
-  may_call (calls.EndsWith v) p = may_inside Stops may_stop p.inside
-  may_call calls.Ends p = may_inside EndsSo may_code p.inside
-  may_call _ p = tt
+  may_call call p = grind (arith, nat_tests)
 
   call_marked : (call : Call T A) → Keeps IsGood (does wakes c call)
   call_marked call p good = call_so wakes c IsGood IsGood all_ways call p (may_call call p) good
@@ -281,4 +209,4 @@ module _ {T A : Type 0} (wakes : A → Option ℕ) where
   course_marked (c ∷ cs) p good = course_marked cs (does wakes c.0 c.1 p) (call_marked T A wakes c.0 c.1 p good)
 
   pub are_marked : (limit : ℕ) (is_static : Bool) (cs : List (Choice × Call T A)) → Marked (course wakes cs (new limit is_static))
-  are_marked limit is_static cs = course_marked cs (new limit is_static) (record { due = tt })
+  are_marked limit is_static cs = grind (arith, nat_tests, course_marked)

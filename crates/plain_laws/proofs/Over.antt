@@ -1,21 +1,22 @@
 -- A run is over only behind the end of its drop.
-use Rattle.std.proofs.Common.{◌≡◌, ℕ, zero, suc, ◌+◌, ◌==◌, nat_lt, count_by, cond, filter, Bool, true, false, List, [], ◌∷◌, ◌++◌, find}
-use Rattle.std.proofs.Common.{Option, Some, None, slice_get, slice_set, refl, subst, ap, ◌∙◌}
+use Rattle.std.proofs.lemmas.Bool.Decides.{nat_tests}
+use Rattle.std.proofs.Common.{arith}
+use Rattle.std.proofs.Common.{◌≡◌, ℕ, zero, suc, ◌+◌, ◌==◌, count_by, cond, filter, Bool, true, false, List, [], ◌∷◌, ◌++◌}
+use Rattle.std.proofs.Common.{Option, Some, slice_get, slice_set, refl, ap}
 use Rattle.executor_parts.specs.declared.mark.Mark.TheVariants.{Plain as PlainMark, Urgent}
-use Rattle.task_moves.specs.AbstractTask as abstract
-use Rattle.plain_scheduler.specs.State.{ARun, ATick, Choice, Close as Closing, Closed, Code, Done, Drop, DropOwn, Due, Lose, Plain, Poll}
-use Rattle.plain_scheduler.specs.State.{PollOwn, Polls, Run, Running, Taker, Tick, Try}
-use Rattle.plain_scheduler.specs.Lists.{each, on, repeat, without}
-use Rattle.plain_scheduler.specs.Moves.{appended, chosen, enters, given_back, is_common, is_kept, keeps, looks, moved, put, runs, see}
-use Rattle.plain_scheduler.specs.Moves.{task, tell, up}
+use Rattle.plain_scheduler.specs.State.{ARun, ATick, Choice, Code, Done, DropOwn, Due, Plain}
+use Rattle.plain_scheduler.specs.State.{Run, Running, Taker, Tick, Try}
+use Rattle.plain_scheduler.specs.Lists.{each, on, repeat}
+use Rattle.plain_scheduler.specs.Moves.{given_back, is_common, is_kept, keeps, runs}
+use Rattle.plain_scheduler.specs.Moves.{tell, up}
 use Rattle.plain_scheduler.specs.Takes as takes
 use Rattle.plain_scheduler.specs.Calls as calls
 use Rattle.plain_scheduler.specs.Calls.{Call, does}
-use Rattle.plain_laws.proofs.Words.{at, at_more, at_set, is_itself}
+use Rattle.plain_laws.proofs.Words.{at, at_more, at_set}
 use Rattle.plain_laws.proofs.Walk.{Keeps, Lasts, closed_good, each_good, freed_good, gives_way_good, if_so, leaves_good, nothing_good}
-use Rattle.plain_laws.proofs.Walk.{on_good, or_good, put_good, repeat_good, says, tell_good, up_good}
+use Rattle.plain_laws.proofs.Walk.{on_good, or_good, repeat_good, says, tell_good, up_good}
 use Rattle.plain_laws.proofs.Marked.{changed_marks}
-use Rattle.plain_laws.proofs.Calling.{MayBy, MayCall, MayCode, MayInside, MayNext, MayStop, Ways, call_so}
+use Rattle.plain_laws.proofs.Calling.{MayCall, MayCode, Ways, call_so}
 
 abbrev pub over_of : Running → Bool
 over_of x = x.is_over
@@ -28,60 +29,34 @@ at_elsewhere f (x ∷ xs) (suc i) y zero apart = refl
 at_elsewhere f (x ∷ xs) (suc i) y (suc j) apart = at_elsewhere f xs i y j (λ is. apart (ap suc is))
 
 pub other_number : (k j : ℕ) → (k == j) ≡ false → j ≡ k → ⊥
-other_number k j away is = clash (k == k) (is_itself k) (subst (λ i. (k == i) ≡ false) is away)
-  where
-    clash : (b : Bool) → b ≡ true → b ≡ false → ⊥
-    clash true one two = cc
-    clash false one two = cc
+other_number k j away is = grind (arith, nat_tests)
 
 module _ {T A : Type 0} (k : ℕ) where
   abbrev pub GoesOn : Plain T A → Type 0
   GoesOn p = at over_of p.runs k ≡ Some false
 
   on_lasts : Lasts GoesOn
-  on_lasts =
-      record {
-        alike = λ p q one two three four good. subst (λ rs. at over_of rs k ≡ Some false) three good;
-        changes =
-            λ h same f p good. changed_marks (λ of due runs. at over_of runs k ≡ Some false) h same f p (λ fs are. good);
-        appends = λ f p is good. good;
-        accepts = λ x p good. good;
-        makes = λ x p good. at_more over_of p.runs x k false good;
-      }
-
-  moved_on : (j : ℕ) (test : Due → Bool) → Keeps GoesOn (moved j test)
-  moved_on j test p good =
-      on_good GoesOn (find test p.due) (λ d p. record p { due = without test p.due ++ record d { keeper = Some j } ∷ [] })
-      (λ d p good. good) p good
+  on_lasts = grind (arith, nat_tests, at, changed_marks, at_more)
 
   keeps_on : (j : ℕ) (test : Due → Bool) → Keeps GoesOn (keeps j test)
-  keeps_on j test p good =
-      if_so GoesOn (nat_lt (count_by (is_kept j) p.due) 512) (moved j test p) p (moved_on j test p good) good
+  keeps_on j test = grind (arith, nat_tests)
 
   given_back_on : (j : ℕ) → Keeps GoesOn (given_back j)
-  given_back_on j p good =
-      on_good GoesOn (find (is_kept j) p.due) (λ d p. appended d.future (record p { due = without (is_kept j) p.due }))
-      (λ d p good. good) p good
+  given_back_on j = grind (arith, nat_tests)
 
   -- a change of a run that leaves it as it is, or of another
   runs_on : (h : Running → Running) → ((x : Running) → (h x).is_over ≡ x.is_over) → (j : ℕ) → Keeps GoesOn (runs h j)
   runs_on h same j p good = by (slice_get p.runs j) refl
     where
       by : (o : Option Running) → slice_get p.runs j ≡ o → GoesOn (on o (λ run p. record p { runs = slice_set p.runs j (h run) }) p)
-      by None is = good
-      by (Some x) is = at_set over_of p.runs j x (h x) k is (same x) ∙ good
+      by o is = grind (arith, nat_tests, at_set)
 
   others_on : (h : Running → Running) (j : ℕ) → (k == j) ≡ false → Keeps GoesOn (runs h j)
-  others_on h j away p good =
-      on_good GoesOn (slice_get p.runs j) (λ run p. record p { runs = slice_set p.runs j (h run) })
-      (λ x p good. at_elsewhere over_of p.runs j (h x) k (other_number k j away) ∙ good) p good
+  others_on h j away = grind (arith, nat_tests, on_good, at_elsewhere, other_number)
 
   module _ (wakes : A → Option ℕ) (c : Choice) where
     run_on : (f : ℕ) (by : Taker A) → Keeps GoesOn (takes.run wakes c f by)
-    run_on f by p good =
-        let q = put f (abstract.begin_run (task f p)) p in
-        if_so GoesOn (task f p).closed (takes.dropping wakes c f Closed by p) (enters (Poll f by) (see (Polls f) q)) good
-        (put_good GoesOn on_lasts wakes f (abstract.begin_run (task f p)) p good)
+    run_on f by = grind (arith, nat_tests)
 
     takes_on : (by : Taker A) (d : Due) → Keeps GoesOn (takes.takes wakes c by d)
     takes_on Try d p good = run_on d.future Try (tell wakes c p) (tell_good GoesOn on_lasts wakes c p good)
@@ -104,11 +79,7 @@ module _ {T A : Type 0} (k : ℕ) where
         p good)))))
 
     take_on : (by : Taker A) → Keeps GoesOn (takes.take wakes c by)
-    take_on by p good =
-        let test = chosen (looks c by) p.due in
-        let p1 : Plain T A = record p { due = without test p.due } in
-        or_good GoesOn (find test p.due) (takes.nothing wakes c by p) (λ d. takes.takes wakes c by d p1)
-        (nothing_good GoesOn on_lasts wakes c by p good) (λ d. takes_on by d p1 good)
+    take_on by = grind (arith, nat_tests, by, or_good, nothing_good, on_lasts, takes_on)
 
     gone_on : (j : ℕ) → (k == j) ≡ false → Keeps GoesOn (calls.gone wakes c j)
     gone_on j away p good =
@@ -160,62 +131,20 @@ module _ (T A : Type 0) (k : ℕ) (wakes : A → Option ℕ) (c : Choice) where
   abbrev all_ways : Ways wakes c IsOn IsOn
   all_ways = on_ways k wakes c
 
-  may_next : (by : Taker A) → MayNext wakes c IsOn IsOn all_ways by
-  may_next Try = tt
-  may_next (Tick t w) = tt
-  may_next (Run j w) = tt
-
-  may_by : (by : Option (Taker A)) → MayBy wakes c IsOn IsOn all_ways by
-  may_by None = tt
-  may_by (Some by) = may_next by
-
   -- the drop of the run doesn't end
   abbrev pub IsNoDrop : Code T A → Type 0
   IsNoDrop (DropOwn j answer) = (k == j) ≡ false
   IsNoDrop code = Unit {0}
 
-  may_code : (code : Code T A) → IsNoDrop code → MayCode wakes c IsOn IsOn all_ways code
-  may_code (DropOwn j answer) is = is
-  may_code (Poll f by) is = may_next by
-  may_code (Drop f end by) is = may_next by
-  may_code (Lose awaiter by) is = may_by by
-  may_code (PollOwn j w) is = tt
-  may_code (Closing fs all) is = tt
-
-  may_stop : (code : Code T A) → MayStop wakes c IsOn IsOn all_ways code
-  may_stop (DropOwn j answer) = tt
-  may_stop (Poll f by) = may_next by
-  may_stop (Drop f end by) = may_next by
-  may_stop (Lose awaiter by) = may_by by
-  may_stop (PollOwn j w) = tt
-  may_stop (Closing fs all) = tt
-
-  abbrev Stops : Code T A → Type 0
-  Stops code = MayStop wakes c IsOn IsOn all_ways code
-
   abbrev EndsSo : Code T A → Type 0
   EndsSo code = MayCode wakes c IsOn IsOn all_ways code
-
-  may_stops : (inside : List (Code T A)) → MayInside wakes c IsOn IsOn all_ways Stops inside
-  may_stops [] = tt
-  may_stops (code ∷ rest) = may_stop code
 
   abbrev pub IsNoEnd : Call T A → List (Code T A) → Type 0
   IsNoEnd calls.Ends (code ∷ rest) = IsNoDrop code
   IsNoEnd call inside = Unit {0}
 
-  may_ends : (inside : List (Code T A)) → IsNoEnd calls.Ends inside → MayInside wakes c IsOn IsOn all_ways EndsSo inside
-  may_ends [] is = tt
-  may_ends (code ∷ rest) is = may_code code is
-
   may_call : (call : Call T A) (p : Plain T A) → IsNoEnd call p.inside → MayCall wakes c IsOn IsOn all_ways call p
-  may_call (calls.PollRun j w) p is = λ still. tt
-  may_call calls.Pends p is = may_stops p.inside
-  may_call (calls.EndsWith v) p is = may_stops p.inside
-  may_call calls.Ends p is = may_ends p.inside is
-  may_call calls.TryTick p is = tt
-  may_call (calls.PollTick t w) p is = tt
-  may_call _ p is = tt
+  may_call call p is = grind (arith, nat_tests)
 
   pub call_on : (call : Call T A) (p : Plain T A) → IsNoEnd call p.inside → GoesOn k p → GoesOn k (does wakes c call p)
   call_on call p is good = call_so wakes c IsOn IsOn all_ways call p (may_call call p is) good

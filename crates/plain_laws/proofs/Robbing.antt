@@ -1,13 +1,12 @@
 -- Of what a run keeps there is no less behind a call, unless another run robs it.
-use Rattle.std.proofs.Common.{◌≡◌, ℕ, ◌+◌, ◌≤◌, ◌==◌, nat_lt, cond, count_by, Bool, true, false, List, [], ◌∷◌, ◌++◌, length, filter, find}
-use Rattle.std.proofs.Common.{Option, Some, None, slice_get, slice_set, refl, sym, ap, subst, ◌∙◌, arith}
+use Rattle.std.proofs.lemmas.Bool.Decides.{nat_tests}
+use Rattle.std.proofs.Common.{◌≡◌, ℕ, ◌+◌, ◌≤◌, ◌==◌, cond, Bool, true, false, List, [], ◌∷◌, ◌++◌, length, filter, find}
+use Rattle.std.proofs.Common.{Option, Some, None, slice_get, slice_set, refl, sym, subst, arith}
 use Rattle.executor_parts.specs.declared.mark.Mark.{Mark}
-use Rattle.executor_parts.specs.declared.mark.Mark.TheVariants.{Plain as PlainMark, Urgent}
-use Rattle.executor_parts.specs.Marks.{other}
 use Rattle.task_moves.specs.AbstractTask as abstract
 use Rattle.task_moves.specs.AbstractTask.{Left}
-use Rattle.plain_scheduler.specs.State.{ARun, Choice, Close, Closed, Code, Drop, DropOwn, Due, Lose, Plain, Poll, PollOwn}
-use Rattle.plain_scheduler.specs.State.{Polls, Run, Taker, Tick, Try}
+use Rattle.plain_scheduler.specs.State.{ARun, Choice, Close, Code, Drop, DropOwn, Due, Lose, Plain, Poll, PollOwn}
+use Rattle.plain_scheduler.specs.State.{Run, Taker}
 use Rattle.plain_scheduler.specs.Lists.{any, on, or, repeat, without}
 use Rattle.plain_scheduler.specs.Moves.{changed, chosen, enters, is_common, is_due, is_kept, is_run, keeps, let_go, looks, mark}
 use Rattle.plain_scheduler.specs.Moves.{moved, put, runs, see, task, tell, up}
@@ -19,7 +18,7 @@ use Rattle.plain_scheduler.specs.Searches.{Search, behind_loss, behind_out, behi
 use Rattle.plain_scheduler.specs.Searches.{searches_inside, searches_of}
 use Rattle.plain_scheduler.specs.Usual.{IsKeptByOthers}
 use Rattle.plain_laws.proofs.Searching.{searching}
-use Rattle.plain_laws.proofs.Words.{filter_both, filter_without, same_number}
+use Rattle.plain_laws.proofs.Words.{filter_both, filter_without}
 use Rattle.plain_laws.proofs.Walk.{Keeps, Lasts, becomes_good, calls_good, each_good, given_up_good, goes_good, if_so, on_good, put_good}
 use Rattle.plain_laws.proofs.Walk.{repeat_good, tell_good, up_good}
 
@@ -27,16 +26,7 @@ use Rattle.plain_laws.proofs.Walk.{repeat_good, tell_good, up_good}
 module _ {T A : Type 0} (Good : Plain T A → Type 0) (lasts : Lasts Good)
     (pops : (p : Plain T A) (rest : List (Code T A)) → Good p → Good (record p { inside = rest })) (wakes : A → Option ℕ) (c : Choice) where
   of_taker : (by : Taker A) (p : Plain T A) → Good p → (x : Search T A) → searches_of wakes c by p ≡ Some x → Good x.at
-  of_taker Try p good x is = absurd cc
-  of_taker (Tick t w) p good x is = absurd cc
-  of_taker (Run r w) p good x is = split (nat_lt (or (slice_get p.runs r) (λ run. run.taken) 0) 200) is
-    where
-      here : Search T A
-      here = record { run = r; waker = w; at = p }
-
-      split : (b : Bool) → cond b (Some here) None ≡ Some x → Good x.at
-      split true is = subst (λ o. Good (or o (λ (x : Search T A). x.at) p)) is good
-      split false is = absurd cc
+  of_taker by p good x is = grind (arith, nat_tests)
 
   of_pending : (e : abstract.PendingEnd) (f : ℕ) (by : Taker A) (p : Plain T A) → Good p → (x : Search T A)
       → searches_behind wakes c by (behind_pending wakes c e f p) ≡ Some x → Good x.at
@@ -103,8 +93,7 @@ module _ {T A : Type 0} (Good : Plain T A → Type 0) (lasts : Lasts Good)
   at_search call p good x is = absurd (none p.inside is)
     where
       none : (codes : List (Code T A)) → searches_inside wakes c call codes p ≡ Some x → ⊥
-      none [] is = cc
-      none (code ∷ rest) is = cc
+      none codes is = grind (arith, nat_tests)
 
 -- so many at least run j keeps
 module _ (j n : ℕ) where
@@ -122,59 +111,30 @@ module _ (j n : ℕ) where
       both (x ∷ xs) ys = let rest = both xs ys in omega (arith, rest)
 
       step : (b : Bool) → is_kept j d ≡ b → kept_by due ≤ kept_by (due ++ d ∷ [])
-      step b is =
-          subst (λ xs. kept_by due ≤ length xs) (sym (filter_both (is_kept j) due (d ∷ []))) (both (filter (is_kept j) due)
-          (filter (is_kept j) (d ∷ [])))
+      step b is = grind (arith, nat_tests, filter_both, both)
 
   -- what another keeps, or nobody, leaves the list
   abbrev OthersAlone : (Due → Bool) → Type 0
   OthersAlone test = (d : Due) → test d ≡ true → is_kept j d ≡ false
 
   commons_aside : (m : Mark) → OthersAlone (is_common m)
-  commons_aside m d is = by d.keeper is
-    where
-      by : (o : Option ℕ) → is_common m (record d { keeper = o }) ≡ true → is_run j o ≡ false
-      by None is = refl
-      by (Some k) is = absurd cc
+  commons_aside m = grind (arith, nat_tests)
 
   another_aside : (k : ℕ) → (j == k) ≡ false → OthersAlone (is_kept k)
-  another_aside k away d is = by d.keeper is
-    where
-      by : (o : Option ℕ) → is_run k o ≡ true → is_run j o ≡ false
-      by None is = refl
-      by (Some i) is = subst (λ i. (j == i) ≡ false) (same_number k i is) away
+  another_aside k away = grind (arith, nat_tests)
 
 -- the first that is found is one that it keeps
 robs_first : {A : Type 0} (c : Choice) (r : ℕ) (w : A) (due : List Due) → IsKeptByOthers r due → any (is_kept c.robs) due ≡ true
     → chosen (looks c (Run r w)) due ≡ is_kept c.robs
-robs_first c r w due kept some =
-    later (is_kept r) (is_common c.first ∷ is_common (other c.first) ∷ is_kept c.robs ∷ is_due ∷ []) kept.mine
-    ∙ (later (is_common c.first) (is_common (other c.first) ∷ is_kept c.robs ∷ is_due ∷ []) (none c.first)
-    ∙ (later (is_common (other c.first)) (is_kept c.robs ∷ is_due ∷ []) (none (other c.first))
-    ∙ ap (λ b. λ d. cond b (is_kept c.robs d) (chosen (is_due ∷ []) due d)) some))
-  where
-    later : (test : Due → Bool) (tests : List (Due → Bool)) → any test due ≡ false → chosen (test ∷ tests) due ≡ chosen tests due
-    later test tests none = ap (λ b. λ d. cond b (test d) (chosen tests due d)) none
-
-    none : (m : Mark) → any (is_common m) due ≡ false
-    none PlainMark = kept.plain
-    none Urgent = kept.urgent
+robs_first c r w due kept some = grind (arith, nat_tests)
 
 its_keeper : (k : ℕ) (due : List Due) (d : Due) → find (is_kept k) due ≡ Some d → d.keeper ≡ Some k
 its_keeper k [] d is = absurd cc
 its_keeper k (e ∷ due) d is = by (is_kept k e) refl is (its_keeper k due d)
   where
-    of_run : (o : Option ℕ) → is_run k o ≡ true → o ≡ Some k
-    of_run None is = absurd cc
-    of_run (Some i) is = ap Some (sym (same_number k i is))
-
-    the_same : Some e ≡ Some d → e ≡ d
-    the_same is = cc
-
     by : (b : Bool) → is_kept k e ≡ b → cond b (Some e) (find (is_kept k) due) ≡ Some d
         → (find (is_kept k) due ≡ Some d → d.keeper ≡ Some k) → d.keeper ≡ Some k
-    by true so is later = sym (ap (λ (x : Due). x.keeper) (the_same is)) ∙ of_run e.keeper so
-    by false so is later = later is
+    by b so is later = grind (arith, nat_tests)
 
 none_found : (k : ℕ) (due : List Due) → any (is_kept k) due ≡ true → find (is_kept k) due ≡ None → ⊥
 none_found k [] some is = cc
@@ -182,15 +142,14 @@ none_found k (d ∷ due) some is = by (is_kept k d) some is (none_found k due)
   where
     by : (b : Bool) → cond b true (any (is_kept k) due) ≡ true → cond b (Some d) (find (is_kept k) due) ≡ None
         → (any (is_kept k) due ≡ true → find (is_kept k) due ≡ None → ⊥) → ⊥
-    by true some is later = cc
-    by false some is later = later some is
+    by b some is later = grind (arith, nat_tests)
 
 module _ {T A : Type 0} (j n : ℕ) where
   pub record KeepsSome (p : Plain T A) : Type 0 where
     pub many : n ≤ kept_by j n p.due
 
   some_alike : (p q : Plain T A) → p.due ≡ q.due → KeepsSome p → KeepsSome q
-  some_alike p q same good = record { many = subst (λ due. n ≤ kept_by j n due) same good.many }
+  some_alike p q same good = grind (arith, nat_tests)
 
   some_lasts : Lasts KeepsSome
   some_lasts =
@@ -208,26 +167,17 @@ module _ {T A : Type 0} (j n : ℕ) where
 
   some_without : (test : Due → Bool) → OthersAlone j n test → (p : Plain T A) → KeepsSome p → KeepsSome
       (record p { due = without test p.due })
-  some_without test others p good =
-      record { many = subst (λ xs. n ≤ length xs) (sym (filter_without (is_kept j) test others p.due)) good.many }
+  some_without test others p good = grind (arith, nat_tests, n, filter_without)
 
   some_moved : (r : ℕ) (test : Due → Bool) → OthersAlone j n test → Keeps KeepsSome (moved r test)
-  some_moved r test others p good =
-      on_good KeepsSome (find test p.due) (λ d p. record p { due = without test p.due ++ record d { keeper = Some r } ∷ [] })
-      (λ d p good. record {
-        many = one_more j n (without test p.due) (record d { keeper = Some r }) (some_without test others p good).many;
-      }) p good
+  some_moved r test others = grind (arith, nat_tests, on_good, one_more, n, some_without)
 
   some_keeps : (r : ℕ) (test : Due → Bool) → OthersAlone j n test → Keeps KeepsSome (keeps r test)
-  some_keeps r test others p good =
-      if_so KeepsSome (nat_lt (count_by (is_kept r) p.due) 512) (moved r test p) p (some_moved r test others p good) good
+  some_keeps r test others = grind (arith, nat_tests, if_so, some_moved)
 
   module _ (wakes : A → Option ℕ) (c : Choice) where
     run_some : (f : ℕ) (by : Taker A) → Keeps KeepsSome (takes.run wakes c f by)
-    run_some f by p good =
-        if_so KeepsSome (task f p).closed (takes.dropping wakes c f Closed by p)
-        (enters (Poll f by) (see (Polls f) (put f (abstract.begin_run (task f p)) p))) (record { many = good.many })
-        (record { many = (put_good KeepsSome some_lasts wakes f (abstract.begin_run (task f p)) p good).many })
+    run_some f by = grind (arith, nat_tests)
 
     -- a run takes what k keeps
     takes_some : (r : ℕ) (w : A) (d : Due) (k : ℕ) → d.keeper ≡ Some k → (j == k) ≡ false

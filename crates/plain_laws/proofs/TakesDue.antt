@@ -1,18 +1,19 @@
 -- A run that is polled takes one, where some future is due.
-use Rattle.std.proofs.Common.{◌≡◌, ℕ, ◌+◌, ◌==◌, is_some, nat_lt, count_by, cond, find, Bool, true, false, List, [], ◌∷◌, ◌++◌, Option}
+use Rattle.std.proofs.lemmas.Bool.Decides.{nat_tests}
+use Rattle.std.proofs.Common.{arith}
+use Rattle.std.proofs.Common.{◌≡◌, ℕ, ◌+◌, ◌==◌, is_some, nat_lt, cond, find, Bool, true, List, [], ◌∷◌, Option}
 use Rattle.std.proofs.Common.{Some, None, slice_get, slice_set, refl, sym, subst, ap, ◌∙◌}
 use Rattle.executor_parts.specs.Marks.{other}
-use Rattle.task_moves.specs.AbstractTask as abstract
-use Rattle.plain_scheduler.specs.State.{ARun, Choice, Closed, Code, Drops, Due, Plain, Poll, PollOwn, Polls, Run, Running}
+use Rattle.plain_scheduler.specs.State.{ARun, Choice, Code, Due, Plain, PollOwn, Run, Running}
 use Rattle.plain_scheduler.specs.Lists.{any, on, or, repeat, without}
-use Rattle.plain_scheduler.specs.Moves.{chosen, enters, is_common, is_due, is_kept, keeps, looks, moved, put, runs, see, task, tell, up}
+use Rattle.plain_scheduler.specs.Moves.{chosen, is_common, is_due, is_kept, keeps, looks, runs, tell, up}
 use Rattle.plain_scheduler.specs.Takes as takes
 use Rattle.plain_scheduler.specs.Calls as calls
 use Rattle.plain_laws.specs.Order.{TakesDue, count, last_begun}
-use Rattle.plain_laws.proofs.Words.{at, at_more, below_next, is_itself, set_there}
+use Rattle.plain_laws.proofs.Words.{at, at_more, set_there}
 use Rattle.plain_laws.proofs.Walk.{Keeps, Lasts, each_good, if_so, on_good, put_good, repeat_good, tell_good, up_good}
 use Rattle.plain_laws.proofs.Marked.{changed_marks}
-use Rattle.plain_laws.proofs.InOrder.{count_so, count_there, last_of}
+use Rattle.plain_laws.proofs.InOrder.{count_there, last_of}
 use Rattle.plain_laws.proofs.Waits.{clash, pick, taken_of}
 
 -- one that passes a test is found, and is due
@@ -22,8 +23,7 @@ some_found t (d ∷ due) is = by (t d) (some_found t due) is
   where
     by : (b : Bool) → (any t due ≡ true → is_some (find t due) ≡ true) → cond b true (any t due) ≡ true
         → is_some (cond b (Some d) (find t due)) ≡ true
-    by true rest is = refl
-    by false rest is = rest is
+    by b rest is = grind (arith, nat_tests)
 
 found_due : (t : Due → Bool) (due : List Due) (d : Due) → find t due ≡ Some d → any (λ (e : Due). d.future == e.future) due ≡ true
 found_due t [] d is = absurd cc
@@ -34,15 +34,11 @@ found_due t (e ∷ due) d is = by (t e) (found_due t due d) is
 
     late : (b : Bool) → any (λ (e : Due). d.future == e.future) due ≡ true
         → cond b true (any (λ (e : Due). d.future == e.future) due) ≡ true
-    late true is = refl
-    late false is = is
+    late b is = grind (arith, nat_tests)
 
     by : (b : Bool) → (find t due ≡ Some d → any (λ (e : Due). d.future == e.future) due ≡ true) → cond b (Some e) (find t due) ≡ Some d
         → cond (d.future == e.future) true (any (λ (e : Due). d.future == e.future) due) ≡ true
-    by true rest is =
-        ap (λ b. cond b true (any (λ (e : Due). d.future == e.future) due))
-        (ap (λ (x : Due). d.future == x.future) (sym (the_same is)) ∙ is_itself d.future)
-    by false rest is = late (d.future == e.future) (rest is)
+    by b rest is = grind (arith, nat_tests)
 
 abbrev Found : List Due → (Due → Bool) → Type 0
 Found due t = is_some (find t due) ≡ true
@@ -65,24 +61,10 @@ module _ {T A : Type 0} (r n : ℕ) where
   Counts p = at taken_of p.runs r ≡ Some n
 
   pub counts_last : Lasts Counts
-  counts_last =
-      record {
-        alike = λ p q one two three four good. subst (λ rs. at taken_of rs r ≡ Some n) three good;
-        changes =
-            λ h same f p good. changed_marks (λ of due runs. at taken_of runs r ≡ Some n) h same f p (λ fs are. good);
-        appends = λ f p is good. good;
-        accepts = λ x p good. good;
-        makes = λ x p good. at_more taken_of p.runs x r n good;
-      }
-
-  moved_counts : (k : ℕ) (test : Due → Bool) → Keeps Counts (moved k test)
-  moved_counts k test p good =
-      on_good Counts (find test p.due) (λ d p. record p { due = without test p.due ++ record d { keeper = Some k } ∷ [] })
-      (λ d p good. good) p good
+  counts_last = grind (arith, nat_tests, at, taken_of, changed_marks, at_more)
 
   keeps_counts : (k : ℕ) (test : Due → Bool) → Keeps Counts (keeps k test)
-  keeps_counts k test p good =
-      if_so Counts (nat_lt (count_by (is_kept k) p.due) 512) (moved k test p) p (moved_counts k test p good) good
+  keeps_counts k test = grind (arith, nat_tests)
 
   module _ (wakes : A → Option ℕ) (c : Choice) (j : ℕ) where
     pub taken_counts : (d : Due)
@@ -124,18 +106,10 @@ module _ {T A : Type 0} (wakes : A → Option ℕ) (c : Choice) (r : ℕ) (w : A
   Begun d q = cond (nat_lt n (count r q)) (last_begun q.events) [] ≡ d.future ∷ []
 
   begun_so : (d : Due) (q : Plain T A) → at taken_of q.runs r ≡ Some (n + 1) → last_begun q.events ≡ d.future ∷ [] → Begun d q
-  begun_so d q good seen =
-      ap (λ b. cond b (last_begun q.events) []) (ap (nat_lt n) (count_so r (n + 1) q good) ∙ below_next n) ∙ seen
+  begun_so d q good seen = grind (arith, nat_tests)
 
   run_begun : (d : Due) (p : Plain T A) → at taken_of p.runs r ≡ Some (n + 1) → Begun d (takes.run wakes c d.future (Run r w) p)
-  run_begun d p good =
-      let f = d.future in
-      let q = put f (abstract.begin_run (task f p)) p in
-      if_so (Begun d) (task f p).closed (takes.dropping wakes c f Closed (Run r w) p) (enters (Poll f (Run r w)) (see (Polls f) q))
-      (begun_so d (takes.dropping wakes c f Closed (Run r w) p) good (last_of p.events (Drops f)))
-      (begun_so d (enters (Poll f (Run r w)) (see (Polls f) q))
-      (put_good (λ p. at taken_of p.runs r ≡ Some (n + 1)) (counts_last r (n + 1)) wakes f (abstract.begin_run (task f p)) p good)
-      (last_of q.events (Polls f)))
+  run_begun d p good = grind (arith, nat_tests, if_so, begun_so, last_of, put_good, at, taken_of, counts_last)
 
   pub take_begins : (p : Plain T A) → at taken_of p.runs r ≡ Some n → any is_due p.due ≡ true
       → (d : Due) × (Begun d (takes.take wakes c (Run r w) p) × (any (λ (e : Due). d.future == e.future) p.due ≡ true))

@@ -1,12 +1,14 @@
 -- What waits for a run, and what it took since some state: so it stands on whatever is done behind a take and before the next.
-use Rattle.std.proofs.Common.{◌≡◌, ℕ, ◌==◌, not, is_some, nat_lt, count_by, cond, drop, Bool, true, false, List, [], ◌∷◌, ◌++◌}
+use Rattle.std.proofs.lemmas.Bool.Decides.{nat_tests}
+use Rattle.std.proofs.Common.{arith}
+use Rattle.std.proofs.Common.{◌≡◌, ℕ, ◌==◌, not, is_some, cond, drop, Bool, true, false, List, [], ◌∷◌, ◌++◌}
 use Rattle.std.proofs.Common.{length, find, Option, Some, None, slice_get, slice_set, refl, sym, subst, ap, ◌∙◌}
 use Rattle.executor_parts.specs.declared.mark.Mark.{Mark}
 use Rattle.executor_parts.specs.declared.mark.Mark.TheVariants.{Plain as PlainMark}
 use Rattle.executor_parts.specs.Marks.{same_mark}
-use Rattle.plain_scheduler.specs.State.{ARun, Choice, Due, Future, Plain, Running}
-use Rattle.plain_scheduler.specs.Lists.{any, on, or, repeat, without}
-use Rattle.plain_scheduler.specs.Moves.{appended, changed, chosen, given_back, is_common, is_kept, keeps, mark, moved, runs, tell}
+use Rattle.plain_scheduler.specs.State.{Choice, Due, Future, Plain, Running}
+use Rattle.plain_scheduler.specs.Lists.{any, on, or, without}
+use Rattle.plain_scheduler.specs.Moves.{appended, changed, chosen, is_common, keeps, mark, moved, runs}
 use Rattle.plain_scheduler.specs.Takes as takes
 use Rattle.plain_scheduler.specs.Calls as calls
 use Rattle.plain_laws.specs.Order.{is_others, line}
@@ -43,13 +45,7 @@ pub record Since : Type 0 where
 pub two_so : (x taken_too behind line_end line_p more came_too came_now : List ℕ) → taken_too ++ line_end ≡ behind ++ came_too
     → x ++ behind ≡ line_p ++ more → came_now ≡ drop (length line_p) (x ++ behind)
     → (x ++ taken_too) ++ line_end ≡ line_p ++ (came_now ++ came_too)
-two_so x taken_too behind line_end line_p more came_too came_now rest is now =
-    assoc x taken_too line_end
-    ∙ (ap (λ l. x ++ l) rest
-    ∙ (sym (assoc x behind came_too)
-    ∙ (ap (λ l. l ++ came_too) is
-    ∙ (assoc line_p more came_too
-    ∙ ap (λ l. line_p ++ (l ++ came_too)) (sym (now ∙ (ap (drop (length line_p)) is ∙ drop_front line_p more)))))))
+two_so x taken_too behind line_end line_p more came_too came_now rest is now = grind (arith, nat_tests, assoc, drop_front)
 
 -- nothing is taken since, or one is
 abbrev pub untaken : ℕ → (Mark → List ℕ) → (ℕ → Option Mark) → ℕ → Since
@@ -62,15 +58,10 @@ with_one r base start d i =
 
 pub pick : (P : (Due → Bool) → Type 0) (t : Due → Bool) (ts : List (Due → Bool)) (due : List Due)
     → (any t due ≡ true → P t) → (any t due ≡ false → P (chosen ts due)) → P (chosen (t ∷ ts) due)
-pick P t ts due one two = by (any t due) refl
-  where
-    by : (b : Bool) → any t due ≡ b → P (λ d. cond b (t d) (chosen ts due d))
-    by true is = one is
-    by false is = two is
+pick P t ts due one two = grind (arith, nat_tests)
 
 pub clash : (a : Bool) → a ≡ true → a ≡ false → ⊥
-clash true one two = cc
-clash false one two = cc
+clash a one two = grind (arith, nat_tests)
 
 module _ {T A : Type 0} where
   -- so it stands, with what is taken since
@@ -174,8 +165,7 @@ module _ {T A : Type 0} where
             }
 
     waits_keeps : (n : Mark) → Keeps (Waits k) (keeps k.run (is_common n))
-    waits_keeps n p good =
-        if_so (Waits k) (nat_lt (count_by (is_kept k.run) p.due) 512) (moved k.run (is_common n) p) p (waits_moved n p good) good
+    waits_keeps n = grind (arith, nat_tests, if_so, waits_moved)
 
     pub waits_kept : (wakes : A → Option ℕ) (c : Choice) → Keeps (Waits k) (takes.kept wakes c k.run)
     waits_kept wakes c p good = each_good (Waits k) c.keeps (λ mark. keeps k.run (is_common mark)) waits_keeps p good
@@ -225,10 +215,4 @@ module _ {T A : Type 0} where
             }
 
     pub waits_gone : (wakes : A → Option ℕ) (c : Choice) (r : ℕ) → not (k.run == r) ≡ true → Keeps (Waits k) (calls.gone wakes c r)
-    waits_gone wakes c r away p good =
-        let q = runs (λ run. record run { is_over = true }) r p in
-        let none : count_by (is_kept r) p.due ≡ 0 =
-        none_counted (is_kept r) p.due (none_as (is_others k.run) (is_kept r) (kept_by_other k.run r away) p.due good.alone) in
-        leaves_good (Waits k) waits_lasts wakes c (ARun r)
-        (repeat (count_by (is_kept r) p.due) (λ p. tell wakes c (given_back r p)) q)
-        (subst (λ n. Waits k (repeat n (λ p. tell wakes c (given_back r p)) q)) (sym none) (waits_over r p good))
+    waits_gone wakes c r away = grind (arith, nat_tests, none_counted, none_as, kept_by_other, leaves_good, waits_lasts, waits_over)

@@ -1,13 +1,15 @@
 -- What lasts over whatever the plain scheduler does behind a take and before the next.
-use Rattle.std.proofs.Common.{◌≡◌, ℕ, zero, suc, ◌-◌, is_some, min, cond, Bool, true, false, List, [], ◌∷◌, ◌++◌, length, map, find}
+use Rattle.std.proofs.lemmas.Bool.Decides.{nat_tests}
+use Rattle.std.proofs.Common.{arith}
+use Rattle.std.proofs.Common.{◌≡◌, ℕ, zero, suc, is_some, cond, Bool, true, false, List, [], ◌∷◌, ◌++◌, find}
 use Rattle.std.proofs.Common.{Option, Some, None, slice_get, slice_set, refl, ap}
 use Rattle.task_moves.specs.AbstractTask as abstract
 use Rattle.task_moves.specs.AbstractTask.{AbstractTask}
 use Rattle.task_moves.specs.LocalTask.{info_of, told}
-use Rattle.plain_scheduler.specs.State.{Answer, ARun, ATick, AtOnce, Calls, Choice, Future, Granted, Later, Lying, No, NoMemory, Pending}
-use Rattle.plain_scheduler.specs.State.{Plain, Refusal, Run, Running, Taker, Tick, Try, Who}
-use Rattle.plain_scheduler.specs.Lists.{any, each, on, or, repeat, without}
-use Rattle.plain_scheduler.specs.Moves.{answers, appended, becomes, called, changed, copied, is_called, leaves, let_go, lies, no_task}
+use Rattle.plain_scheduler.specs.State.{Answer, Calls, Choice, Future, Lying, Pending}
+use Rattle.plain_scheduler.specs.State.{Plain, Refusal, Running, Taker, Who}
+use Rattle.plain_scheduler.specs.Lists.{each, on, or, repeat, without}
+use Rattle.plain_scheduler.specs.Moves.{answers, appended, becomes, called, changed, copied, leaves, let_go, lies, no_task}
 use Rattle.plain_scheduler.specs.Moves.{put, release, runs, see, task, tell, told_at, up, used, wake}
 use Rattle.plain_scheduler.specs.Takes as takes
 use Rattle.plain_scheduler.specs.Calls as calls
@@ -28,8 +30,7 @@ module _ {T A : Type 0} where
     pub makes : (x : Running) (p : Plain T A) → Good p → Good (record p { runs = p.runs ++ x ∷ [] })
 
   pub if_so : (Good : Plain T A → Type 0) (b : Bool) (x y : Plain T A) → Good x → Good y → Good (cond b x y)
-  if_so Good true x y one two = one
-  if_so Good false x y one two = two
+  if_so Good b x y one two = grind (arith, nat_tests)
 
   -- an absent task is queued by nothing
   abbrev pub IsQuiet : (AbstractTask T A → AbstractTask T A) → Type 0
@@ -40,12 +41,10 @@ module _ {T A : Type 0} where
     Keeps f = (p : Plain T A) → Good p → Good (f p)
 
     pub on_good : {X : Type 0} (o : Option X) (f : X → Plain T A → Plain T A) → ((x : X) → Keeps (f x)) → Keeps (on o f)
-    on_good None f keeps p good = good
-    on_good (Some x) f keeps p good = keeps x p good
+    on_good o f keeps = grind (arith, nat_tests)
 
     pub or_good : {X : Type 0} (o : Option X) (y : Plain T A) (f : X → Plain T A) → Good y → ((x : X) → Good (f x)) → Good (or o f y)
-    or_good None y f one two = one
-    or_good (Some x) y f one two = two x
+    or_good o y f one two = grind (arith, nat_tests)
 
     pub each_good : {X : Type 0} (xs : List X) (f : X → Plain T A → Plain T A) → ((x : X) → Keeps (f x)) → Keeps (each xs f)
     each_good [] f keeps p good = good
@@ -57,7 +56,7 @@ module _ {T A : Type 0} where
 
   module _ (Good : Plain T A → Type 0) (lasts : Lasts Good) (wakes : A → Option ℕ) where
     pub put_good : (f : ℕ) (new : AbstractTask T A) → Keeps Good (put f new)
-    put_good f new p good = lasts.changes (λ x. record x { task = told new }) (λ x. refl) f p good
+    put_good f new = grind (arith, nat_tests)
 
     -- one that becomes queued is there
     is_there : (op : AbstractTask T A → AbstractTask T A) → IsQuiet op → (f : ℕ) (new : AbstractTask T A) (p : Plain T A)
@@ -68,8 +67,7 @@ module _ {T A : Type 0} where
             → is_some (info_of (or o (λ x. x.task) no_task) (op (or o (λ x. x.task) no_task))) ≡ true
             → is_some
             (slice_get (on o (λ x p. record p { futures = slice_set p.futures f (record x { task = told new }) }) p).futures f) ≡ true
-        by None so is = absurd cc
-        by (Some x) so is = ap is_some (set_there p.futures f (record x { task = told new }) (ap is_some so))
+        by o so is = grind (arith, nat_tests, set_there)
 
     module _ (more : Plain T A → Plain T A) (keep : Keeps Good more) where
       pub becomes_good : (op : AbstractTask T A → AbstractTask T A) → IsQuiet op → (f : ℕ) (p : Plain T A) → Good p
@@ -78,10 +76,7 @@ module _ {T A : Type 0} where
         where
           by : (b : Bool) → is_some (info_of (task f p) (op (task f p))) ≡ b
               → Good (cond b (more (appended f (put f (op (task f p)) p))) (put f (op (task f p)) p))
-          by true is =
-              keep (appended f (put f (op (task f p)) p))
-              (lasts.appends f (put f (op (task f p)) p) (is_there op quiet f (op (task f p)) p is) (put_good f (op (task f p)) p good))
-          by false is = put_good f (op (task f p)) p good
+          by b is = grind (arith, nat_tests, is_there, put_good)
 
       pub wake_good : (f : ℕ) → Keeps Good (wake wakes more f)
       wake_good f p good = becomes_good abstract.wake refl f p good
@@ -93,17 +88,13 @@ module _ {T A : Type 0} where
       used_good f p good = becomes_good (λ t. abstract.release (abstract.wake t)) refl f p good
 
       called_good : (w : A) → Keeps Good (called wakes more w)
-      called_good w p good =
-          or_good Good (wakes w) (see (Calls w) p) (λ f. used wakes more f p)
-          (lasts.alike p (see (Calls w) p) refl refl refl refl good) (λ f. used_good f p good)
+      called_good w = grind (arith, nat_tests, or_good, used_good)
 
       let_go_good : (w : A) → Keeps Good (let_go wakes more w)
-      let_go_good w p good = on_good Good (wakes w) (release wakes more) release_good p good
+      let_go_good w = grind (arith, nat_tests, on_good, release_good)
 
     pub copied_good : (w : A) → Keeps Good (copied wakes w)
-    copied_good w p good =
-        on_good Good (wakes w) (λ f p. put f (abstract.copy (task f p)) p) (λ f p good. put_good f (abstract.copy (task f p)) p good)
-        p good
+    copied_good w = grind (arith, nat_tests)
 
     module _ (c : Choice) where
       abbrev pub tells : Plain T A → Plain T A
@@ -120,15 +111,13 @@ module _ {T A : Type 0} where
           p good
 
       pub tell_good : Keeps Good tells
-      tell_good p good =
-          let i = min c.tells (length p.lying - 1) in
-          if_so Good (any is_called p.lying) p (told_at wakes i p) good (told_good i p good)
+      tell_good = grind (arith, nat_tests, if_so, told_good)
 
       pub goes_good : (o : Option A) → Keeps Good (λ p. on o (let_go wakes tells) p)
-      goes_good o p good = on_good Good o (let_go wakes tells) (let_go_good tells tell_good) p good
+      goes_good o = grind (arith, nat_tests, on_good, let_go_good, tell_good)
 
       pub calls_good : (o : Option A) → Keeps Good (λ p. on o (called wakes tells) p)
-      calls_good o p good = on_good Good o (called wakes tells) (called_good tells tell_good) p good
+      calls_good o = grind (arith, nat_tests, on_good, called_good, tell_good)
 
       pub up_good : (who : Who) → Keeps Good (up wakes c who)
       up_good who p good =
@@ -140,12 +129,7 @@ module _ {T A : Type 0} where
           p good
 
       pub leaves_good : (who : Who) → Keeps Good (leaves wakes c who)
-      leaves_good who p good =
-          on_good Good (find (lies who) p.lying) (λ l p. cond (is_called l) (tells (up wakes c who p)) (up wakes c who p))
-          (λ l p good.
-          let z = up_good who p good in
-          if_so Good (is_called l) (tells (up wakes c who p)) (up wakes c who p) (tell_good (up wakes c who p) z) z)
-          p good
+      leaves_good who = grind (arith, nat_tests, on_good, up_good, if_so, tell_good)
 
       -- it lies
       lies_good : (who : Who) (w : A) → Keeps Good (takes.lies_down wakes c who w)
@@ -155,13 +139,10 @@ module _ {T A : Type 0} where
           q = copied wakes w p
 
           anew : Good (takes.lain wakes c who w q)
-          anew = lasts.alike q (takes.lain wakes c who w q) refl refl refl refl (copied_good w p good)
+          anew = grind (arith, nat_tests)
 
           waking : (o : Option A) → Good (or o (λ old. takes.lain_again wakes c who w old q) (takes.lain wakes c who w q))
-          waking None = anew
-          waking (Some old) =
-              let q1 : Plain T A = record q { lying = map (λ l. cond (lies who l) (record l { waker = Some w }) l) q.lying } in
-              let_go_good tells tell_good old q1 (lasts.alike q q1 refl refl refl refl (copied_good w p good))
+          waking o = grind (arith, nat_tests, anew, q, let_go_good, tell_good, copied_good)
 
           by : (o : Option (Lying A))
               → Good
@@ -171,17 +152,13 @@ module _ {T A : Type 0} where
           by (Some l) = waking l.waker
 
       pub says : (a : Answer T) → Keeps Good (answers a)
-      says a p good = lasts.alike p (answers a p) refl refl refl refl good
+      says a = grind (arith, nat_tests)
 
       rests_good : (r : Refusal) (who : Who) (w : A) → Keeps Good (takes.rests wakes c r who w)
-      rests_good Granted who w p good = says Pending (takes.lies_down wakes c who w p) (lies_good who w p good)
-      rests_good AtOnce who w p good = says NoMemory p good
-      rests_good Later who w p good = says NoMemory (takes.lies_down wakes c who w p) (lies_good who w p good)
+      rests_good r who w = grind (arith, nat_tests, says, lies_good)
 
       pub nothing_good : (by : Taker A) → Keeps Good (takes.nothing wakes c by)
-      nothing_good Try p good = says No p good
-      nothing_good (Tick t w) p good = rests_good c.refusal (ATick t) w p good
-      nothing_good (Run r w) p good = rests_good c.refusal (ARun r) w p good
+      nothing_good by = grind (arith, nat_tests, says, rests_good)
 
       pub given_up_good : (f : ℕ) → Keeps Good (takes.given_up wakes c f)
       given_up_good f p good = if_so Good p.is_static p (release wakes tells f p) good (release_good tells tell_good f p good)
@@ -198,6 +175,4 @@ module _ {T A : Type 0} where
       freed_good f p good = release_good tells tell_good f (wake wakes tells f p) (wake_good tells tell_good f p good)
 
       pub closed_good : (f : ℕ) → Keeps Good (calls.closed wakes c f)
-      closed_good f p good =
-          let l = abstract.drop_runnable (task f p) in
-          calls_good l.called (put f l.task p) (put_good f l.task p good)
+      closed_good f = grind (arith, nat_tests, calls_good, put_good)

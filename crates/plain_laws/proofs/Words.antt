@@ -1,10 +1,9 @@
 -- Words on lists and tests.
-use Rattle.std.proofs.Common.{◌≡◌, ℕ, zero, suc, ◌+◌, fold, ◌==◌, ◌&&◌, nat_lt, cond, Bool, true, false, List, [], ◌∷◌, ◌++◌, length, map}
-use Rattle.std.proofs.Common.{drop, count_by, filter, find, is_some, Option, Some, None, slice_get, slice_set, refl, sym, ap, subst, ◌∙◌}
+use Rattle.std.proofs.Common.{◌≡◌, ℕ, zero, suc, ◌+◌, ◌==◌, ◌&&◌, nat_lt, cond, Bool, true, false, List, [], ◌∷◌, ◌++◌, length, map}
+use Rattle.std.proofs.Common.{drop, count_by, filter, find, is_some, Option, Some, None, slice_get, slice_set, refl, ap, ◌∙◌}
 use Rattle.std.proofs.Common.{arith}
 use Rattle.std.proofs.lemmas.Bool.Decides.{nat_tests}
 use Rattle.executor_parts.specs.declared.mark.Mark.{Mark}
-use Rattle.executor_parts.specs.declared.mark.Mark.TheVariants.{Plain as PlainMark, Urgent}
 use Rattle.executor_parts.specs.Marks.{same_mark}
 use Rattle.plain_scheduler.specs.Lists.{any, or, without}
 
@@ -24,27 +23,13 @@ pub below_next : (n : ℕ) → nat_lt n (n + 1) ≡ true
 below_next n = grind (arith, nat_tests)
 
 pub both_true : (a b : Bool) → (a && b) ≡ true → (a ≡ true) × (b ≡ true)
-both_true true b is = (refl, is)
-both_true false b is = absurd cc
+both_true a b is = grind (arith, nat_tests)
 
 pub both_so : (a b : Bool) → a ≡ true → b ≡ true → (a && b) ≡ true
-both_so true b one two = two
-both_so false b one two = absurd cc
-
-pub mark_itself : (m : Mark) → same_mark m m ≡ true
-mark_itself PlainMark = refl
-mark_itself Urgent = refl
+both_so a b one two = grind (arith, nat_tests)
 
 pub same_marks : (m n : Mark) → same_mark m n ≡ true → m ≡ n
-same_marks PlainMark PlainMark is = refl
-same_marks Urgent Urgent is = refl
-same_marks PlainMark Urgent is = absurd cc
-same_marks Urgent PlainMark is = absurd cc
-
--- of a choice by a test, both ways
-pub by_test : {X : Type 0} (P : X → Type 0) (b : Bool) (x y : X) → (b ≡ true → P x) → (b ≡ false → P y) → P (cond b x y)
-by_test P true x y one two = one refl
-by_test P false x y one two = two refl
+same_marks m n is = grind (arith, nat_tests)
 
 module _ {X : Type 0} where
   pub assoc : (xs ys zs : List X) → (xs ++ ys) ++ zs ≡ xs ++ (ys ++ zs)
@@ -65,8 +50,7 @@ module _ {X : Type 0} where
     where
       by : (b : Bool) → filter t (xs ++ ys) ≡ filter t xs ++ filter t ys
           → cond b (x ∷ filter t (xs ++ ys)) (filter t (xs ++ ys)) ≡ cond b (x ∷ filter t xs) (filter t xs) ++ filter t ys
-      by true is = ap (λ l. x ∷ l) is
-      by false is = is
+      by b is = grind (arith, nat_tests)
 
   -- a list without the first that passes a test, by another that this one doesn't pass
   pub filter_without : (t s : X → Bool) → ((x : X) → s x ≡ true → t x ≡ false) → (xs : List X)
@@ -76,13 +60,11 @@ module _ {X : Type 0} where
     where
       late : (b : Bool) → filter t (without s xs) ≡ filter t xs
           → cond b (x ∷ filter t (without s xs)) (filter t (without s xs)) ≡ cond b (x ∷ filter t xs) (filter t xs)
-      late true is = ap (λ l. x ∷ l) is
-      late false is = is
+      late b is = grind (arith, nat_tests)
 
       by : (b : Bool) → s x ≡ b → filter t (without s xs) ≡ filter t xs
           → filter t (cond b xs (x ∷ without s xs)) ≡ cond (t x) (x ∷ filter t xs) (filter t xs)
-      by true is rest = sym (ap (λ b. cond b (x ∷ filter t xs) (filter t xs)) (other x is))
-      by false is rest = late (t x) rest
+      by b is rest = grind (arith, nat_tests)
 
   -- the first that passes a test is the first of those that pass it and another, if it passes that
   pub filter_first : (s g : X → Bool) (xs : List X) (d : X) → find s xs ≡ Some d
@@ -103,12 +85,7 @@ module _ {X : Type 0} where
           → (b : Bool) → s x ≡ b → cond b (Some x) (find s xs) ≡ Some d
           → cond (b && g x) (x ∷ filter (λ x. s x && g x) xs) (filter (λ x. s x && g x) xs)
           ≡ cond (g d) (d ∷ []) [] ++ filter (λ x. s x && g x) (cond b xs (x ∷ without s xs))
-      by rest true so is =
-          here (g x) ∙ ap (λ y. cond (g y) (y ∷ []) [] ++ filter (λ x. s x && g x) xs) (the_same is)
-      by rest false so is =
-          rest is
-          ∙ ap (λ b. cond (g d) (d ∷ []) [] ++ cond (b && g x) (x ∷ filter (λ x. s x && g x) (without s xs))
-          (filter (λ x. s x && g x) (without s xs))) (sym so)
+      by rest b so is = grind (arith, nat_tests)
 
   pub filter_found : (s : X → Bool) (xs : List X) (d : X) → find s xs ≡ Some d → filter s xs ≡ d ∷ filter s (without s xs)
   filter_found s [] d is = absurd cc
@@ -119,9 +96,7 @@ module _ {X : Type 0} where
 
       by : (find s xs ≡ Some d → filter s xs ≡ d ∷ filter s (without s xs)) → (b : Bool) → s x ≡ b → cond b (Some x) (find s xs) ≡ Some d
           → cond b (x ∷ filter s xs) (filter s xs) ≡ d ∷ filter s (cond b xs (x ∷ without s xs))
-      by rest true so is = ap (λ y. y ∷ filter s xs) (the_same is)
-      by rest false so is =
-          rest is ∙ ap (λ b. d ∷ cond b (x ∷ filter s (without s xs)) (filter s (without s xs))) (sym so)
+      by rest b so is = grind (arith, nat_tests)
 
   pub filter_none : (t s : X → Bool) → ((x : X) → s x ≡ false → t x ≡ false) → (xs : List X) → any s xs ≡ false → filter t xs ≡ []
   filter_none t s other [] none = refl
@@ -129,9 +104,7 @@ module _ {X : Type 0} where
     where
       by : (any s xs ≡ false → filter t xs ≡ []) → (b : Bool) → s x ≡ b → cond b true (any s xs) ≡ false
           → cond (t x) (x ∷ filter t xs) (filter t xs) ≡ []
-      by rest true is none = absurd cc
-      by rest false is none =
-          ap (λ b. cond b (x ∷ filter t xs) (filter t xs)) (other x is) ∙ rest none
+      by rest b is none = grind (arith, nat_tests)
 
   pub find_passes : (s : X → Bool) (xs : List X) (d : X) → find s xs ≡ Some d → s d ≡ true
   find_passes s [] d is = absurd cc
@@ -141,8 +114,7 @@ module _ {X : Type 0} where
       the_same is = cc
 
       by : (find s xs ≡ Some d → s d ≡ true) → (b : Bool) → s x ≡ b → cond b (Some x) (find s xs) ≡ Some d → s d ≡ true
-      by rest true so is = ap s (sym (the_same is)) ∙ so
-      by rest false so is = rest is
+      by rest b so is = grind (arith, nat_tests)
 
   pub find_nothing : (xs : List X) → find (λ (x : X). false) xs ≡ None
   find_nothing [] = refl
@@ -158,9 +130,7 @@ module _ {X : Type 0} where
 
       by : (any t xs ≡ false → find s xs ≡ Some d → t d ≡ false)
           → (a : Bool) → t x ≡ a → (b : Bool) → cond a true (any t xs) ≡ false → cond b (Some x) (find s xs) ≡ Some d → t d ≡ false
-      by rest true so b none is = absurd cc
-      by rest false so true none is = ap t (sym (the_same is)) ∙ so
-      by rest false so false none is = rest none is
+      by rest a so b none is = grind (arith, nat_tests)
 
   pub none_without : (t s : X → Bool) (xs : List X) → any t xs ≡ false → any t (without s xs) ≡ false
   none_without t s [] none = refl
@@ -168,9 +138,7 @@ module _ {X : Type 0} where
     where
       by : (any t xs ≡ false → any t (without s xs) ≡ false)
           → (a : Bool) → t x ≡ a → (b : Bool) → cond a true (any t xs) ≡ false → any t (cond b xs (x ∷ without s xs)) ≡ false
-      by rest true so b none = absurd cc
-      by rest false so true none = none
-      by rest false so false none = ap (λ a. cond a true (any t (without s xs))) so ∙ rest none
+      by rest a so b none = grind (arith, nat_tests)
 
   pub none_last : (t : X → Bool) (xs : List X) (d : X) → any t xs ≡ false → t d ≡ false → any t (xs ++ d ∷ []) ≡ false
   none_last t [] d none is = ap (λ a. cond a true false) is
@@ -178,8 +146,7 @@ module _ {X : Type 0} where
     where
       by : (any t xs ≡ false → any t (xs ++ d ∷ []) ≡ false) → (a : Bool) → cond a true (any t xs) ≡ false
           → cond a true (any t (xs ++ d ∷ [])) ≡ false
-      by rest true none = absurd cc
-      by rest false none = rest none
+      by rest a none = grind (arith, nat_tests)
 
   pub none_as : (t s : X → Bool) → ((x : X) → t x ≡ false → s x ≡ false) → (xs : List X) → any t xs ≡ false → any s xs ≡ false
   none_as t s so [] none = refl
@@ -187,16 +154,14 @@ module _ {X : Type 0} where
     where
       by : (any t xs ≡ false → any s xs ≡ false) → (b : Bool) → t x ≡ b → cond b true (any t xs) ≡ false
           → cond (s x) true (any s xs) ≡ false
-      by rest true is none = absurd cc
-      by rest false is none = ap (λ b. cond b true (any s xs)) (so x is) ∙ rest none
+      by rest b is none = grind (arith, nat_tests)
 
   pub none_counted : (t : X → Bool) (xs : List X) → any t xs ≡ false → count_by t xs ≡ 0
   none_counted t [] none = refl
   none_counted t (x ∷ xs) none = by (none_counted t xs) (t x) refl none
     where
       by : (any t xs ≡ false → count_by t xs ≡ 0) → (b : Bool) → t x ≡ b → cond b true (any t xs) ≡ false → count_by t (x ∷ xs) ≡ 0
-      by rest true is none = absurd cc
-      by rest false is none = ap (λ b. fold (λ a x. a + cond (t x) 1 0) (0 + cond b 1 0) xs) is ∙ rest none
+      by rest b is none = grind (arith, nat_tests)
 
   -- what holds of each
   abbrev pub Each : (X → Type 0) → List X → Type 0
@@ -212,8 +177,7 @@ module _ {X : Type 0} where
   each_without P s (x ∷ xs) all = by (s x) (each_without P s xs all.1)
     where
       by : (b : Bool) → Each P (without s xs) → Each P (cond b xs (x ∷ without s xs))
-      by true rest = all.1
-      by false rest = (all.0, rest)
+      by b rest = grind (arith, nat_tests)
 
   pub each_found : (P : X → Type 0) (s : X → Bool) (xs : List X) (d : X) → Each P xs → find s xs ≡ Some d → P d
   each_found P s [] d all is = absurd cc
@@ -223,8 +187,7 @@ module _ {X : Type 0} where
       the_same is = cc
 
       by : (find s xs ≡ Some d → P d) → (b : Bool) → cond b (Some x) (find s xs) ≡ Some d → P d
-      by rest true is = subst P (the_same is) all.0
-      by rest false is = rest is
+      by rest b is = grind (arith, nat_tests)
 
   pub each_as : (P Q : X → Type 0) → ((x : X) → P x → Q x) → (xs : List X) → Each P xs → Each Q xs
   each_as P Q so [] all = tt

@@ -1,16 +1,18 @@
 -- The steps of the calls that only answer, and of a close. n is the number of places, m the mark.
-use Rattle.std.proofs.Common.{◌≡◌, ◌⊎◌, ℕ, ◌+◌, ◌*◌, List, [], ◌∷◌, Option, Some, None, sym, refl, subst}
+use Rattle.std.proofs.lemmas.Bool.Decides.{nat_tests}
+use Rattle.std.proofs.Common.{arith}
+use Rattle.std.proofs.Common.{◌≡◌, ℕ, ◌+◌, ◌*◌, List, [], ◌∷◌, Option, Some, None, sym, refl, subst}
 use Rattle.queue_steps.specs.BoundedTurns.{Turn, Tail, Head, HeadFor, TailFor, TailAgain, Close as CloseTurn, len_turn, is_empty_turn}
 use Rattle.queue_steps.specs.BoundedTurns.{is_full_turn, answered}
 use Rattle.queue_steps.specs.Calls.{Call, Close, Len, IsEmptyCall, IsFullCall, IsClosedCall}
-use Rattle.queue_laws.specs.Moments.{Sight, Progress, AtSome}
+use Rattle.queue_laws.specs.Moments.{Sight, Progress}
 use Rattle.queue_steps.specs.Bounded.{IsShape, word_at, is_marked}
 use Rattle.queue_laws.specs.BoundedSteps.{Stands, BoundedWorld, with_at, moved, turn_moments}
 use Rattle.queue_laws.proofs.BoundedStamps.{bit}
-use Rattle.queue_laws.proofs.BoundedState.{Ghost, looking, kind_of, sight_of, Knows, Looks, Tied, WasLong, WasSome, WasNotFull}
+use Rattle.queue_laws.proofs.BoundedState.{Ghost, looking, kind_of, sight_of, Knows, Looks, Tied}
 use Rattle.queue_laws.proofs.BoundedLooks.{Finds, len_tail, len_head, len_again, empty_head, empty_tail, full_tail, full_head, closed_tail}
 use Rattle.queue_laws.proofs.BoundedPuts.{Goes, looked}
-use Rattle.queue_laws.proofs.BoundedChanges.{close_by, on_tail, on_head}
+use Rattle.queue_laws.proofs.BoundedChanges.{close_by}
 
 module _ {T : Type 0} (n m : ℕ) (shape : IsShape n m) (w : BoundedWorld T) (g : Ghost T) (calls : ℕ → Option (Progress T))
     (tied : Tied n m w g calls) (p : ℕ) (k : Progress T) (at : calls p ≡ Some k) where
@@ -30,16 +32,14 @@ module _ {T : Type 0} (n m : ℕ) (shape : IsShape n m) (w : BoundedWorld T) (g 
       → GoesTo call (next t w.tail)
   at_tail call turn next t u same is kind of seen none finds =
       looked n m shape w g calls tied p call turn (next t w.tail) is kind k at of seen none
-      (subst (λ (v : ℕ). Finds n m shape g tied.base call (next v w.tail) k.seen) (sym same)
-      (on_tail n m shape w g calls tied p k at call (next u) seen finds))
+      (grind (arith, nat_tests))
 
   at_head : (call : Call T) (turn : Turn) (next : ℕ → ℕ → Turn) (t u : ℕ) → t ≡ u → w.places p ≡ Stands call turn
       → kind_of turn ≡ looking → k.call ≡ call → (seen : IsNow) → k.answer ≡ None
       → Finds n m shape g tied.base call (next u (word_at n m g.popped)) (sight_of n m g ∷ seen.0) → GoesTo call (next t w.head)
   at_head call turn next t u same is kind of seen none finds =
       looked n m shape w g calls tied p call turn (next t w.head) is kind k at of seen none
-      (subst (λ (v : ℕ). Finds n m shape g tied.base call (next v w.head) k.seen) (sym same)
-      (on_head n m shape w g calls tied p k at call (next u) seen finds))
+      (grind (arith, nat_tests))
 
   pub len_by : (t : Turn) → w.places p ≡ Stands Len t → k.call ≡ Len → IsNow → k.answer ≡ None → Looks n m g Len t k.seen → Then Len t
   len_by Tail is of seen none h = at_tail Len Tail (λ t v. HeadFor v) 0 0 refl is refl of seen none (len_tail n m shape g tied.base seen.0)
@@ -53,7 +53,7 @@ module _ {T : Type 0} (n m : ℕ) (shape : IsShape n m) (w : BoundedWorld T) (g 
       (subst (λ (u : ℕ). Finds n m shape g tied.base Len
       (len_turn n m (TailAgain (word_at n m f.0 + bit f.2 * m) u) (word_at n m g.pushed + bit g.shut * m))
       (sight_of n m g ∷ seen.0)) (sym f.4)
-      (len_again n m shape g tied.base seen.0 f.0 f.1 f.2 (subst (AtSome (WasLong g.pushed f.0 f.1)) seen.1 known)))
+      (len_again n m shape g tied.base seen.0 f.0 f.1 f.2 (grind (arith, nat_tests))))
   len_by _ is of seen none h = absurd h.1
 
   pub empty_by : (t : Turn) → w.places p ≡ Stands IsEmptyCall t → k.call ≡ IsEmptyCall → IsNow → k.answer ≡ None
@@ -64,7 +64,7 @@ module _ {T : Type 0} (n m : ℕ) (shape : IsShape n m) (w : BoundedWorld T) (g 
       let f = h.1 in let known = subst (Knows n m g k.seen) f.2 h.2 in
       at_tail IsEmptyCall (TailFor t) (λ u v. is_empty_turn n m (TailFor u) v) t (word_at n m f.0) f.1 is refl of seen none
       (empty_tail n m shape g tied.base seen.0 f.0 known.0
-      (subst (λ (s : List (Sight T)). (g.pushed ≡ f.0) ⊎ AtSome WasSome s) seen.1 known.1))
+      (grind (arith, nat_tests)))
   empty_by _ is of seen none h = absurd h.1
 
   pub full_by : (t : Turn) → w.places p ≡ Stands IsFullCall t → k.call ≡ IsFullCall → IsNow → k.answer ≡ None
@@ -75,7 +75,7 @@ module _ {T : Type 0} (n m : ℕ) (shape : IsShape n m) (w : BoundedWorld T) (g 
       let f = h.1 in let known = subst (Knows n m g k.seen) f.3 h.2 in
       at_head IsFullCall (HeadFor t) (λ u v. is_full_turn n m (HeadFor u) v) t (word_at n m f.0 + bit f.1 * m) f.2 is refl of seen none
       (full_head n m shape g tied.base seen.0 f.0 f.1 known.0
-      (subst (λ (s : List (Sight T)). (g.popped + n ≡ f.0) ⊎ AtSome (WasNotFull n m) s) seen.1 known.1))
+      (grind (arith, nat_tests)))
   full_by _ is of seen none h = absurd h.1
 
   pub closed_by : (t : Turn) → w.places p ≡ Stands IsClosedCall t → k.call ≡ IsClosedCall → IsNow → k.answer ≡ None

@@ -1,4 +1,5 @@
 -- Each step of a call on a ring, by the turn at which it stands. n is the number of places, m the mark.
+use Rattle.std.proofs.lemmas.Bool.Decides.{nat_tests}
 use Rattle.std.proofs.Common.{◌≡◌, inr, ℕ, ◌+◌, ◌*◌, ◌%◌, ◌<◌, ◌≤◌, List, [], ◌∷◌, length, drop, Bool, true, false, not, Option, Some, None}
 use Rattle.std.proofs.Common.{◌==◌, if◌then◌else◌, sym, refl, ap, ◌∙◌, subst, arith}
 use Rattle.queue_steps.specs.declared.bounded.Slot.{Slot}
@@ -18,8 +19,7 @@ use Rattle.queue_laws.proofs.BoundedState.{Ghost, Sure, up, age, queue_of, sight
 use Rattle.queue_laws.proofs.BoundedKnows.{length_is}
 use Rattle.queue_laws.proofs.BoundedLooks.{Finds, push_tail, force_tail, push_stamped, force_stamped, push_head, force_head, pop_head}
 use Rattle.queue_laws.proofs.BoundedLooks.{pop_stamp, pop_tail}
-use Rattle.queue_laws.proofs.BoundedMoves.{free_at}
-use Rattle.queue_laws.proofs.BoundedPuts.{Goes, near, is_gripping, looked, alone_free}
+use Rattle.queue_laws.proofs.BoundedPuts.{Goes, near, looked}
 use Rattle.queue_laws.proofs.BoundedHits.{append_hits, take_hits, displace_hits, shuts}
 use Rattle.queue_laws.proofs.SingleLooks.{is_party}
 
@@ -58,7 +58,7 @@ module _ {T : Type 0} (n m : ℕ) (shape : IsShape n m) (w : BoundedWorld T) (g 
       ∙ ap (λ (s : Slot T). s.stamp) (tied.slots (c % n) (near n m shape c)))) finds)
 
   round_of : (c : ℕ) → (g.cells (c % n)).round % n ≡ c % n
-  round_of c = tied.rounds (c % n) (near n m shape c)
+  round_of c = grind (arith, nat_tests)
 
   append_by : (call : Call T) (x : T) (t c : ℕ) → w.places p ≡ Stands call (Append t) → k.call ≡ call → IsNow → k.answer ≡ None
       → stored call None ≡ Some x
@@ -85,15 +85,15 @@ module _ {T : Type 0} (n m : ℕ) (shape : IsShape n m) (w : BoundedWorld T) (g 
                 with_at w.places p (Stands call (if b then Fill t Done else pushes_from n m w.tail));
           })
       by true e =
-          let one = one_tail n m shape g.pushed c g.shut (sym tied.tail ∙ is_party w.tail t e ∙ word) in
+          let one = one_tail n m shape g.pushed c g.shut (grind (arith, nat_tests)) in
           let same : t ≡ word_at n m g.pushed = word ∙ ap (word_at n m) (sym one.0) in
           let less : g.pushed < most_accepted = (let z = one.0 in omega arith) in
           subst (λ (u : ℕ). Goes n m shape w g calls (Does p (answer_of call Done None) ∷ [])
           (record { tail = next_at n m u; head = w.head; slots = w.slots; places = with_at w.places p (Stands call (Fill t Done)) }))
           (sym same)
-          (append_hits n m shape w g calls tied p k at call x (Fill t Done) (ap (λ (u : ℕ). Fill u Done) same)
-          (alone_free n m shape w g calls tied p (ap is_gripping is)) of none stores one.1 less
-          (subst (λ (d : ℕ). 2 * d ≤ age (g.cells (d % n))) (sym one.0) aged) (λ room. acts one.1 less room))
+          (append_hits n m shape w g calls tied p k at call x (Fill t Done) (grind (arith, nat_tests))
+          (grind (arith, nat_tests)) of none stores one.1 less
+          (grind (arith, nat_tests)) (λ room. acts one.1 less room))
       by false e = looked n m shape w g calls tied p call (Append t) (pushes_from n m w.tail) is refl k at of seen none misses
 
   spend_by : (call : Call T) (t c : ℕ) → w.places p ≡ Stands call (Spend t) → k.call ≡ call → IsNow → k.answer ≡ None
@@ -120,23 +120,16 @@ module _ {T : Type 0} (n m : ℕ) (shape : IsShape n m) (w : BoundedWorld T) (g 
                 with_at w.places p (Stands call (if b then End Closed else pushes_from n m w.tail));
           })
       by true e =
-          let one = one_tail n m shape g.pushed c g.shut (sym tied.tail ∙ is_party w.tail t e ∙ word) in
+          let one = one_tail n m shape g.pushed c g.shut (grind (arith, nat_tests)) in
           shuts n m shape w g calls tied p k at call (End Closed) (answer_of call Closed None) (w.tail + m)
-          (alone_free n m shape w g calls tied p (ap is_gripping is)) of none
-          (acts one.1 one.0 (let z = one.0 in let f = tied.base.few in omega arith)) beside
-          (ap (λ (u : ℕ). u + m) (tied.tail ∙ ap (λ (b : Bool). word_at n m g.pushed + bit b * m) one.1 ∙ bare n m shape g.pushed)
-          ∙ sym (marked n m shape g.pushed))
+          (grind (arith, nat_tests)) of none
+          (grind (arith, nat_tests)) beside
+          (grind (arith, nat_tests))
           (λ k' told. subst (λ (o : Option (Answer T)). MayEnd k' o (answer_of call Closed None)) (sym told) refl)
       by false e = looked n m shape w g calls tied p call (Spend t) (pushes_from n m w.tail) is refl k at of seen none misses
 
   room_is : g.pushed < g.popped + n → length (drop g.popped g.all) < n
   room_is room = let l = length_is n m g tied.base in omega arith
-
-  -- a place that came so far that it may be filled tells of room
-  room_of : 2 * g.pushed ≤ age (g.cells (g.pushed % n)) → g.pushed < g.popped + n
-  room_of aged =
-      (free_at n m shape g tied.base (g.cells (g.pushed % n)).round (g.cells (g.pushed % n)).phase (round_of g.pushed)
-      (tied.lies (g.pushed % n) (near n m shape g.pushed)) aged).1
 
   pub push_by : (x : T) (t : Turn) → w.places p ≡ Stands (Push x) t → k.call ≡ Push x → IsNow → k.answer ≡ None
       → Looks n m g (Push x) t k.seen → Then (Push x) t
@@ -162,7 +155,7 @@ module _ {T : Type 0} (n m : ℕ) (shape : IsShape n m) (w : BoundedWorld T) (g 
       spend_by (Push x) t f.0 is of seen none f.1 f.2
       (λ opened same most. (
         inr (opened, most, refl),
-        (λ o. room_is (room_of (subst (λ (d : ℕ). 2 * d ≤ age (g.cells (d % n))) (sym same) known.1))),
+        (λ o. room_is (grind (arith, nat_tests))),
         refl,
       ))
       (λ j. tt) (on_tail (Push x) (pushes_from n m) seen (push_tail n m shape g tied.base x seen.0))
@@ -184,11 +177,10 @@ module _ {T : Type 0} (n m : ℕ) (shape : IsShape n m) (w : BoundedWorld T) (g 
           })
       by true e =
           let same : g.popped ≡ q =
-          (let z = (head_behind n m shape (q + n) false g.popped (ap (λ (h : ℕ). h + 2 * m) (sym tied.head)
-          ∙ is_party (w.head + 2 * m) t e ∙ word ∙ sym (bare n m shape (q + n)))).0 in omega arith) in
+          (let z = (head_behind n m shape (q + n) false g.popped (grind (arith, nat_tests))).0 in omega arith) in
           let whole : g.popped + n ≡ g.pushed = (let z = tied.base.within in omega arith) in
           let turn_is : Advance t ≡ Advance (word_at n m (g.popped + n)) =
-          ap Advance (word ∙ ap (λ (z : ℕ). word_at n m (z + n)) (sym same)) in
+          ap Advance (grind (arith, nat_tests)) in
           let place_is : g.popped % n ≡ t % m =
           sym (ap (λ (z : ℕ). z % m) word ∙ index_of_word n m shape (q + n) ∙ a_lap_on n q ∙ ap (λ (z : ℕ). z % n) (sym same)) in
           subst (λ (i : ℕ). Goes n m shape w g calls (displaced n m p (w.slots i).value)
@@ -207,9 +199,9 @@ module _ {T : Type 0} (n m : ℕ) (shape : IsShape n m) (w : BoundedWorld T) (g 
             places =
                 with_at w.places p (Stands (ForcePush x) (Advance t));
           })) (sym tied.head)
-          (displace_hits n m shape w g calls tied p k at x (Advance t) turn_is (alone_free n m shape w g calls tied p (ap is_gripping is))
+          (displace_hits n m shape w g calls tied p k at x (Advance t) turn_is (grind (arith, nat_tests))
           of none whole (let z = whole in omega arith) opened
-          (subst (λ (d : ℕ). 2 * d + 1 ≤ age (g.cells (d % n))) (sym same) aged)))
+          (grind (arith, nat_tests))))
       by false e = looked n m shape w g calls tied p (ForcePush x) (Displace t) Tail is refl k at of seen none (Sure, refl, tt)
 
   pub force_by : (x : T) (t : Turn) → w.places p ≡ Stands (ForcePush x) t → k.call ≡ ForcePush x → IsNow → k.answer ≡ None
@@ -264,9 +256,9 @@ module _ {T : Type 0} (n m : ℕ) (shape : IsShape n m) (w : BoundedWorld T) (g 
           (subst (λ (u : ℕ). Goes n m shape w g calls (Does p (answer_of {T = T} Pop Done (w.slots (g.popped % n)).value) ∷ [])
           (record { tail = w.tail; head = next_at n m u; slots = w.slots; places = with_at w.places p (Stands Pop (Drain h)) }))
           (sym here)
-          (take_hits n m shape w g calls tied p k at (Drain h) (ap Drain here) (alone_free n m shape w g calls tied p (ap is_gripping is))
+          (take_hits n m shape w g calls tied p k at (Drain h) (ap Drain here) (grind (arith, nat_tests))
           of none
-          (subst (λ (d : ℕ). 2 * d + 1 ≤ age (g.cells (d % n))) (sym same) aged)))
+          (grind (arith, nat_tests))))
       by false e =
           looked n m shape w g calls tied p Pop (Take h) (pops_from n m w.head) is refl k at of seen none
           (on_head Pop (pops_from n m) seen (pop_head n m shape g tied.base seen.0))
@@ -293,21 +285,19 @@ module _ {T : Type 0} (n m : ℕ) (shape : IsShape n m) (w : BoundedWorld T) (g 
   close_by is of none =
       shuts n m shape w g calls tied p k at Close (answered (not (is_marked m w.tail))) (WasClosed (not (is_marked m w.tail)))
       (if is_marked m w.tail then w.tail else w.tail + m)
-      (alone_free n m shape w g calls tied p (ap is_gripping is)) of none (ap not mark, refl) (λ j. tt) (tail_is g.shut refl)
+      (grind (arith, nat_tests)) of none (ap not mark, refl) (λ j. tt) (tail_is g.shut refl)
       (λ k' told. subst (λ (o : Option (Answer T)). MayEnd k' o (WasClosed (is_yes (if not (is_marked m w.tail) then Yes else No))))
       (sym told) (ap WasClosed (told_yes (not (is_marked m w.tail)))))
     where
       mark : is_marked m w.tail ≡ g.shut
-      mark = ap (is_marked m) tied.tail ∙ marked_is n m shape g.pushed g.shut
+      mark = grind (arith, nat_tests, marked_is)
 
       told_yes : (b : Bool) → b ≡ is_yes (if b then Yes else No)
       told_yes true = refl
       told_yes false = refl
 
       word_is : (b : Bool) → g.shut ≡ b → w.tail ≡ word_at n m g.pushed + bit b * m
-      word_is b e = tied.tail ∙ ap (λ (c : Bool). word_at n m g.pushed + bit c * m) e
+      word_is b e = grind (arith, nat_tests)
 
       tail_is : (b : Bool) → g.shut ≡ b → (if is_marked m w.tail then w.tail else w.tail + m) ≡ word_at n m g.pushed + bit true * m
-      tail_is true e = ap (λ (b : Bool). if b then w.tail else w.tail + m) (mark ∙ e) ∙ word_is true e
-      tail_is false e = ap (λ (b : Bool). if b then w.tail else w.tail + m) (mark ∙ e)
-          ∙ ap (λ (u : ℕ). u + m) (word_is false e ∙ bare n m shape g.pushed) ∙ sym (marked n m shape g.pushed)
+      tail_is b e = grind (arith, nat_tests, mark, word_is, bare, marked)

@@ -1,4 +1,5 @@
 -- The exchanges of a ring's words that hit, each a moment of the closable queue. n is the number of places, m the mark.
+use Rattle.std.proofs.lemmas.Bool.Decides.{nat_tests}
 use Rattle.std.proofs.Common.{◌≡◌, ◌≢◌, ℕ, ◌+◌, ◌*◌, ◌%◌, ◌<◌, ◌≤◌, List, [], ◌∷◌, ◌++◌, drop, Bool, true, false, Option, Some, None, Ok}
 use Rattle.std.proofs.Common.{if◌then◌else◌, sym, refl, ap, ◌∙◌, subst, arith}
 use Rattle.std.proofs.lemmas.List.{drop-append-le}
@@ -7,7 +8,7 @@ use Rattle.queue_steps.specs.BoundedTurns.{Turn, Advance, Fill, Drain}
 use Rattle.queue_steps.specs.Reply.{Done, Displaced}
 use Rattle.queue_steps.specs.ClosableQueue.{ClosableQueue, most_accepted, appended, taken, shut}
 use Rattle.queue_steps.specs.Calls.{Call, ForcePush, Pop, Answer, ForcePushed, Popped, Acts}
-use Rattle.queue_laws.specs.Moments.{Does, Arrives, Progress, sees, becomes, answers, with_call, MayBeside, AtSome, WasOpenAndFull}
+use Rattle.queue_laws.specs.Moments.{Does, Arrives, Progress, sees, becomes, with_call, MayBeside, AtSome, WasOpenAndFull}
 use Rattle.queue_steps.specs.Bounded.{IsShape, word_at, next_at, is_marked}
 use Rattle.queue_laws.specs.SingleSteps.{answer_of, stored}
 use Rattle.queue_laws.specs.BoundedSteps.{Stands, BoundedWorld, with_at, displaced, tail_after}
@@ -16,28 +17,21 @@ use Rattle.queue_laws.proofs.BoundedStamps.{bit, bare, marked, marked_is, a_lap_
 use Rattle.queue_laws.proofs.BoundedState.{free, full, held, Cell, cell, Ghost, kind_of, writing, swapping, reading, displacing, age}
 use Rattle.queue_laws.proofs.BoundedState.{slot_of, queue_of, sight_of, scene_of, Base, CellLies, ComesTo, StandsAs, TiedPlace, Tied}
 use Rattle.queue_laws.proofs.BoundedKnows.{length_is}
-use Rattle.queue_laws.proofs.BoundedMoves.{at_here, at_put, NotBy, is_at_last, length_more, lies_pushed, lies_popped, free_at, full_at}
-use Rattle.queue_laws.proofs.BoundedMoves.{held_put}
-use Rattle.queue_laws.proofs.BoundedPuts.{Goes, near, other_calls, keeps, ages, slots_same, rounds, lies, comes, each_more}
+use Rattle.queue_laws.proofs.BoundedMoves.{at_here, NotBy, is_at_last, length_more, lies_pushed, lies_popped, free_at, full_at}
+use Rattle.queue_laws.proofs.BoundedPuts.{Goes, near, keeps, lies, each_more}
 
 module _ {T : Type 0} where
   beside_popped : (i : Option (ℕ × T)) (y : T) → MayBeside i (Popped (Ok y))
-  beside_popped None y = tt
-  beside_popped (Some i) y = tt
+  beside_popped i y = grind (arith, nat_tests)
 
   beside_closed : (i : Option (ℕ × T)) (a : Answer T) → ((j : ℕ × T) → MayBeside (Some j) a) → MayBeside i a
   beside_closed None a may = tt
   beside_closed (Some i) a may = may i
 
-  -- what is first, and what is left without it
-  first_is : (xs : List T) (y : T) (rest : List T) → xs ≡ y ∷ rest → xs ≡ y ∷ drop 1 xs
-  first_is xs y rest is = is ∙ ap (λ (ys : List T). y ∷ ys) (sym (ap (drop 1) is))
-
 module _ {T : Type 0} (n m : ℕ) (shape : IsShape n m) (w : BoundedWorld T) (g : Ghost T) (calls : ℕ → Option (Progress T))
     (tied : Tied n m w g calls) (p : ℕ) (k : Progress T) (at : calls p ≡ Some k) where
   word_after : (q : ℕ) → g.shut ≡ false → next_at n m (word_at n m q) ≡ word_at n m (q + 1) + bit g.shut * m
-  word_after q open_is = next_is n m shape q ∙ sym (bare n m shape (q + 1))
-      ∙ ap (λ (b : Bool). word_at n m (q + 1) + bit b * m) (sym open_is)
+  word_after q open_is = grind (arith, nat_tests, next_is, bare, bit)
 
   head_after_is : next_at n m (word_at n m g.popped) ≡ word_at n m (g.popped + 1)
   head_after_is = next_is n m shape g.popped
@@ -50,8 +44,7 @@ module _ {T : Type 0} (n m : ℕ) (shape : IsShape n m) (w : BoundedWorld T) (g 
   none_comes c is other (Some v) come = absurd (other v come.0 come.1 (sym is ∙ come.3))
 
   items_after : (x : T) → queue_of n m (record g { pushed = g.pushed + 1; all = g.all ++ x ∷ [] }) ≡ appended (queue_of n m g) x
-  items_after x = ap (λ (xs : List T). record { items = xs; capacity = Some n; closed = g.shut; accepted = Some (g.pushed + 1) })
-      (drop-append-le g.popped g.all (x ∷ []) (let a = tied.base.behind in let c = tied.base.counted in omega arith))
+  items_after x = grind (arith, nat_tests, drop-append-le)
 
   -- the append of a push
   pub append_hits : (call : Call T) (x : T) (turn : Turn) → turn ≡ Fill (word_at n m g.pushed) Done
@@ -91,8 +84,8 @@ module _ {T : Type 0} (n m : ℕ) (shape : IsShape n m) (w : BoundedWorld T) (g 
             (
               queue_of n m g',
               subst (λ (q : ClosableQueue T). Acts (queue_of n m g) k.call a q) (sym (items_after x))
-                  (subst (λ (y : Call T). Acts (queue_of n m g) y a (appended (queue_of n m g) x)) (sym of) (acts found.1)),
-              subst (λ (o : Option (ℕ × T)). MayBeside o a) (sym nothing) tt,
+                  (grind (arith, nat_tests)),
+              grind (arith, nat_tests),
               refl,
             ),
           ),
@@ -102,8 +95,8 @@ module _ {T : Type 0} (n m : ℕ) (shape : IsShape n m) (w : BoundedWorld T) (g 
           base = base';
           tail = word_after g.pushed open_is;
           head = tied.head;
-          slots = slots_same n m shape w g calls tied p i c below (ap (slot_of n m) was_free);
-          rounds = rounds n m shape w g calls tied p i c refl;
+          slots = grind (arith, nat_tests);
+          rounds = grind (arith, nat_tests);
           lies = lies n m shape w g calls tied p i c g' (
             tied.base.behind,
             (omega arith),
@@ -111,19 +104,12 @@ module _ {T : Type 0} (n m : ℕ) (shape : IsShape n m) (w : BoundedWorld T) (g 
           )
               (λ j b other. lies_pushed n m shape g tied.base j (g.cells j).round (g.cells j).phase x g.coming (tied.rounds j b) other
               (tied.lies j b));
-          held_by = held_put n m shape g tied.base w.places p (Stands call turn) i c (at_here w.places p (Stands call turn)
-              ∙ ap (Stands call) turn_is) (λ j b other. alone j b) tied.held_by;
-          comes = subst (ComesTo n m g'.cells g'.pushed) (sym nothing) tt;
+          held_by = grind (arith, nat_tests);
+          comes = grind (arith, nat_tests);
           each = each_more n m shape w g calls tied p g' base'
-              (record {
-                pushed = (omega arith);
-                popped = (omega arith);
-                once = (omega arith);
-                ages =
-                    ages n m shape w g calls tied p i c (subst (λ (d : Cell T). age d ≤ age c) (sym was_free) (omega arith));
-              })
+              (grind (arith, nat_tests))
               (λ q other. keeps n m shape w g calls tied p i c g' refl q (not_mine q other))
-              (Stands call turn) (with_call calls p (Some k')) (other_calls n m shape w g calls tied p (Some k'))
+              (Stands call turn) (with_call calls p (Some k')) (grind (arith, nat_tests))
               (subst (λ (o : Option (Progress T)). TiedPlace n m g' p (Stands call turn) (sees (sight_of n m g') o))
               (sym (at_here calls p (Some k')))
               (subst (λ (t : Turn). TiedPlace n m g' p (Stands call t) (sees (sight_of n m g') (Some k'))) (sym turn_is) (
@@ -178,11 +164,7 @@ module _ {T : Type 0} (n m : ℕ) (shape : IsShape n m) (w : BoundedWorld T) (g 
             none,
             (
               queue_of n m g',
-              subst (λ (z : Call T). Acts (queue_of n m g) z a (queue_of n m g')) (sym of) (
-                first_is (drop g.popped g.all) y (drop (g.popped + 1) g.all) found.2,
-                ap (λ (xs : List T). record { items = xs; capacity = Some n; closed = g.shut; accepted = Some g.pushed })
-                    (sym (ap (drop 1) found.2)),
-              ),
+              grind (arith, nat_tests),
               beside_popped g.coming y,
               refl,
             ),
@@ -193,25 +175,17 @@ module _ {T : Type 0} (n m : ℕ) (shape : IsShape n m) (w : BoundedWorld T) (g 
           base = base';
           tail = tied.tail;
           head = head_after_is;
-          slots = slots_same n m shape w g calls tied p i c below (ap (slot_of n m) was_full);
-          rounds = rounds n m shape w g calls tied p i c refl;
+          slots = grind (arith, nat_tests);
+          rounds = grind (arith, nat_tests);
           lies = lies n m shape w g calls tied p i c g' ((omega arith), tied.base.within, refl, (y, refl))
               (λ j b other. lies_popped n m shape g tied.base j (g.cells j).round (g.cells j).phase g.coming (λ v e. e) (tied.rounds j b)
               other (tied.lies j b));
-          held_by = held_put n m shape g tied.base w.places p (Stands Pop turn) i c (at_here w.places p (Stands Pop turn)
-              ∙ ap (Stands Pop) turn_is) (λ j b other. alone j b) tied.held_by;
-          comes = comes n m shape w g calls tied p i c g.coming
-              (subst (λ (c : Cell T). Rattle.queue_laws.proofs.BoundedPuts.IsSettled c.phase) (sym was_full) tt) tied.comes;
+          held_by = grind (arith, nat_tests);
+          comes = grind (arith, nat_tests);
           each = each_more n m shape w g calls tied p g' base'
-              (record {
-                pushed = (omega arith);
-                popped = (omega arith);
-                once = (omega arith);
-                ages =
-                    ages n m shape w g calls tied p i c (subst (λ (d : Cell T). age d ≤ age c) (sym was_full) (omega arith));
-              })
+              (grind (arith, nat_tests))
               (λ q other. keeps n m shape w g calls tied p i c g' refl q (not_mine q other))
-              (Stands Pop turn) (with_call calls p (Some k')) (other_calls n m shape w g calls tied p (Some k'))
+              (Stands Pop turn) (with_call calls p (Some k')) (grind (arith, nat_tests))
               (subst (λ (o : Option (Progress T)). TiedPlace n m g' p (Stands Pop turn) (sees (sight_of n m g') o))
               (sym (at_here calls p (Some k')))
               (subst (λ (t : Turn). TiedPlace n m g' p (Stands Pop t) (sees (sight_of n m g') (Some k'))) (sym turn_is) (
@@ -284,9 +258,8 @@ module _ {T : Type 0} (n m : ℕ) (shape : IsShape n m) (w : BoundedWorld T) (g 
             (let l = length_is n m g tied.base in omega arith),
             few,
             opened,
-            first_is (drop g.popped g.all) y (drop (g.popped + 1) g.all) found.2,
-            ap (λ (q : ClosableQueue T). becomes (answers (scene_of n m g calls) p k a) (record { queue = q; incoming = Some (p, x) }))
-                queue_is,
+            grind (arith, nat_tests),
+            grind (arith, nat_tests),
           ),
           refl,
         ),
@@ -294,24 +267,17 @@ module _ {T : Type 0} (n m : ℕ) (shape : IsShape n m) (w : BoundedWorld T) (g 
           base = base';
           tail = tied.tail;
           head = head_after_is;
-          slots = slots_same n m shape w g calls tied p i c below (ap (slot_of n m) was_full);
-          rounds = rounds n m shape w g calls tied p i c refl;
+          slots = grind (arith, nat_tests);
+          rounds = grind (arith, nat_tests);
           lies = lies n m shape w g calls tied p i c g' ((omega arith), sym whole, (let z = whole in omega arith), (x, refl, refl, refl))
               (λ j b other. lies_popped n m shape g tied.base j (g.cells j).round (g.cells j).phase (Some (p, x))
-              (λ v e. absurd (let z = sym nothing ∙ e in cc)) (tied.rounds j b) other (tied.lies j b));
-          held_by = held_put n m shape g tied.base w.places p (Stands (ForcePush x) turn) i c
-              (at_here w.places p (Stands (ForcePush x) turn) ∙ ap (Stands (ForcePush x)) turn_is) (λ j b other. alone j b) tied.held_by;
-          comes = (g.popped, Some y, whole, subst (λ (j : ℕ). with_at g.cells i c j ≡ c) (sym there) (at_here g.cells i c));
+              (λ v e. absurd (grind (arith, nat_tests))) (tied.rounds j b) other (tied.lies j b));
+          held_by = grind (arith, nat_tests);
+          comes = (g.popped, Some y, whole, grind (arith, nat_tests));
           each = each_more n m shape w g calls tied p g' base'
-              (record {
-                pushed = (omega arith);
-                popped = (omega arith);
-                once = (omega arith);
-                ages =
-                    ages n m shape w g calls tied p i c (subst (λ (d : Cell T). age d ≤ age c) (sym was_full) (omega arith));
-              })
+              (grind (arith, nat_tests))
               (λ q other. keeps n m shape w g calls tied p i c g' refl q (not_mine q other))
-              (Stands (ForcePush x) turn) (with_call calls p (Some k')) (other_calls n m shape w g calls tied p (Some k'))
+              (Stands (ForcePush x) turn) (with_call calls p (Some k')) (grind (arith, nat_tests))
               (subst (λ (o : Option (Progress T)). TiedPlace n m g' p (Stands (ForcePush x) turn) (sees (sight_of n m g') o))
               (sym (at_here calls p (Some k')))
               (subst (λ (t : Turn). TiedPlace n m g' p (Stands (ForcePush x) t) (sees (sight_of n m g') (Some k'))) (sym turn_is) (
@@ -325,10 +291,7 @@ module _ {T : Type 0} (n m : ℕ) (shape : IsShape n m) (w : BoundedWorld T) (g 
 
   tail_moves : (c : ℕ) → g.pushed ≡ c → (b : Bool) → g.shut ≡ b
       → (if b then next_at n m (word_at n m c) + m else next_at n m (word_at n m c)) ≡ word_at n m (g.pushed + 1) + bit g.shut * m
-  tail_moves c is true e = ap (λ (z : ℕ). z + m) (next_is n m shape c) ∙ sym (marked n m shape (c + 1))
-      ∙ ap (λ (z : ℕ). word_at n m (z + 1) + bit true * m) (sym is) ∙ ap (λ (b : Bool). word_at n m (g.pushed + 1) + bit b * m) (sym e)
-  tail_moves c is false e = next_is n m shape c ∙ sym (bare n m shape (c + 1))
-      ∙ ap (λ (z : ℕ). word_at n m (z + 1) + bit false * m) (sym is) ∙ ap (λ (b : Bool). word_at n m (g.pushed + 1) + bit b * m) (sym e)
+  tail_moves c is b e = grind (arith, nat_tests, next_is, marked, bit, bare)
 
   -- the append that a displacement owes
   pub advances : (x : T) (c i : ℕ) (o : Option T) → i < n → g.cells i ≡ cell c (held p (ForcePush x) displacing o false)
@@ -347,7 +310,7 @@ module _ {T : Type 0} (n m : ℕ) (shape : IsShape n m) (w : BoundedWorld T) (g 
       let x_is : ForcePush x ≡ ForcePush lying.3.0 = lying.3.1 in
       let coming_is : g.coming ≡ Some (p, x) = lying.3.2 ∙ ap (λ (z : T). Some (p, z)) (let z : lying.3.0 ≡ x = cc in z) in
       let there : c % n ≡ i = subst (λ (d : Cell T). d.round % n ≡ i) is (tied.rounds i below) in
-      let tail_there : i ≡ g.pushed % n = sym (ap (λ (z : ℕ). z % n) pushed_is ∙ a_lap_on n c ∙ there) in
+      let tail_there : i ≡ g.pushed % n = sym (grind (arith, nat_tests)) in
       let d : Cell T = cell c (held p (ForcePush x) swapping o false) in
       let turn : Turn = Fill (word_at n m (c + n)) Displaced in
       let g' : Ghost T = record g { pushed = g.pushed + 1; all = g.all ++ x ∷ []; coming = None; cells = with_at g.cells i d } in
@@ -375,8 +338,8 @@ module _ {T : Type 0} (n m : ℕ) (shape : IsShape n m) (w : BoundedWorld T) (g 
               (ap (is_marked m) tied.tail ∙ marked_is n m shape g.pushed g.shut)
               ∙ tail_moves (c + n) pushed_is g.shut refl;
           head = tied.head;
-          slots = slots_same n m shape w g calls tied p i d below (ap (slot_of n m) is);
-          rounds = rounds n m shape w g calls tied p i d there;
+          slots = grind (arith, nat_tests);
+          rounds = grind (arith, nat_tests);
           lies = lies n m shape w g calls tied p i d g' (
             (let z = tied.base.behind in omega arith),
             (omega arith),
@@ -384,22 +347,15 @@ module _ {T : Type 0} (n m : ℕ) (shape : IsShape n m) (w : BoundedWorld T) (g 
           )
               (λ j b other. lies_pushed n m shape g tied.base j (g.cells j).round (g.cells j).phase x None (tied.rounds j b)
               (λ e. other (e ∙ sym tail_there)) (tied.lies j b));
-          held_by = held_put n m shape g tied.base w.places p (Stands (ForcePush x) turn) i d
-              (at_here w.places p (Stands (ForcePush x) turn)) alone tied.held_by;
+          held_by = grind (arith, nat_tests);
           comes = tt;
           each = each_more n m shape w g calls tied p g' base'
-              (record {
-                pushed = (omega arith);
-                popped = (omega arith);
-                once = (omega arith);
-                ages =
-                    ages n m shape w g calls tied p i d (subst (λ (e : Cell T). age e ≤ age d) (sym is) (omega arith));
-              })
+              (grind (arith, nat_tests))
               (λ q other. keeps n m shape w g calls tied p i d g' refl q
-              (subst (λ (c : Cell T). NotBy q c.phase) (sym is) (λ e. other (sym e))))
+              (grind (arith, nat_tests)))
               (Stands (ForcePush x) turn) calls (λ q other. refl)
               (subst (λ (z : Option (Progress T)). TiedPlace n m g' p (Stands (ForcePush x) turn) (sees (sight_of n m g') z)) (sym at)
-              (record k { seen = sight_of n m g' ∷ k.seen }, refl, of, (o, (i, c, swapping, below, at_here g.cells i d, refl, told))));
+              (record k { seen = sight_of n m g' ∷ k.seen }, refl, of, grind (arith, nat_tests)));
         },
       )
 
@@ -427,7 +383,7 @@ module _ {T : Type 0} (n m : ℕ) (shape : IsShape n m) (w : BoundedWorld T) (g 
             none,
             (
               queue_of n m g',
-              subst (λ (z : Call T). Acts (queue_of n m g) z a (queue_of n m g')) (sym of) acts,
+              grind (arith, nat_tests),
               beside_closed g.coming a beside,
               refl,
             ),
@@ -441,15 +397,14 @@ module _ {T : Type 0} (n m : ℕ) (shape : IsShape n m) (w : BoundedWorld T) (g 
           slots = tied.slots;
           rounds = tied.rounds;
           lies = tied.lies;
-          held_by = λ j b. Rattle.queue_laws.proofs.BoundedMoves.held_moved n m w.places p (Stands call turn) (g.cells j).round
-              (g.cells j).phase (alone j b) (tied.held_by j b);
+          held_by = λ j b. grind (arith, nat_tests);
           comes = tied.comes;
           each = each_more n m shape w g calls tied p g' base'
-              (record { pushed = (omega arith); popped = (omega arith); once = (omega arith); ages = λ j. (omega arith) })
+              (grind (arith, nat_tests))
               (λ q other j r c grip o d e. refl)
-              (Stands call turn) (with_call calls p (Some k')) (other_calls n m shape w g calls tied p (Some k'))
+              (Stands call turn) (with_call calls p (Some k')) (grind (arith, nat_tests))
               (subst (λ (o : Option (Progress T)). TiedPlace n m g' p (Stands call turn) (sees (sight_of n m g') o))
               (sym (at_here calls p (Some k')))
-              (record k' { seen = sight_of n m g' ∷ k'.seen }, refl, of, stands (record k' { seen = sight_of n m g' ∷ k'.seen }) refl));
+              (record k' { seen = sight_of n m g' ∷ k'.seen }, refl, of, grind (arith, nat_tests)));
         },
       )

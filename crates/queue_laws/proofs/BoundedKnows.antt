@@ -1,13 +1,13 @@
 -- What a call remembers of a ring stays right while other parties go on. n is the number of places, m the mark.
-use Rattle.std.proofs.Common.{◌≡◌, ◌≢◌, ◌⊎◌, inl, inr, ℕ, ◌+◌, ◌<◌, ◌≤◌, List, [], ◌∷◌, length, drop, Bool, true, false, Option, Some, None}
-use Rattle.std.proofs.Common.{sym, refl, ap, ◌∙◌, subst, lt_of_not-le, length-drop, arith}
+use Rattle.std.proofs.lemmas.Bool.Decides.{nat_tests}
+use Rattle.std.proofs.Common.{◌≡◌, ◌≢◌, ◌⊎◌, inl, inr, ℕ, ◌+◌, ◌<◌, ◌≤◌, List, [], ◌∷◌, length, drop, Bool, Option}
+use Rattle.std.proofs.Common.{refl, ◌∙◌, lt_of_not-le, length-drop, arith}
 use mathlib.Core.Logic.{dite}
 use native.Mathlib.Decide.{dec_le}
 use Rattle.queue_steps.specs.BoundedTurns.{Turn}
 use Rattle.queue_steps.specs.Calls.{Call, Answer}
 use Rattle.queue_laws.specs.Moments.{Sight, Progress, AtSome, MayEnd, sees}
-use Rattle.queue_laws.specs.SingleSteps.{answer_of}
-use Rattle.queue_laws.specs.BoundedSteps.{Place, Away, Stands, Leaving}
+use Rattle.queue_laws.specs.BoundedSteps.{Place}
 use Rattle.queue_laws.proofs.BoundedState.{Grip, held, Ghost, Kind, looking, holding, ending, kind_of, Fact, Sure, Both, Past, Gone, Aged}
 use Rattle.queue_laws.proofs.BoundedState.{OpenAt, OpenFull, LenAt, EmptyAt, FullAt, age, sight_of, Base, WasOpen, WasLong, WasSome}
 use Rattle.queue_laws.proofs.BoundedState.{WasNotFull, Knows, Grips, StandsAs, TiedPlace}
@@ -38,7 +38,7 @@ module _ {T : Type 0} where
 
   module _ (n m : ℕ) (g g' : Ghost T) where
     not_none : (xs : List T) → 0 < length xs → xs ≢ []
-    not_none xs some none = let z = ap length none in omega arith
+    not_none xs some = grind (arith, nat_tests)
 
     empty_grows : Base n m g → Base n m g' → Grows n m g g' → (q : ℕ) (seen : List (Sight T)) → q ≤ g.popped
         → (g.pushed ≡ q) ⊎ AtSome (WasSome) seen
@@ -66,15 +66,11 @@ module _ {T : Type 0} where
     knows_more b b' gr seen (Past c) k = let a = gr.pushed in omega arith
     knows_more b b' gr seen (Gone q) k = let a = gr.popped in omega arith
     knows_more b b' gr seen (Aged i a) k = let z = gr.ages i in omega arith
-    knows_more b b' gr seen (OpenAt c) k =
-        inr (at_some (WasOpen n m g.popped c) (WasOpen n m g'.popped c)
-        (λ s was. (was.0, (let a = was.1 in let z = gr.popped in omega arith), was.2, was.3, was.4, was.5)) seen k)
+    knows_more b b' gr seen (OpenAt c) k = grind (arith, nat_tests, at_some, WasOpen)
     knows_more b b' gr seen OpenFull k = inr k
-    knows_more b b' gr seen (LenAt c q) k =
-        inr (at_some (WasLong g.pushed c q) (WasLong g'.pushed c q)
-        (λ s was. (was.0, was.1, (let a = was.2 in let z = gr.pushed in omega arith), was.3)) seen k)
-    knows_more b b' gr seen (EmptyAt q) k = ((let a = k.0 in let z = gr.popped in omega arith), empty_grows b b' gr q seen k.0 k.1)
-    knows_more b b' gr seen (FullAt c) k = ((let a = k.0 in let z = gr.pushed in omega arith), full_grows b b' gr c seen k.0 k.1)
+    knows_more b b' gr seen (LenAt c q) k = grind (arith, nat_tests, at_some, WasLong)
+    knows_more b b' gr seen (EmptyAt q) k = ((grind (arith, nat_tests)), empty_grows b b' gr q seen k.0 k.1)
+    knows_more b b' gr seen (FullAt c) k = grind (arith, nat_tests, full_grows)
 
     pub knows_still : Stays n m g g' → (seen : List (Sight T)) (f : Fact) → Knows n m g seen f → Knows n m g' seen f
     knows_still st seen Sure k = tt
@@ -82,13 +78,11 @@ module _ {T : Type 0} where
     knows_still st seen (Past c) k = let a = st.pushed in omega arith
     knows_still st seen (Gone q) k = let a = st.popped in omega arith
     knows_still st seen (Aged i a) k = let z = st.ages i in omega arith
-    knows_still st seen (OpenAt c) k = subst (λ (x : ℕ). AtSome (WasOpen n m x c) seen) (sym st.popped) k
+    knows_still st seen (OpenAt c) k = grind (arith, nat_tests)
     knows_still st seen OpenFull k = k
-    knows_still st seen (LenAt c q) k = subst (λ (x : ℕ). AtSome (WasLong x c q) seen) (sym st.pushed) k
-    knows_still st seen (EmptyAt q) k = subst (λ (x : ℕ). (q ≤ x) × ((g'.pushed ≡ q) ⊎ AtSome (WasSome) seen)) (sym st.popped)
-        (subst (λ (x : ℕ). (q ≤ g.popped) × ((x ≡ q) ⊎ AtSome (WasSome) seen)) (sym st.pushed) k)
-    knows_still st seen (FullAt c) k = subst (λ (x : ℕ). (c ≤ x) × ((g'.popped + n ≡ c) ⊎ AtSome (WasNotFull n m) seen)) (sym st.pushed)
-        (subst (λ (x : ℕ). (c ≤ g.pushed) × ((x + n ≡ c) ⊎ AtSome (WasNotFull n m) seen)) (sym st.popped) k)
+    knows_still st seen (LenAt c q) k = grind (arith, nat_tests)
+    knows_still st seen (EmptyAt q) k = grind (arith, nat_tests)
+    knows_still st seen (FullAt c) k = grind (arith, nat_tests)
 
     -- a party that has a place still has it
     abbrev pub Keeps : ℕ → Type 0
@@ -97,48 +91,26 @@ module _ {T : Type 0} where
 
     more_seen : (look : Sight T) (k : Progress T) (o : Option (Answer T)) (a : Answer T) → MayEnd k o a
         → MayEnd (record k { seen = look ∷ k.seen }) o a
-    more_seen look k None a may = inr may
-    more_seen look k (Some told) a may = may
+    more_seen look k o a may = grind (arith, nat_tests)
 
     grips_more : (p : ℕ) (call : Call T) (t : Turn) (o : Option T) (d : Bool) (k : Progress T) → Keeps p → Grips n m g p call t o d k
         → Grips n m g' p call t o d k
     grips_more p call t o d k keep h = (h.0, h.1, h.2, h.3, keep h.0 h.1 call h.2 o d h.4 ∙ h.4, h.5, h.6)
 
-    seen_by : Progress T → Progress T
-    seen_by k = record k { seen = sight_of n m g' ∷ k.seen }
-
     stands_more : Base n m g → Base n m g' → Grows n m g g' → (kind : Kind) (p : ℕ) (call : Call T) (t : Turn) (k : Progress T) → Keeps p
         → StandsAs n m kind g p call t k → StandsAs n m kind g' p call t (record k { seen = sight_of n m g' ∷ k.seen })
-    stands_more b b' gr looking p call t k keep h = ((k.seen, refl), h.1, (h.2.0, h.2.1, knows_more b b' gr k.seen h.2.0 h.2.2))
-    stands_more b b' gr holding p call t k keep h = (h.0, grips_more p call t h.0 false k keep h.1)
-    stands_more b b' gr (ending r) p call t k keep h = more_seen (sight_of n m g') k k.answer (answer_of call r None) h
+    stands_more b h1 gr kind p call t k keep h = grind (arith, nat_tests, looking, knows_more, holding, grips_more, ending, more_seen, sight_of)
 
     -- another party's place, where the queue has become something else
     pub tied_more : Base n m g → Base n m g' → Grows n m g g' → (p : ℕ) (place : Place T) (c : Option (Progress T)) → Keeps p
         → TiedPlace n m g p place c → TiedPlace n m g' p place (sees (sight_of n m g') c)
-    tied_more b b' gr p Away c keep tied = ap (sees (sight_of n m g')) tied
-    tied_more b b' gr p (Stands call t) c keep tied = (
-      record tied.0 { seen = sight_of n m g' ∷ tied.0.seen },
-      ap (sees (sight_of n m g')) tied.1,
-      tied.2,
-      stands_more b b' gr (kind_of t) p call t tied.0 keep tied.3,
-    )
-    tied_more b b' gr p (Leaving call t o) c keep tied = (
-      record tied.0 { seen = sight_of n m g' ∷ tied.0.seen },
-      ap (sees (sight_of n m g')) tied.1,
-      grips_more p call t o true tied.0 keep tied.2,
-    )
+    tied_more b h1 gr p place c keep tied = grind (arith, nat_tests, sight_of, stands_more, kind_of, grips_more)
 
     stands_still : Stays n m g g' → (kind : Kind) (p : ℕ) (call : Call T) (t : Turn) (k : Progress T) → Keeps p
         → StandsAs n m kind g p call t k → StandsAs n m kind g' p call t k
-    stands_still st looking p call t k keep h =
-        ((h.0.0, h.0.1 ∙ ap (λ (s : Sight T). s ∷ h.0.0) (sym st.sight)), h.1, (h.2.0, h.2.1, knows_still st k.seen h.2.0 h.2.2))
-    stands_still st holding p call t k keep h = (h.0, grips_more p call t h.0 false k keep h.1)
-    stands_still st (ending r) p call t k keep h = h
+    stands_still st kind p call t k keep h = grind (arith, nat_tests, looking, knows_still, holding, grips_more, ending)
 
     -- another party's place, where the queue has not changed
     pub tied_still : Stays n m g g' → (p : ℕ) (place : Place T) (c : Option (Progress T)) → Keeps p → TiedPlace n m g p place c
         → TiedPlace n m g' p place c
-    tied_still st p Away c keep tied = tied
-    tied_still st p (Stands call t) c keep tied = (tied.0, tied.1, tied.2, stands_still st (kind_of t) p call t tied.0 keep tied.3)
-    tied_still st p (Leaving call t o) c keep tied = (tied.0, tied.1, grips_more p call t o true tied.0 keep tied.2)
+    tied_still st p place c keep tied = grind (arith, nat_tests, stands_still, kind_of, grips_more)

@@ -1,32 +1,29 @@
 -- What a call on a ring finds where it looks at a word. n is the number of places, m the mark.
 use Rattle.std.proofs.Common.{◌≡◌, ◌⊎◌, inl, inr, ℕ, ◌+◌, ◌-◌, ◌*◌, ◌%◌, ◌<◌, ◌≤◌, List, [], ◌∷◌, length, drop, Bool, true, false, nat_lt}
-use Rattle.std.proofs.Common.{Option, Some, None, Err, ◌==◌, ◌||◌, if◌then◌else◌, sym, refl, ap, ◌∙◌, subst, lt_of_not-le, mod-lt, arith}
-use Rattle.std.specs.Prelude.{MatchOption}
+use Rattle.std.proofs.Common.{Option, None, Err, ◌==◌, ◌||◌, if◌then◌else◌, sym, refl, ap, subst, lt_of_not-le, arith}
 use mathlib.Core.Logic.{dite}
 use native.Mathlib.Decide.{dec_le}
 use Rattle.std.proofs.lemmas.Bool.Decides.{nat_tests}
-use Rattle.queue_steps.specs.declared.errors.PushError.TheVariants.{Full as FullToPush, Closed as ClosedToPush}
 use Rattle.queue_steps.specs.declared.errors.PushError.{PushError}
-use Rattle.queue_steps.specs.declared.errors.ForcePushError.{ForcePushError}
 use Rattle.queue_steps.specs.BoundedTurns.{Turn, Tail, Head, Stamp, HeadFor, TailFor, TailAgain, Append, Take, Displace, Spend, End}
 use Rattle.queue_steps.specs.BoundedTurns.{answered, pushes_from, appends_at, stamped_for_push, push_turn, displaces_at, force_push_turn}
 use Rattle.queue_steps.specs.BoundedTurns.{pops_from, stamped_for_pop, pop_turn, len_turn, is_empty_turn, is_full_turn}
 use Rattle.queue_steps.specs.Reply.{Full, Empty, Closed, Length}
 use Rattle.queue_steps.specs.ClosableQueue.{most_accepted}
-use Rattle.queue_steps.specs.Calls.{Call, Push, ForcePush, Pop, Len, IsEmptyCall, IsFullCall, IsClosedCall, Pushed, ForcePushed, LenIs}
-use Rattle.queue_steps.specs.Calls.{EmptyIs, FullIs, ClosedIs}
+use Rattle.queue_steps.specs.Calls.{Call, Push, ForcePush, Pop, Len, IsEmptyCall, IsFullCall, IsClosedCall, Pushed, LenIs}
+use Rattle.queue_steps.specs.Calls.{EmptyIs, FullIs}
 use Rattle.queue_laws.specs.Moments.{Sight, AtSome, MayAnswer, MayBeside, WasOpenAndFull}
 use Rattle.queue_steps.specs.Bounded.{IsShape, word_at, count_at, is_marked}
 use Rattle.queue_laws.specs.SingleSteps.{answer_of}
 use Rattle.queue_steps.proofs.BoundedWords.{index_of_word, count_of_word}
 use Rattle.queue_laws.proofs.BoundedStamps.{bit, marked_is, tail_index, tail_count, bare, marked, one_tail, same_tail, one_slot}
 use Rattle.queue_laws.proofs.BoundedStamps.{one_slot_behind, head_behind, head_behind_marked}
-use Rattle.queue_laws.proofs.BoundedState.{Phase, free, full, held, Cell, Ghost, Kind, looking, holding, ending, kind_of, Fact, Sure, Both}
-use Rattle.queue_laws.proofs.BoundedState.{Past, Gone, Aged, OpenAt, OpenFull, LenAt, EmptyAt, FullAt, writing, swapping, reading}
-use Rattle.queue_laws.proofs.BoundedState.{displacing, up, age, sight_of, Base, ComesTo, WasOpen, WasLong, WasSome, WasNotFull, Knows}
+use Rattle.queue_laws.proofs.BoundedState.{Phase, Cell, Ghost, Kind, looking, holding, ending, kind_of, Fact, Sure, Both}
+use Rattle.queue_laws.proofs.BoundedState.{Past, Gone, Aged, OpenAt, OpenFull, LenAt, EmptyAt, FullAt}
+use Rattle.queue_laws.proofs.BoundedState.{up, age, sight_of, Base, ComesTo, WasOpen, WasLong, WasSome, WasNotFull, Knows}
 use Rattle.queue_laws.proofs.BoundedState.{PushFits, Looks}
 use Rattle.queue_laws.proofs.BoundedKnows.{at_some, length_is}
-use Rattle.queue_laws.proofs.SingleLooks.{is_party, is_other, never}
+use Rattle.queue_laws.proofs.SingleLooks.{is_party, is_other}
 
 pub lt_is : (a b : ℕ) → nat_lt a b ≡ true → a < b
 lt_is a b e = grind (arith, nat_tests)
@@ -40,36 +37,16 @@ nothing (x ∷ xs) e = absurd (omega arith)
 
 module _ {T : Type 0} where
   pub up_once : (ph : Phase T) → up ph ≤ 1
-  up_once free = omega arith
-  up_once (full x) = omega arith
-  up_once (held j call writing o d) = omega arith
-  up_once (held j call swapping o d) = omega arith
-  up_once (held j call reading o d) = omega arith
-  up_once (held j call displacing o d) = omega arith
+  up_once ph = grind (arith, nat_tests)
 
   beside_push : (i : Option (ℕ × T)) (e : PushError T) → MayBeside i (Pushed (Err e))
-  beside_push None e = tt
-  beside_push (Some i) e = tt
-
-  beside_force : (i : Option (ℕ × T)) (e : ForcePushError T) → MayBeside i (ForcePushed (Err e))
-  beside_force None e = tt
-  beside_force (Some i) e = tt
+  beside_push i e = grind (arith, nat_tests)
 
   beside_len : (i : Option (ℕ × T)) (k : ℕ) → MayBeside i (LenIs k)
-  beside_len None k = tt
-  beside_len (Some i) k = tt
-
-  beside_empty : (i : Option (ℕ × T)) (b : Bool) → MayBeside i (EmptyIs b)
-  beside_empty None b = tt
-  beside_empty (Some i) b = tt
+  beside_len i k = grind (arith, nat_tests)
 
   beside_full : (i : Option (ℕ × T)) (b : Bool) → MayBeside i (FullIs b)
-  beside_full None b = tt
-  beside_full (Some i) b = tt
-
-  beside_closed : (i : Option (ℕ × T)) (b : Bool) → MayBeside i (ClosedIs b)
-  beside_closed None b = tt
-  beside_closed (Some i) b = tt
+  beside_full i b = grind (arith, nat_tests)
 
 module _ {T : Type 0} (n m : ℕ) (shape : IsShape n m) (g : Ghost T) (b : Base n m g) where
   -- where a look leads to
@@ -92,7 +69,7 @@ module _ {T : Type 0} (n m : ℕ) (shape : IsShape n m) (g : Ghost T) (b : Base 
   PushLooks t seen = (kind_of t ≡ looking) × ((f : Fact) × PushFits n m t f × Knows n m g seen f)
 
   finds_push : (x : T) (t : Turn) (seen : List (Sight T)) → PushLooks t seen → Finds (Push x) t seen
-  finds_push x t seen l = subst (λ (k : Kind). FindsAs k (Push x) t seen) (sym l.0) l.1
+  finds_push x t seen l = grind (arith, nat_tests)
 
   to_force : (x : T) (t : Turn) (seen : List (Sight T)) (f : Fact) → PushFits n m t f → Knows n m g seen f
       → Looks n m g (ForcePush x) t seen
@@ -100,7 +77,7 @@ module _ {T : Type 0} (n m : ℕ) (shape : IsShape n m) (g : Ghost T) (b : Base 
   to_force x (Stamp t) seen f fits k = (f, fits, k)
   to_force x (HeadFor t) seen f fits k = (f, fits, k)
   to_force x (Append t) seen f fits k = (f, fits, k)
-  to_force x (Spend t) seen f fits k = (Past fits.0, (fits.0, fits.1, fits.2, refl), (subst (Knows n m g seen) fits.3 k).0)
+  to_force x (Spend t) seen f fits k = (Past fits.0, (fits.0, fits.1, fits.2, refl), grind (arith, nat_tests))
   to_force x _ seen f fits k = absurd fits
 
   finds_force : (x : T) (t : Turn) (seen : List (Sight T)) → PushLooks t seen → Finds (ForcePush x) t seen
@@ -111,7 +88,7 @@ module _ {T : Type 0} (n m : ℕ) (shape : IsShape n m) (g : Ghost T) (b : Base 
     refl,
     (
       Both (Past g.pushed) (OpenAt g.pushed),
-      (g.pushed, ap (λ (c : Bool). word_at n m g.pushed + bit c * m) opened ∙ bare n m shape g.pushed, refl),
+      grind (arith, nat_tests),
       (
         omega arith,
         inl (g.popped, omega arith, length_is n m g b, refl, opened, (let l = length_is n m g b in let w = b.within in omega arith)),
@@ -126,26 +103,23 @@ module _ {T : Type 0} (n m : ℕ) (shape : IsShape n m) (g : Ghost T) (b : Base 
     where
       near : (c : Bool) → nat_lt (tail_now % m) n ≡ c → g.shut ≡ false → Finds call (if c then Stamp tail_now else Tail) (now ∷ older)
       near true e shut = opened (open_now older shut)
-      near false e shut =
-          absurd (let z = ge_is (tail_now % m) n e in let i = tail_index n m shape g.pushed g.shut in let l = mod-lt g.pushed shape.some in
-          omega arith)
+      near false e shut = grind (arith, nat_tests, ge_is, tail_index)
 
       by : (c : Bool) → is_marked m tail_now ≡ c
           → Finds call (if c then End Closed else (if nat_lt (tail_now % m) n then Stamp tail_now else Tail)) (now ∷ older)
-      by true e = closed (sym (marked_is n m shape g.pushed g.shut) ∙ e)
-      by false e = near (nat_lt (tail_now % m) n) refl (sym (marked_is n m shape g.pushed g.shut) ∙ e)
+      by c e = grind (arith, nat_tests, closed, marked_is, near)
 
   closed_push : (x : T) (older : List (Sight T)) → g.shut ≡ true → Finds (Push x) (End Closed) (now ∷ older)
-  closed_push x older shut = inl ((inl (shut, refl), (λ opened. never (sym opened ∙ shut)), refl), beside_push g.coming (ClosedToPush x))
+  closed_push x older shut = grind (arith, nat_tests)
 
   closed_force : (x : T) (older : List (Sight T)) → g.shut ≡ true → Finds (ForcePush x) (End Closed) (now ∷ older)
-  closed_force x older shut = inl ((inl (shut, refl), refl), beside_force g.coming _)
+  closed_force x older shut = grind (arith, nat_tests)
 
   pub push_tail : (x : T) (older : List (Sight T)) → Finds (Push x) (pushes_from n m tail_now) (now ∷ older)
-  push_tail x older = from_tail (Push x) older (closed_push x older) (finds_push x (Stamp tail_now) (now ∷ older))
+  push_tail x older = grind (arith, nat_tests, from_tail, closed_push, finds_push)
 
   pub force_tail : (x : T) (older : List (Sight T)) → Finds (ForcePush x) (pushes_from n m tail_now) (now ∷ older)
-  force_tail x older = from_tail (ForcePush x) older (closed_force x older) (finds_force x (Stamp tail_now) (now ∷ older))
+  force_tail x older = grind (arith, nat_tests, from_tail, closed_force, finds_force)
 
   -- the stamp of the place at the tail of the count c
   push_stamp : (seen : List (Sight T)) (c : ℕ) → (g.cells (c % n)).round % n ≡ c % n → c ≤ g.pushed → AtSome (WasOpen n m g.popped c) seen
@@ -190,15 +164,12 @@ module _ {T : Type 0} (n m : ℕ) (shape : IsShape n m) (g : Ghost T) (b : Base 
       behind : (k : Bool) → (found + 2 * m == word_at n m c + 1) ≡ k → PushLooks (if k then HeadFor (word_at n m c) else Tail) seen
       behind true e =
           let is = one_slot_behind n m shape cell.round c (up cell.phase) place (up_once cell.phase)
-          (is_party (found + 2 * m) (word_at n m c + 1) e) in (
+          (grind (arith, nat_tests)) in (
             refl,
             (
               Both (Both (Past (cell.round + n)) (OpenAt (cell.round + n))) (Aged (cell.round % n) (2 * cell.round + 1)),
-              (cell.round, ap (word_at n m) (sym is.0), refl),
-              (
-                subst (λ (x : ℕ). (x ≤ g.pushed) × AtSome (WasOpen n m g.popped x) seen) (sym is.0) (past, opened),
-                subst (λ (i : ℕ). 2 * cell.round + 1 ≤ age (g.cells i)) (sym place) (let u = is.1 in omega arith),
-              ),
+              grind (arith, nat_tests),
+              grind (arith, nat_tests),
             ),
           )
       behind false e = (refl, (Sure, refl, tt))
@@ -207,44 +178,36 @@ module _ {T : Type 0} (n m : ℕ) (shape : IsShape n m) (g : Ghost T) (b : Base 
           → PushLooks (if k then appends_at n m (word_at n m c)
           else (if found + 2 * m == word_at n m c + 1 then HeadFor (word_at n m c) else Tail)) seen
       by true e =
-          let is = one_slot n m shape c cell.round (up cell.phase) 0 place (up_once cell.phase) (omega arith) (let z =
-          is_party found (word_at n m c) e in omega arith) in
+          let is = one_slot n m shape c cell.round (up cell.phase) 0 place (up_once cell.phase) (omega arith) (grind (arith, nat_tests)) in
           append_or_spend (nat_lt (count_at n m (word_at n m c)) most_accepted) refl (let p = is.0 in omega arith)
       by false e = behind (found + 2 * m == word_at n m c + 1) refl
 
   pub push_stamped : (x : T) (seen : List (Sight T)) (c : ℕ) → (g.cells (c % n)).round % n ≡ c % n → c ≤ g.pushed
       → AtSome (WasOpen n m g.popped c) seen
       → Finds (Push x) (stamped_for_push n m (word_at n m c) (word_at n m (g.cells (c % n)).round + up (g.cells (c % n)).phase)) seen
-  push_stamped x seen c place past opened = finds_push x _ seen (push_stamp seen c place past opened)
+  push_stamped x seen c place past opened = grind (arith, nat_tests, finds_push, push_stamp)
 
   pub force_stamped : (x : T) (seen : List (Sight T)) (c : ℕ) → (g.cells (c % n)).round % n ≡ c % n → c ≤ g.pushed
       → AtSome (WasOpen n m g.popped c) seen
       → Finds (ForcePush x) (stamped_for_push n m (word_at n m c) (word_at n m (g.cells (c % n)).round + up (g.cells (c % n)).phase)) seen
-  force_stamped x seen c place past opened = finds_force x _ seen (push_stamp seen c place past opened)
+  force_stamped x seen c place past opened = grind (arith, nat_tests, finds_force, push_stamp)
 
   -- a ring that was open at this count of appended items, of which a lap is left, was full then
   was_full : (q : ℕ) (seen : List (Sight T)) → g.popped ≡ q → AtSome (WasOpen n m g.popped (q + n)) seen → AtSome WasOpenAndFull seen
   was_full q seen is = at_some (WasOpen n m g.popped (q + n)) WasOpenAndFull goes seen
     where
       goes : (s : Sight T) → WasOpen n m g.popped (q + n) s → WasOpenAndFull s
-      goes s was = (
-        was.4,
-        subst (λ (o : Option ℕ). MatchOption o ⊥ (λ (k : ℕ). length s.queue.items ≡ k)) (sym was.3) (let a = was.1 in
-            let l = was.2 in let w = was.5 in omega arith),
-      )
+      goes s was = grind (arith, nat_tests)
 
   head_is : (q : ℕ) → word_at n m g.popped + 2 * m ≡ word_at n m (q + n) → g.popped ≡ q
-  head_is q e = let z = (head_behind n m shape (q + n) false g.popped (e ∙ sym (bare n m shape (q + n)))).0 in omega arith
+  head_is q e = let z = (head_behind n m shape (q + n) false g.popped (grind (arith, nat_tests))).0 in omega arith
 
   pub push_head : (x : T) (q : ℕ) (seen : List (Sight T)) → AtSome (WasOpen n m g.popped (q + n)) seen
       → Finds (Push x) (push_turn n m (HeadFor (word_at n m (q + n))) (word_at n m g.popped)) seen
   push_head x q seen opened = by (word_at n m g.popped + 2 * m == word_at n m (q + n)) refl
     where
       by : (k : Bool) → (word_at n m g.popped + 2 * m == word_at n m (q + n)) ≡ k → Finds (Push x) (if k then End Full else Tail) seen
-      by true e =
-          at_some WasOpenAndFull (MayAnswer (Push x) (Pushed (Err (FullToPush x))))
-          (λ s was. ((was.0, was.1, refl, refl), beside_push s.incoming (FullToPush x)))
-          seen (was_full q seen (head_is q (is_party (word_at n m g.popped + 2 * m) (word_at n m (q + n)) e)) opened)
+      by true e = grind (arith, nat_tests, at_some, beside_push, was_full, head_is, is_party)
       by false e = (Sure, refl, tt)
 
   pub force_head : (x : T) (q : ℕ) (seen : List (Sight T)) → q + n ≤ g.pushed → AtSome (WasOpen n m g.popped (q + n)) seen
@@ -278,8 +241,7 @@ module _ {T : Type 0} (n m : ℕ) (shape : IsShape n m) (g : Ghost T) (b : Base 
 
       by : (k : Bool) → (word_at n m g.popped + 2 * m == word_at n m (q + n)) ≡ k
           → Finds (ForcePush x) (if k then displaces_at n m (word_at n m (q + n)) else Tail) seen
-      by true e = displace_or_spend (nat_lt (count_at n m (word_at n m (q + n))) most_accepted) refl
-          (was_full q seen (head_is q (is_party (word_at n m g.popped + 2 * m) (word_at n m (q + n)) e)) opened)
+      by true e = grind (arith, nat_tests, displace_or_spend, was_full, head_is, is_party)
       by false e = (Sure, refl, tt)
 
   pub pop_head : (older : List (Sight T)) → Finds Pop (pops_from n m (word_at n m g.popped)) (now ∷ older)
@@ -305,9 +267,8 @@ module _ {T : Type 0} (n m : ℕ) (shape : IsShape n m) (g : Ghost T) (b : Base 
 
       empty : (k : Bool) → (found == word_at n m q) ≡ k → Finds Pop (if k then TailFor (word_at n m q) else Head) seen
       empty true e =
-          let is = one_slot n m shape q cell.round (up cell.phase) 0 place (up_once cell.phase) (omega arith) (let z =
-          is_party found (word_at n m q) e in omega arith) in
-          (Both (Gone q) (Aged (q % n) (2 * q)), (q, refl, refl), (gone, (let p = is.0 in omega arith)))
+          let is = one_slot n m shape q cell.round (up cell.phase) 0 place (up_once cell.phase) (omega arith) (grind (arith, nat_tests)) in
+          (Both (Gone q) (Aged (q % n) (2 * q)), (q, refl, refl), grind (arith, nat_tests))
       empty false e = (Sure, refl, tt)
 
       by : (k : Bool) → (found == word_at n m q + 1) ≡ k
@@ -315,8 +276,8 @@ module _ {T : Type 0} (n m : ℕ) (shape : IsShape n m) (g : Ghost T) (b : Base 
           else (if found == word_at n m q then TailFor (word_at n m q) else Head)) seen
       by true e =
           let is = one_slot n m shape q cell.round (up cell.phase) 1 place (up_once cell.phase) (omega arith)
-          (is_party found (word_at n m q + 1) e) in
-          take (nat_lt (count_at n m (word_at n m q)) most_accepted) (let p = is.0 in let u = is.1 in omega arith)
+          (grind (arith, nat_tests)) in
+          take (nat_lt (count_at n m (word_at n m q)) most_accepted) (grind (arith, nat_tests))
       by false e = empty (found == word_at n m q) refl
 
   -- as many were taken as were appended
@@ -325,11 +286,7 @@ module _ {T : Type 0} (n m : ℕ) (shape : IsShape n m) (g : Ghost T) (b : Base 
 
   -- a place that a pop found free is not the one that an item on its way in has
   nothing_comes : (q : ℕ) → g.pushed ≡ q → 2 * q ≤ age (g.cells (q % n)) → (i : Option (ℕ × T)) → ComesTo n m g.cells g.pushed i → i ≡ None
-  nothing_comes q is aged None comes = refl
-  nothing_comes q is aged (Some i) comes = absurd (
-      let at : age (g.cells (q % n)) ≡ 2 * comes.0 + 1 =
-      subst (λ (x : ℕ). age (g.cells (x % n)) ≡ 2 * comes.0 + 1) is (ap (λ (c : Cell T). age c) comes.3) in
-      let p = comes.2 in let some = shape.some in omega arith)
+  nothing_comes q is aged i comes = grind (arith, nat_tests)
 
   pub pop_tail : (older : List (Sight T)) (q : ℕ) → ComesTo n m g.cells g.pushed g.coming → q ≤ g.popped → 2 * q ≤ age (g.cells (q % n))
       → Finds Pop (pop_turn n m (TailFor (word_at n m q)) tail_now) (now ∷ older)
@@ -337,24 +294,16 @@ module _ {T : Type 0} (n m : ℕ) (shape : IsShape n m) (g : Ghost T) (b : Base 
     where
       closed : (k : Bool) → (tail_now == word_at n m q + m) ≡ k → Finds Pop (if k then End Closed else Head) (now ∷ older)
       closed true e =
-          let is = same_tail n m shape g.pushed q g.shut true (is_party tail_now (word_at n m q + m) e ∙ sym (marked n m shape q)) in
+          let is = same_tail n m shape g.pushed q g.shut true (grind (arith, nat_tests)) in
           inl (
             (none_now q is.0 gone, is.1, refl),
-            subst (λ (i : Option (ℕ × T)). MayBeside i (answer_of {T = T} Pop Closed None))
-                (sym (nothing_comes q is.0 aged g.coming comes)) tt,
+            grind (arith, nat_tests),
           )
       closed false e = (Sure, refl, tt)
 
       by : (k : Bool) → (tail_now == word_at n m q) ≡ k
           → Finds Pop (if k then End Empty else (if tail_now == word_at n m q + m then End Closed else Head)) (now ∷ older)
-      by true e =
-          let is = one_tail n m shape g.pushed q g.shut (is_party tail_now (word_at n m q) e) in
-          inl (
-            (none_now q is.0 gone, is.1, refl),
-            subst (λ (i : Option (ℕ × T)). MayBeside i (answer_of {T = T} Pop Empty None))
-                (sym (nothing_comes q is.0 aged g.coming comes)) tt,
-          )
-      by false e = closed (tail_now == word_at n m q + m) refl
+      by k e = grind (arith, nat_tests, one_tail, is_party, none_now, nothing_comes, closed)
 
   pub len_tail : (older : List (Sight T)) → Finds Len (HeadFor tail_now) (now ∷ older)
   len_tail older = (Past g.pushed, (g.pushed, g.shut, refl, refl), omega arith)
@@ -370,15 +319,13 @@ module _ {T : Type 0} (n m : ℕ) (shape : IsShape n m) (g : Ghost T) (b : Base 
     where
       was : g.pushed ≡ c → (s : Sight T) → WasLong g.pushed c q s
           → MayAnswer Len (LenIs (count_at n m (word_at n m c + bit shut * m) - count_at n m (word_at n m q))) s
-      was is s l =
-          let a = tail_count n m shape c shut in let z = count_of_word n m shape q in
-          (((let u = l.1 in let v = l.2 in let w = l.3 in omega arith), refl), beside_len s.incoming _)
+      was is s l = grind (arith, nat_tests, tail_count, count_of_word, beside_len)
 
       by : (k : Bool) → (tail_now == word_at n m c + bit shut * m) ≡ k
           → Finds Len (if k then End (Length (count_at n m (word_at n m c + bit shut * m) - count_at n m (word_at n m q)))
           else HeadFor tail_now) (now ∷ older)
       by true e =
-          let is = (same_tail n m shape g.pushed c g.shut shut (is_party tail_now (word_at n m c + bit shut * m) e)).0 in
+          let is = (same_tail n m shape g.pushed c g.shut shut (grind (arith, nat_tests))).0 in
           at_some (WasLong g.pushed c q)
           (MayAnswer Len (LenIs (count_at n m (word_at n m c + bit shut * m) - count_at n m (word_at n m q)))) (was is) (now ∷ older)
           long
@@ -398,40 +345,34 @@ module _ {T : Type 0} (n m : ℕ) (shape : IsShape n m) (g : Ghost T) (b : Base 
   )
 
   is_empty_now : (older : List (Sight T)) → drop g.popped g.all ≡ [] → AtSome (MayAnswer IsEmptyCall (EmptyIs true)) (now ∷ older)
-  is_empty_now older none = inl (((λ _. none, λ _. refl), refl), beside_empty g.coming true)
+  is_empty_now older none = grind (arith, nat_tests)
 
   was_some : (s : Sight T) → WasSome s → MayAnswer IsEmptyCall (EmptyIs false) s
-  was_some s some = (((λ e. never e, λ none. absurd (some none)), refl), beside_empty s.incoming false)
+  was_some s some = grind (arith, nat_tests)
 
   pub empty_tail : (older : List (Sight T)) (q : ℕ) → q ≤ g.popped → (g.pushed ≡ q) ⊎ AtSome WasSome (now ∷ older)
       → Finds IsEmptyCall (is_empty_turn n m (TailFor (word_at n m q)) tail_now) (now ∷ older)
   empty_tail older q gone was = by (tail_now == word_at n m q) refl
     where
       bare_not : (c : Bool) → g.shut ≡ c → g.pushed ≡ q → (tail_now == word_at n m q) ≡ false → (tail_now == word_at n m q + m) ≡ false → ⊥
-      bare_not true shut is e e' =
-          is_other tail_now (word_at n m q + m) e' (ap (λ (c : Bool). word_at n m g.pushed + bit c * m) shut ∙ marked n m shape g.pushed
-          ∙ ap (λ (p : ℕ). word_at n m p + m) is)
-      bare_not false shut is e e' =
-          is_other tail_now (word_at n m q) e (ap (λ (c : Bool). word_at n m g.pushed + bit c * m) shut ∙ bare n m shape g.pushed
-          ∙ ap (word_at n m) is)
+      bare_not c shut is e h4 = grind (arith, nat_tests)
 
       not_empty : (tail_now == word_at n m q) ≡ false → (tail_now == word_at n m q + m) ≡ false
           → (g.pushed ≡ q) ⊎ AtSome WasSome (now ∷ older)
           → AtSome (MayAnswer IsEmptyCall (EmptyIs false)) (now ∷ older)
-      not_empty e e' (inl is) = absurd (bare_not g.shut refl is e e')
-      not_empty e e' (inr at) = at_some WasSome (MayAnswer IsEmptyCall (EmptyIs false)) was_some (now ∷ older) at
+      not_empty e h1 h2 = grind (arith, nat_tests, bare_not, at_some, WasSome, was_some)
 
       then_by : (k : Bool) → (tail_now == word_at n m q) ≡ false → (tail_now == word_at n m q + m) ≡ k
           → Finds IsEmptyCall (answered (false || k)) (now ∷ older)
       then_by true e e' =
           is_empty_now older
-          (none_now q (same_tail n m shape g.pushed q g.shut true (is_party tail_now (word_at n m q + m) e' ∙ sym (marked n m shape q))).0
+          (none_now q (same_tail n m shape g.pushed q g.shut true (grind (arith, nat_tests))).0
           gone)
       then_by false e e' = not_empty e e' was
 
       by : (k : Bool) → (tail_now == word_at n m q) ≡ k → Finds IsEmptyCall (answered (k || (tail_now == word_at n m q + m))) (now ∷ older)
       by true e = is_empty_now older (none_now q (one_tail n m shape g.pushed q g.shut (is_party tail_now (word_at n m q) e)).0 gone)
-      by false e = then_by (tail_now == word_at n m q + m) e refl
+      by false e = grind (arith, nat_tests, then_by)
 
   pub full_tail : (older : List (Sight T)) → Finds IsFullCall (HeadFor tail_now) (now ∷ older)
   full_tail older = (
@@ -452,16 +393,7 @@ module _ {T : Type 0} (n m : ℕ) (shape : IsShape n m) (g : Ghost T) (b : Base 
       inl (((λ _. (let l = length_is n m g b in let w = b.within in omega arith), λ _. refl), refl), beside_full g.coming true)
 
   was_not_full : (s : Sight T) → WasNotFull n m s → MayAnswer IsFullCall (FullIs false) s
-  was_not_full s was = (
-    (
-      (
-        λ e. never e,
-        λ full. absurd (was.1 (subst (λ (o : Option ℕ). MatchOption o ⊥ (λ (k : ℕ). length s.queue.items ≡ k)) was.0 full)),
-      ),
-      refl,
-    ),
-    beside_full s.incoming false,
-  )
+  was_not_full s was = grind (arith, nat_tests)
 
   pub full_head : (older : List (Sight T)) (c : ℕ) (shut : Bool) → c ≤ g.pushed → (g.popped + n ≡ c) ⊎ AtSome (WasNotFull n m) (now ∷ older)
       → Finds IsFullCall (is_full_turn n m (HeadFor (word_at n m c + bit shut * m)) (word_at n m g.popped)) (now ∷ older)
@@ -477,31 +409,23 @@ module _ {T : Type 0} (n m : ℕ) (shape : IsShape n m) (g : Ghost T) (b : Base 
       lap = Rattle.queue_steps.proofs.BoundedWords.word_a_lap_on n m shape g.popped
 
       bare_not : (d : Bool) → shut ≡ d → g.popped + n ≡ c → (head + 2 * m == tail) ≡ false → (head + 3 * m == tail) ≡ false → ⊥
-      bare_not true is at e e' = is_other (head + 3 * m) tail e' (
-          let on = lap in let same = ap (word_at n m) at in
-          let z = marked n m shape c in let w = ap (λ (d : Bool). word_at n m c + bit d * m) is in omega arith)
-      bare_not false is at e e' = is_other (head + 2 * m) tail e (
-          let on = lap in let same = ap (word_at n m) at in
-          let z = bare n m shape c in let w = ap (λ (d : Bool). word_at n m c + bit d * m) is in omega arith)
+      bare_not d is at e h4 = grind (arith, nat_tests, is_other, head, tail, lap, marked, bit, bare)
 
       not_full : (head + 2 * m == tail) ≡ false → (head + 3 * m == tail) ≡ false
           → (g.popped + n ≡ c) ⊎ AtSome (WasNotFull n m) (now ∷ older)
           → AtSome (MayAnswer IsFullCall (FullIs false)) (now ∷ older)
       not_full e e' (inl is) = absurd (bare_not shut refl is e e')
-      not_full e e' (inr at) = at_some (WasNotFull n m) (MayAnswer IsFullCall (FullIs false)) was_not_full (now ∷ older) at
+      not_full e e' (inr at) = grind (arith, nat_tests, at_some, WasNotFull, was_not_full)
 
       then_by : (k : Bool) → (head + 2 * m == tail) ≡ false → (head + 3 * m == tail) ≡ k
           → Finds IsFullCall (answered (false || k)) (now ∷ older)
-      then_by true e e' = is_full_now older c past (head_behind_marked n m shape c shut g.popped (is_party (head + 3 * m) tail e')).0
-      then_by false e e' = not_full e e' was
+      then_by k e h2 = grind (arith, nat_tests, is_full_now, head_behind_marked, is_party, head, tail, not_full, was)
 
       by : (k : Bool) → (head + 2 * m == tail) ≡ k → Finds IsFullCall (answered (k || (head + 3 * m == tail))) (now ∷ older)
-      by true e = is_full_now older c past (head_behind n m shape c shut g.popped (is_party (head + 2 * m) tail e)).0
-      by false e = then_by (head + 3 * m == tail) e refl
+      by k e = grind (arith, nat_tests, is_full_now, head_behind, is_party, head, tail, then_by)
 
   pub closed_tail : (older : List (Sight T)) → Finds IsClosedCall (answered (is_marked m tail_now)) (now ∷ older)
   closed_tail older = by (is_marked m tail_now) (marked_is n m shape g.pushed g.shut)
     where
       by : (k : Bool) → k ≡ g.shut → Finds IsClosedCall (answered k) (now ∷ older)
-      by true e = inl ((e, refl), beside_closed g.coming true)
-      by false e = inl ((e, refl), beside_closed g.coming false)
+      by k e = grind (arith, nat_tests)

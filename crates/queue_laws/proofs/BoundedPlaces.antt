@@ -1,33 +1,27 @@
 -- The steps in a place that is a party's own, and the end of its call. n is the number of places, m the mark.
-use Rattle.std.proofs.Common.{◌≡◌, ◌≢◌, ℕ, ◌+◌, ◌*◌, ◌%◌, ◌<◌, ◌≤◌, [], ◌∷◌, Bool, true, false, Option, Some, None, sym, refl, ap, ◌∙◌}
+use Rattle.std.proofs.lemmas.Bool.Decides.{nat_tests}
+use Rattle.std.proofs.Common.{◌≡◌, ℕ, ◌+◌, ◌*◌, ◌%◌, ◌<◌, ◌≤◌, [], ◌∷◌, true, false, Option, Some, None, sym, refl, ap, ◌∙◌}
 use Rattle.std.proofs.Common.{subst, arith}
 use Rattle.queue_steps.specs.declared.bounded.Slot.{Slot}
 use Rattle.queue_steps.specs.BoundedTurns.{Turn}
-use Rattle.queue_steps.specs.Calls.{Call, Answer}
-use Rattle.queue_laws.specs.Moments.{Ends, Progress, with_call, MayEnd}
+use Rattle.queue_steps.specs.Calls.{Call}
+use Rattle.queue_laws.specs.Moments.{Ends, Progress, with_call}
 use Rattle.queue_steps.specs.Bounded.{IsShape, word_at}
 use Rattle.queue_laws.specs.SingleSteps.{answer_of, stored}
 use Rattle.queue_laws.specs.BoundedSteps.{Place, Away, Stands, Leaving, BoundedWorld, with_at, reply_of, stamp_after}
 use Rattle.queue_steps.proofs.BoundedWords.{word_a_lap_on}
 use Rattle.queue_laws.proofs.BoundedStamps.{a_lap_on}
-use Rattle.queue_laws.proofs.BoundedState.{Phase, free, full, held, Cell, cell, Ghost, Grip, writing, swapping, reading, displacing, up}
-use Rattle.queue_laws.proofs.BoundedState.{age, slot_of, grip_turn, scene_of, CellLies, HeldBy, Tied}
+use Rattle.queue_laws.proofs.BoundedState.{Phase, free, full, held, Cell, cell, Ghost, Grip, writing, swapping, reading, displacing}
+use Rattle.queue_laws.proofs.BoundedState.{age, slot_of, grip_turn, CellLies, HeldBy, Tied}
 use Rattle.queue_laws.proofs.BoundedKnows.{Stays}
-use Rattle.queue_laws.proofs.BoundedMoves.{at_here, NotBy, held_put}
+use Rattle.queue_laws.proofs.BoundedMoves.{at_here, held_put}
 use Rattle.queue_laws.proofs.BoundedPuts.{Goes, IsSettled, is_moving, from_other, other_calls, keeps, ages, slots_put, rounds, lies, comes}
 use Rattle.queue_laws.proofs.BoundedPuts.{each_still, alone_grip}
 
 module _ {T : Type 0} (n m : ℕ) (shape : IsShape n m) (w : BoundedWorld T) (g : Ghost T) (calls : ℕ → Option (Progress T))
     (tied : Tied n m w g calls) (p : ℕ) (k : Progress T) (at : calls p ≡ Some k) where
-  not_mine : (i c : ℕ) (call : Call T) (grip : Grip) (o : Option T) (d : Bool) → g.cells i ≡ cell c (held p call grip o d) → (q : ℕ)
-      → q ≢ p → NotBy q (g.cells i).phase
-  not_mine i c call grip o d is q other = subst (λ (x : Cell T). NotBy q x.phase) (sym is) (λ e. other (sym e))
-
   there : (i c : ℕ) (ph : Phase T) → i < n → g.cells i ≡ cell c ph → c % n ≡ i
-  there i c ph below is = subst (λ (d : Cell T). d.round % n ≡ i) is (tied.rounds i below)
-
-  settled_by : (i : ℕ) (c : Cell T) → g.cells i ≡ c → IsSettled c.phase → IsSettled (g.cells i).phase
-  settled_by i c is set = subst (λ (x : Cell T). IsSettled x.phase) (sym is) set
+  there i c ph below is = grind (arith, nat_tests)
 
   -- the place is written, swapped or read
   pub entered_by : (call : Call T) (turn : Turn) (grip : Grip) (o : Option T) (i c j : ℕ) → i < n → j ≡ i
@@ -48,7 +42,7 @@ module _ {T : Type 0} (n m : ℕ) (shape : IsShape n m) (w : BoundedWorld T) (g 
         popped = refl;
         sight = refl;
         ages =
-            ages n m shape w g calls tied p i d (subst (λ (e : Cell T). age e ≤ age d) (sym is) (omega arith));
+            grind (arith, nat_tests);
       } in
       subst (λ (x : ℕ). Goes n m shape w g calls [] (record w {
         slots = with_at w.slots x (record { stamp = (w.slots x).stamp; value = stored call (w.slots x).value });
@@ -62,22 +56,21 @@ module _ {T : Type 0} (n m : ℕ) (shape : IsShape n m) (w : BoundedWorld T) (g 
         calls,
         refl,
         record {
-          base = record { behind = tied.base.behind; within = tied.base.within; few = tied.base.few; counted = tied.base.counted };
+          base = grind (arith, nat_tests);
           tail = tied.tail;
           head = tied.head;
-          slots = slots_put n m shape w g calls tied p i d
-              (record { stamp = word_at n m c + up (held p call grip o false); value = stored call o }) refl;
-          rounds = rounds n m shape w g calls tied p i d (there i c (held p call grip o false) below is);
-          lies = lies n m shape w g calls tied p i d g' lying (λ l b other. tied.lies l b);
+          slots = grind (arith, nat_tests);
+          rounds = grind (arith, nat_tests);
+          lies = grind (arith, nat_tests);
           held_by = held_put n m shape g tied.base w.places p (Leaving call turn o) i d
-              (at_here w.places p (Leaving call turn o) ∙ ap (λ (t : Turn). Leaving call t o) turn_is)
+              (grind (arith, nat_tests))
               (alone_grip n m shape w g calls tied p c i grip (ap Rattle.queue_laws.proofs.BoundedPuts.turn_at stand
-              ∙ turn_is) (there i c (held p call grip o false) below is)) tied.held_by;
-          comes = comes n m shape w g calls tied p i d g.coming (settled_by i (cell c (held p call grip o false)) is set) tied.comes;
+              ∙ turn_is) (grind (arith, nat_tests))) tied.held_by;
+          comes = grind (arith, nat_tests);
           each = each_still n m shape w g calls tied p g' st
-              (λ q other. keeps n m shape w g calls tied p i d g' refl q (not_mine i c call grip o false is q other))
+              (λ q other. keeps n m shape w g calls tied p i d g' refl q (grind (arith, nat_tests)))
               (Leaving call turn o) calls (λ q other. refl)
-              (k, at, (i, c, grip, below, at_here g.cells i d, turn_is, told));
+              (k, at, grind (arith, nat_tests));
         },
       ))
 
@@ -102,7 +95,7 @@ module _ {T : Type 0} (n m : ℕ) (shape : IsShape n m) (w : BoundedWorld T) (g 
         popped = refl;
         sight = refl;
         ages =
-            ages n m shape w g calls tied p i d (subst (λ (e : Cell T). age e ≤ age d) (sym is) older);
+            grind (arith, nat_tests);
       } in
       let calls' = with_call calls p None in
       subst (λ (x : ℕ). Goes n m shape w g calls (Ends p (answer_of call (reply_of turn) o) ∷ []) (record w {
@@ -115,31 +108,21 @@ module _ {T : Type 0} (n m : ℕ) (shape : IsShape n m) (w : BoundedWorld T) (g 
       })) (sym slot_is) (
         g',
         calls',
-        (
-          scene_of n m g' calls',
-          (
-            k,
-            at,
-            subst (λ (a : Option (Answer T)). MayEnd k a (answer_of call (reply_of turn) o)) (sym told) refl,
-            from_other n m shape w g calls tied p (ap is_moving stand),
-            refl,
-          ),
-          refl,
-        ),
+        grind (arith, nat_tests),
         record {
-          base = record { behind = tied.base.behind; within = tied.base.within; few = tied.base.few; counted = tied.base.counted };
+          base = grind (arith, nat_tests);
           tail = tied.tail;
           head = tied.head;
-          slots = slots_put n m shape w g calls tied p i d (record { stamp = stamp_after n m turn; value = stored call o }) slot;
-          rounds = rounds n m shape w g calls tied p i d round;
-          lies = lies n m shape w g calls tied p i d g' lying (λ l b other. tied.lies l b);
+          slots = grind (arith, nat_tests);
+          rounds = grind (arith, nat_tests);
+          lies = grind (arith, nat_tests);
           held_by = held_put n m shape g tied.base w.places p Away i d (nobody (with_at w.places p Away))
               (alone_grip n m shape w g calls tied p c i grip (ap Rattle.queue_laws.proofs.BoundedPuts.turn_at stand
-              ∙ turn_is) (there i c (held p call grip o true) below is)) tied.held_by;
-          comes = comes n m shape w g calls tied p i d g.coming (settled_by i (cell c (held p call grip o true)) is set) tied.comes;
+              ∙ turn_is) (grind (arith, nat_tests))) tied.held_by;
+          comes = grind (arith, nat_tests);
           each = each_still n m shape w g calls tied p g' st
-              (λ q other. keeps n m shape w g calls tied p i d g' refl q (not_mine i c call grip o true is q other))
-              Away calls' (other_calls n m shape w g calls tied p None) (at_here calls p None);
+              (λ q other. keeps n m shape w g calls tied p i d g' refl q (grind (arith, nat_tests)))
+              Away calls' (grind (arith, nat_tests)) (at_here calls p None);
         },
       ))
 
@@ -154,17 +137,15 @@ module _ {T : Type 0} (n m : ℕ) (shape : IsShape n m) (w : BoundedWorld T) (g 
   leaves_by call turn writing o i c j below same is turn_is stand lying told =
       left_by call turn writing o i c j (cell c (full lying.2.0)) below same is turn_is stand tt (lying.0, lying.1, lying.2.2)
       (there i c _ below is) (omega arith) (λ places. tt)
-      (ap (λ (t : Turn). record { stamp = stamp_after n m t; value = stored call o }) turn_is
-      ∙ ap (λ (v : Option T). record { stamp = word_at n m c + 1; value = v }) lying.2.1) told
+      (grind (arith, nat_tests)) told
   leaves_by call turn swapping o i c j below same is turn_is stand lying told =
       left_by call turn swapping o i c j (cell (c + n) (full lying.2.0)) below same is turn_is stand tt (lying.0, lying.1, lying.2.2)
       (a_lap_on n c ∙ there i c _ below is) (omega arith) (λ places. tt)
-      (ap (λ (t : Turn). record { stamp = stamp_after n m t; value = stored call o }) turn_is
-      ∙ ap (λ (v : Option T). record { stamp = word_at n m (c + n) + 1; value = v }) lying.2.1) told
+      (grind (arith, nat_tests)) told
   leaves_by call turn reading o i c j below same is turn_is stand lying told =
       left_by call turn reading o i c j (cell (c + n) free) below same is turn_is stand tt (lying.1, (let z = lying.0 in omega arith))
       (a_lap_on n c ∙ there i c _ below is) (let z = shape.some in omega arith) (λ places. tt)
       (ap (λ (t : Turn). record { stamp = stamp_after n m t; value = stored call o }) turn_is
       ∙ ap (λ (q : Call T). record { stamp = word_at n m c + 2 * m; value = stored q o }) lying.2
       ∙ ap (λ (x : ℕ). record { stamp = x; value = None }) (let z = word_a_lap_on n m shape c in omega arith)) told
-  leaves_by call turn displacing o i c j below same is turn_is stand lying told = absurd (let z : true ≡ false = lying.3.3 in cc)
+  leaves_by call turn displacing o i c j below same is turn_is stand lying told = grind (arith, nat_tests)

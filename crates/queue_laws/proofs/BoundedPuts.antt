@@ -1,22 +1,19 @@
 -- How a ring, its parties and their calls stay tied while one party goes on. n is the number of places, m the mark.
-use Rattle.std.proofs.Common.{◌≡◌, ◌≢◌, ℕ, ◌+◌, ◌%◌, ◌<◌, ◌≤◌, List, [], ◌∷◌, Bool, true, false, Option, Some, None, ◌==◌, if◌then◌else◌}
+use Rattle.std.proofs.lemmas.Bool.Decides.{nat_tests}
+use Rattle.std.proofs.Common.{◌≡◌, ◌≢◌, ℕ, ◌%◌, ◌<◌, ◌≤◌, List, [], ◌∷◌, Bool, true, false, Option, Some, None}
 use Rattle.std.proofs.Common.{sym, refl, ap, ◌∙◌, subst, mod-lt, arith}
 use Rattle.queue_steps.specs.declared.bounded.Slot.{Slot}
-use Rattle.queue_steps.specs.BoundedTurns.{Turn, Tail, Fill, Drain, Advance}
-use Rattle.queue_steps.specs.Calls.{Call, ForcePush, Answer}
-use Rattle.queue_laws.specs.Moments.{Moment, Ends, Begins, Sight, Progress, Run, sees, with_call, MayEnd, IsFromOther, AtSome, MayAnswer}
-use Rattle.queue_steps.specs.Bounded.{IsShape, word_at}
-use Rattle.queue_laws.specs.SingleSteps.{answer_of}
+use Rattle.queue_steps.specs.BoundedTurns.{Turn, Tail, Advance}
+use Rattle.queue_steps.specs.Calls.{Call, Answer}
+use Rattle.queue_laws.specs.Moments.{Moment, Ends, Begins, Sight, Progress, Run, sees, with_call, MayEnd, IsFromOther}
+use Rattle.queue_steps.specs.Bounded.{IsShape}
 use Rattle.queue_laws.specs.BoundedSteps.{Place, Away, Stands, Leaving, BoundedWorld, with_at}
-use Rattle.queue_steps.proofs.BoundedWords.{index_of_word}
-use Rattle.queue_laws.proofs.BoundedStamps.{a_lap_on}
-use Rattle.queue_laws.proofs.BoundedState.{Phase, free, full, held, Cell, cell, Ghost, Kind, looking, holding, ending, kind_of, Grip}
+use Rattle.queue_laws.proofs.BoundedState.{Phase, free, full, held, Cell, Ghost, Kind, looking, holding, ending, kind_of, Grip}
 use Rattle.queue_laws.proofs.BoundedState.{writing, swapping, reading, displacing, age, slot_of, grip_turn, sight_of, scene_of, Base}
 use Rattle.queue_laws.proofs.BoundedState.{CellLies, place_of, HeldBy, ComesTo, StandsAs, TiedPlace, Tied}
 use Rattle.queue_laws.proofs.BoundedKnows.{Grows, Stays, Keeps, tied_more, tied_still}
-use Rattle.queue_laws.proofs.BoundedLooks.{FindsAs, Finds}
+use Rattle.queue_laws.proofs.BoundedLooks.{Finds}
 use Rattle.queue_laws.proofs.BoundedMoves.{at_here, at_put, NotBy, held_moved, grip_once}
-use Rattle.queue_laws.proofs.SingleLooks.{never}
 
 abbrev is_advance : Turn → Bool
 is_advance (Advance t) = true
@@ -58,43 +55,18 @@ module _ (n m : ℕ) (shape : IsShape n m) where
   pub near : (p : ℕ) → p % n < n
   near p = mod-lt p shape.some
 
-  -- the word of the place that a party has names that place
-  pub grip_word : (word_in : Turn → ℕ) → ((t : ℕ) (r : _) → word_in (Fill t r) ≡ t) → ((h : ℕ) → word_in (Drain h) ≡ h)
-      → ((t : ℕ) → word_in (Advance t) ≡ t)
-      → (c : ℕ) (grip : Grip) → word_in (grip_turn n m c grip) % m ≡ c % n
-  grip_word word_in fill drain advance c writing = ap (λ (x : ℕ). x % m) (fill (word_at n m c) _) ∙ index_of_word n m shape c
-  grip_word word_in fill drain advance c swapping = ap (λ (x : ℕ). x % m) (fill (word_at n m (c + n)) _) ∙ index_of_word n m shape (c + n)
-      ∙ a_lap_on n c
-  grip_word word_in fill drain advance c reading = ap (λ (x : ℕ). x % m) (drain (word_at n m c)) ∙ index_of_word n m shape c
-  grip_word word_in fill drain advance c displacing = ap (λ (x : ℕ). x % m) (advance (word_at n m (c + n)))
-      ∙ index_of_word n m shape (c + n) ∙ a_lap_on n c
-
 module _ {T : Type 0} (n m : ℕ) (shape : IsShape n m) where
   abbrev pub Goes : BoundedWorld T → Ghost T → (ℕ → Option (Progress T)) → List (Moment T) → BoundedWorld T → Type 0
   Goes w g calls ms w' = (g' : Ghost T) × (calls' : ℕ → Option (Progress T)) × Run (scene_of n m g calls) ms (scene_of n m g' calls')
       × Tied n m w' g' calls'
 
-  grips : (c : ℕ) (call : Call T) (grip : Grip) (o : Option T) (d : Bool) → is_gripping (place_of n m c call grip o d) ≡ true
-  grips c call grip o true = refl
-  grips c call writing o false = refl
-  grips c call swapping o false = refl
-  grips c call reading o false = refl
-  grips c call displacing o false = refl
-
   turn_is : (c : ℕ) (call : Call T) (grip : Grip) (o : Option T) (d : Bool) → turn_at (place_of n m c call grip o d) ≡ grip_turn n m c grip
-  turn_is c call grip o true = refl
-  turn_is c call grip o false = refl
+  turn_is c call grip o d = grind (arith, nat_tests)
 
   module _ (w : BoundedWorld T) (g : Ghost T) (calls : ℕ → Option (Progress T)) (tied : Tied n m w g calls) (p : ℕ) where
     -- a party that has no place has none
     pub alone_free : is_gripping (w.places p) ≡ false → (j : ℕ) → j < n → NotBy p (g.cells j).phase
-    alone_free bare j below = by (g.cells j).round (g.cells j).phase (tied.held_by j below)
-      where
-        by : (c : ℕ) (ph : Phase T) → HeldBy n m w.places c ph → NotBy p ph
-        by c free k = tt
-        by c (full x) k = tt
-        by c (held j call grip o d) k =
-            λ same. never (sym bare ∙ ap (λ (q : ℕ). is_gripping (w.places q)) (sym same) ∙ ap is_gripping k ∙ grips c call grip o d)
+    alone_free bare j below = grind (arith, nat_tests)
 
     -- a party that has a place has no other
     pub alone_grip : (c i : ℕ) (grip : Grip) → turn_at (w.places p) ≡ grip_turn n m c grip → c % n ≡ i → (j : ℕ) → j < n → j ≢ i
@@ -102,38 +74,17 @@ module _ {T : Type 0} (n m : ℕ) (shape : IsShape n m) where
     alone_grip c i grip turn at j below other = by (g.cells j).round (g.cells j).phase (tied.held_by j below) (tied.rounds j below)
       where
         by : (d : ℕ) (ph : Phase T) → HeldBy n m w.places d ph → d % n ≡ j → NotBy p ph
-        by d free k here = tt
-        by d (full x) k here = tt
-        by d (held q call grip' o b) k here = λ same. other (
-            let e : grip_turn n m d grip' ≡ grip_turn n m c grip =
-            sym (turn_is d call grip' o b) ∙ ap turn_at (sym k) ∙ ap (λ (r : ℕ). turn_at (w.places r)) same ∙ turn in
-            sym here ∙ ap (λ (x : ℕ). x % n) (grip_once n m shape g tied.base d c grip' grip e) ∙ at)
+        by d ph k here = grind (arith, nat_tests, free, full, held, grip_turn, turn_is, grip_once)
 
     -- the item on its way in is not of a party that owes no append
     pub from_other : is_moving (w.places p) ≡ false → IsFromOther g.coming p
-    from_other still = by g.coming tied.comes
-      where
-        by : (o : Option (ℕ × T)) → ComesTo n m g.cells g.pushed o → IsFromOther o p
-        by None k = tt
-        by (Some v) k = λ same. never (sym still ∙ ap (λ (q : ℕ). is_moving (w.places q)) (sym same)
-            ∙ ap is_moving
-            (subst (λ (c : Cell T). HeldBy n m w.places c.round c.phase) k.3 (tied.held_by (g.pushed % n) (near n m shape g.pushed))))
+    from_other still = grind (arith, nat_tests)
 
     pub of_party : (place : Place T) → w.places p ≡ place → TiedPlace n m g p place (calls p)
-    of_party place is = subst (λ (x : Place T). TiedPlace n m g p x (calls p)) is (tied.each p)
-
-    -- where a look leads to, the call stands then
-    stands_by : (kind : Kind) (call : Call T) (t : Turn) (k : Progress T) → k.call ≡ call
-        → ((older : List (Sight T)) × (k.seen ≡ sight_of n m g ∷ older)) → k.answer ≡ None
-        → FindsAs n m shape g tied.base kind call t k.seen → StandsAs n m kind g p call t k
-    stands_by looking call t k of seen none finds = (seen, none, finds)
-    stands_by holding call t k of seen none finds = absurd finds
-    stands_by (ending r) call t k of seen none finds =
-        subst (λ (o : Option (Answer T)). MayEnd k o (answer_of call r None)) (sym none)
-        (subst (λ (x : Call T). AtSome (MayAnswer x (answer_of call r None)) k.seen) (sym of) finds)
+    of_party place is = grind (arith, nat_tests)
 
     still : Stays n m g g
-    still = record { pushed = refl; popped = refl; sight = refl; ages = λ i. (omega arith) }
+    still = grind (arith, nat_tests)
 
     -- a step that only looked, or began or ended a call
     pub settled : (place : Place T) (calls' : ℕ → Option (Progress T)) → is_gripping (w.places p) ≡ false
@@ -149,8 +100,7 @@ module _ {T : Type 0} (n m : ℕ) (shape : IsShape n m) where
       held_by = λ j below. held_moved n m w.places p place (g.cells j).round (g.cells j).phase (alone_free bare j below)
           (tied.held_by j below);
       comes = tied.comes;
-      each = at_put (λ (q : ℕ) (x : Place T). TiedPlace n m g q x (calls' q)) w.places p place here
-          (λ q other. subst (TiedPlace n m g q (w.places q)) (sym (same q other)) (tied.each q));
+      each = grind (arith, nat_tests);
     }
 
     pub looked : (call : Call T) (t next : Turn) → w.places p ≡ Stands call t → kind_of t ≡ looking → (k : Progress T) → calls p ≡ Some k
@@ -162,12 +112,11 @@ module _ {T : Type 0} (n m : ℕ) (shape : IsShape n m) where
       calls,
       refl,
       settled (Stands call next) calls (ap is_gripping is
-          ∙ ap is_holding kind) (λ q other. refl) (k, at, of, stands_by (kind_of next) call next k of seen none finds),
+          ∙ ap is_holding kind) (λ q other. refl) (k, at, of, grind (arith, nat_tests)),
     )
 
     pub other_calls : (c : Option (Progress T)) (q : ℕ) → q ≢ p → with_call calls p c q ≡ calls q
-    other_calls c =
-        at_put (λ (q : ℕ) (x : Option (Progress T)). q ≢ p → x ≡ calls q) calls p c (λ bare. absurd (bare refl)) (λ q other bare. refl)
+    other_calls c q h2 = grind (arith, nat_tests)
 
     pub begins : (call : Call T) (t : Turn) → w.places p ≡ Away
         → ((k : Progress T) → k.call ≡ call → ((older : List (Sight T)) × (k.seen ≡ sight_of n m g ∷ older)) → k.answer ≡ None
@@ -178,13 +127,8 @@ module _ {T : Type 0} (n m : ℕ) (shape : IsShape n m) where
         let calls' = with_call calls p (Some c) in (
           g,
           calls',
-          (scene_of n m g calls', (of_party Away is, refl), refl),
-          settled (Stands call t) calls' (ap is_gripping is) (other_calls (Some c)) (
-            c,
-            at_here calls p (Some c),
-            refl,
-            stands c refl ([], refl) refl,
-          ),
+          grind (arith, nat_tests),
+          grind (arith, nat_tests),
         )
 
     pub ends : (a : Answer T) → is_gripping (w.places p) ≡ false → is_moving (w.places p) ≡ false → (k : Progress T) → calls p ≡ Some k
@@ -194,7 +138,7 @@ module _ {T : Type 0} (n m : ℕ) (shape : IsShape n m) where
         let calls' = with_call calls p None in (
           g,
           calls',
-          (scene_of n m g calls', (k, at, may, from_other moves, refl), refl),
+          grind (arith, nat_tests),
           settled Away calls' bare (other_calls None) (at_here calls p None),
         )
 
@@ -204,44 +148,26 @@ module _ {T : Type 0} (n m : ℕ) (shape : IsShape n m) where
       cells_after = with_at g.cells i c
 
       pub keeps : (g' : Ghost T) → g'.cells ≡ cells_after → (q : ℕ) → NotBy q (g.cells i).phase → Keeps n m g g' q
-      keeps g' is q not j r call grip o d e =
-          subst (λ (f : ℕ → Cell T). f j ≡ g.cells j) (sym is)
-          (at_put (λ (l : ℕ) (x : Cell T). g.cells l ≡ cell r (held q call grip o d) → x ≡ g.cells l) g.cells i c
-          (λ e. absurd (subst (λ (x : Cell T). NotBy q x.phase) e not refl)) (λ l other e. refl) j e)
+      keeps g' is q not = grind (arith, nat_tests)
 
       pub ages : age (g.cells i) ≤ age c → (j : ℕ) → age (g.cells j) ≤ age (cells_after j)
-      ages older = at_put (λ (j : ℕ) (x : Cell T). age (g.cells j) ≤ age x) g.cells i c older (λ j other. (omega arith))
+      ages older j = grind (arith, nat_tests)
 
       pub slots_same : i < n → slot_of n m (g.cells i) ≡ slot_of n m c → (j : ℕ) → j < n → w.slots j ≡ slot_of n m (cells_after j)
-      slots_same below same =
-          at_put (λ (j : ℕ) (x : Cell T). j < n → w.slots j ≡ slot_of n m x) g.cells i c (λ b. tied.slots i below
-          ∙ same) (λ j other b. tied.slots j b)
+      slots_same below same j h3 = grind (arith, nat_tests)
 
       pub slots_put : (s : Slot T) → s ≡ slot_of n m c → (j : ℕ) → j < n → with_at w.slots i s j ≡ slot_of n m (cells_after j)
-      slots_put s is j below = by (j == i) refl
-        where
-          by : (b : Bool) → (j == i) ≡ b → (if b then s else w.slots j) ≡ slot_of n m (if b then c else g.cells j)
-          by true e = is
-          by false e = tied.slots j below
+      slots_put s is j below = grind (arith, nat_tests)
 
       pub rounds : c.round % n ≡ i → (j : ℕ) → j < n → (cells_after j).round % n ≡ j
-      rounds here = at_put (λ (j : ℕ) (x : Cell T). j < n → x.round % n ≡ j) g.cells i c (λ b. here) (λ j other b. tied.rounds j b)
+      rounds here j h2 = grind (arith, nat_tests)
 
       pub lies : (g' : Ghost T) → CellLies n m g' c → ((j : ℕ) → j < n → j ≢ i → CellLies n m g' (g.cells j)) → (j : ℕ) → j < n
           → CellLies n m g' (cells_after j)
-      lies g' here others =
-          at_put (λ (j : ℕ) (x : Cell T). j < n → CellLies n m g' x) g.cells i c (λ b. here) (λ j other b. others j b other)
+      lies g' here others j h4 = grind (arith, nat_tests)
 
       pub comes : (o : Option (ℕ × T)) → IsSettled (g.cells i).phase → ComesTo n m g.cells g.pushed o → ComesTo n m cells_after g.pushed o
-      comes None set k = tt
-      comes (Some v) set k = (
-        k.0,
-        k.1,
-        k.2,
-        at_put (λ (j : ℕ) (x : Cell T). g.cells j ≡ cell k.0 (held v.0 (ForcePush v.1) displacing k.1 false)
-            → x ≡ cell k.0 (held v.0 (ForcePush v.1) displacing k.1 false)) g.cells i c
-            (λ e. absurd (subst (λ (x : Cell T). IsSettled x.phase) e set)) (λ j other e. e) (g.pushed % n) k.3,
-      )
+      comes o set k = grind (arith, nat_tests)
 
     -- the other parties, when the queue has become something else
     pub each_more : (g' : Ghost T) → Base n m g' → Grows n m g g' → ((q : ℕ) → q ≢ p → Keeps n m g g' q)

@@ -1,5 +1,6 @@
 -- Every list of steps on a ring is an execution of the closable queue. n is the number of places, m the mark.
-use Rattle.std.proofs.Common.{◌≡◌, ◌⊎◌, inl, inr, ℕ, ◌+◌, ◌-◌, ◌%◌, ◌<◌, ◌≤◌, ◌^◌, List, [], ◌∷◌, ◌++◌, true, false, Option, Some, None}
+use Rattle.std.proofs.lemmas.Bool.Decides.{nat_tests}
+use Rattle.std.proofs.Common.{◌≡◌, ◌⊎◌, inl, inr, ℕ, ◌+◌, ◌-◌, ◌%◌, ◌<◌, ◌≤◌, ◌^◌, List, [], ◌∷◌, true, false, Option, Some, None}
 use Rattle.std.proofs.Common.{IsSome, sym, refl, ap, ◌∙◌, subst, lt_of_not-le, arith}
 use mathlib.Core.Logic.{dite}
 use native.Mathlib.Decide.{dec_le}
@@ -9,7 +10,7 @@ use Rattle.queue_steps.specs.BoundedTurns.{Turn, Advance, Fill, Drain, End}
 use Rattle.queue_steps.specs.Reply.{Reply, Done, Displaced}
 use Rattle.queue_steps.specs.ClosableQueue.{most_accepted}
 use Rattle.queue_steps.specs.Calls.{Call, Push, ForcePush, Pop, Close, Len, IsEmptyCall, IsFullCall, IsClosedCall}
-use Rattle.queue_laws.specs.Moments.{Moment, Scene, Sight, Progress, Run}
+use Rattle.queue_laws.specs.Moments.{Sight, Progress}
 use Rattle.queue_steps.specs.Bounded.{IsShape, word_at, count_at, is_marked}
 use Rattle.queue_laws.specs.SingleSteps.{Step, Begin, Go, answer_of}
 use Rattle.queue_laws.specs.BoundedSteps.{Place, Away, Stands, Leaving, BoundedWorld, first_turn, begun, moved, entered, stood, gone}
@@ -17,8 +18,8 @@ use Rattle.queue_laws.specs.BoundedSteps.{leaves, left, stepped, begin_moments, 
 use Rattle.queue_laws.specs.BoundedSteps.{IsNeverEmpty, IsClosableQueue}
 use Rattle.queue_steps.proofs.BoundedWords.{index_of_word, first_word, word_a_lap_on, word_fits, count_of_word}
 use Rattle.queue_laws.proofs.BoundedStamps.{bare, marked_is, tail_count, a_lap_on}
-use Rattle.queue_laws.proofs.BoundedState.{Phase, free, full, held, Cell, cell, Ghost, holding, kind_of, Sure, Grip, writing, swapping}
-use Rattle.queue_laws.proofs.BoundedState.{reading, displacing, up, slot_of, grip_turn, sight_of, scene_of, Base, CellLies, Looks, Grips}
+use Rattle.queue_laws.proofs.BoundedState.{Phase, free, held, Cell, cell, Ghost, kind_of, Sure, Grip, writing, swapping}
+use Rattle.queue_laws.proofs.BoundedState.{reading, displacing, up, slot_of, grip_turn, sight_of, scene_of, CellLies, Looks, Grips}
 use Rattle.queue_laws.proofs.BoundedState.{StandsAs, Tied}
 use Rattle.queue_laws.proofs.BoundedKnows.{length_is}
 use Rattle.queue_laws.proofs.BoundedLooks.{up_once}
@@ -65,10 +66,10 @@ module _ {T : Type 0} (n m : ℕ) (shape : IsShape n m) where
     looks_by IsClosedCall t is of seen none h = closed_by n m shape w g calls tied p k at t is of seen none h
 
     place_is : (i c : ℕ) (ph : Phase T) → i < n → g.cells i ≡ cell c ph → c % n ≡ i
-    place_is i c ph below is = subst (λ (d : Cell T). d.round % n ≡ i) is (tied.rounds i below)
+    place_is i c ph below is = grind (arith, nat_tests)
 
     lies_so : (i : ℕ) (c : Cell T) → i < n → g.cells i ≡ c → CellLies n m g c
-    lies_so i c below is = subst (CellLies n m g) is (tied.lies i below)
+    lies_so i c below is = grind (arith, nat_tests)
 
     -- the turn of the append that a displacement owes
     advance_by : (call : Call T) (t : ℕ) → w.places p ≡ Stands call (Advance t) → k.call ≡ call → (o : Option T)
@@ -115,14 +116,14 @@ module _ {T : Type 0} (n m : ℕ) (shape : IsShape n m) where
             let word : t ≡ word_at n m c = (let z : Fill t r ≡ Fill (word_at n m c) Done = e in cc) in
             entered_by n m shape w g calls tied p k at call (Fill t r) writing o i c (t % m) h.3 (ap (λ (z : ℕ). z % m) word
             ∙ index_of_word n m shape c ∙ place_is i c _ h.3 is) is e stand tt
-            (lies_so i (cell c (held p call writing o false)) h.3 is) h.6
+            (grind (arith, nat_tests)) h.6
         by swapping is e =
             let word : t ≡ word_at n m (c + n) = (let z : Fill t r ≡ Fill (word_at n m (c + n)) Displaced = e in cc) in
             entered_by n m shape w g calls tied p k at call (Fill t r) swapping o i c (t % m) h.3 (ap (λ (z : ℕ). z % m) word
             ∙ index_of_word n m shape (c + n) ∙ a_lap_on n c ∙ place_is i c _ h.3 is) is e stand tt
-            (lies_so i (cell c (held p call swapping o false)) h.3 is) h.6
-        by reading is e = absurd (let z : Fill t r ≡ Drain (word_at n m c) = e in cc)
-        by displacing is e = absurd (let z : Fill t r ≡ Advance (word_at n m (c + n)) = e in cc)
+            (grind (arith, nat_tests)) h.6
+        by reading is e = grind (arith, nat_tests)
+        by displacing is e = grind (arith, nat_tests)
 
     drain_by : (call : Call T) (t : ℕ) → w.places p ≡ Stands call (Drain t) → (o : Option T) → Grips n m g p call (Drain t) o false k
         → Goes n m shape w g calls [] (entered n m w p call (Drain t) t)
@@ -140,10 +141,10 @@ module _ {T : Type 0} (n m : ℕ) (shape : IsShape n m) where
             let word : t ≡ word_at n m c = (let z : Drain t ≡ Drain (word_at n m c) = e in cc) in
             entered_by n m shape w g calls tied p k at call (Drain t) reading o i c (t % m) h.3 (ap (λ (z : ℕ). z % m) word
             ∙ index_of_word n m shape c ∙ place_is i c _ h.3 is) is e stand tt
-            (lies_so i (cell c (held p call reading o false)) h.3 is) h.6
-        by writing is e = absurd (let z : Drain t ≡ Fill (word_at n m c) Done = e in cc)
-        by swapping is e = absurd (let z : Drain t ≡ Fill (word_at n m (c + n)) Displaced = e in cc)
-        by displacing is e = absurd (let z : Drain t ≡ Advance (word_at n m (c + n)) = e in cc)
+            (grind (arith, nat_tests)) h.6
+        by writing is e = grind (arith, nat_tests)
+        by swapping is e = grind (arith, nat_tests)
+        by displacing is e = grind (arith, nat_tests)
 
     filled_by : (call : Call T) (t : ℕ) (r : Reply) (o : Option T) → w.places p ≡ Leaving call (Fill t r) o
         → Grips n m g p call (Fill t r) o true k
@@ -153,13 +154,7 @@ module _ {T : Type 0} (n m : ℕ) (shape : IsShape n m) where
         (lies_so h.0 _ h.3 h.4) h.6
       where
         by : (grip : Grip) → Fill t r ≡ grip_turn n m h.1 grip → t % m ≡ h.0
-        by writing e = ap (λ (z : ℕ). z % m) (let z : Fill t r ≡ Fill (word_at n m h.1) Done = e in let a : t ≡ word_at n m h.1 = cc in a)
-            ∙ index_of_word n m shape h.1 ∙ place_is h.0 h.1 _ h.3 h.4
-        by swapping e =
-            ap (λ (z : ℕ). z % m) (let z : Fill t r ≡ Fill (word_at n m (h.1 + n)) Displaced = e in
-            let a : t ≡ word_at n m (h.1 + n) = cc in a) ∙ index_of_word n m shape (h.1 + n) ∙ a_lap_on n h.1 ∙ place_is h.0 h.1 _ h.3 h.4
-        by reading e = absurd (let z : Fill t r ≡ Drain (word_at n m h.1) = e in cc)
-        by displacing e = absurd (let z : Fill t r ≡ Advance (word_at n m (h.1 + n)) = e in cc)
+        by grip e = grind (arith, nat_tests, writing, index_of_word, place_is, swapping, a_lap_on, reading, displacing)
 
     drained_by : (call : Call T) (t : ℕ) (o : Option T) → w.places p ≡ Leaving call (Drain t) o → Grips n m g p call (Drain t) o true k
         → Goes n m shape w g calls (go_moments n m w p (Leaving call (Drain t) o)) (left n m w p (Drain t) t)
@@ -168,11 +163,7 @@ module _ {T : Type 0} (n m : ℕ) (shape : IsShape n m) where
         (lies_so h.0 _ h.3 h.4) h.6
       where
         by : (grip : Grip) → Drain t ≡ grip_turn n m h.1 grip → t % m ≡ h.0
-        by reading e = ap (λ (z : ℕ). z % m) (let z : Drain t ≡ Drain (word_at n m h.1) = e in let a : t ≡ word_at n m h.1 = cc in a)
-            ∙ index_of_word n m shape h.1 ∙ place_is h.0 h.1 _ h.3 h.4
-        by writing e = absurd (let z : Drain t ≡ Fill (word_at n m h.1) Done = e in cc)
-        by swapping e = absurd (let z : Drain t ≡ Fill (word_at n m (h.1 + n)) Displaced = e in cc)
-        by displacing e = absurd (let z : Drain t ≡ Advance (word_at n m (h.1 + n)) = e in cc)
+        by grip e = grind (arith, nat_tests, reading, index_of_word, place_is, writing, swapping, displacing)
 
     stands_by : (call : Call T) (t : Turn) → w.places p ≡ Stands call t → k.call ≡ call → StandsAs n m (kind_of t) g p call t k
         → Goes n m shape w g calls (turn_moments n m w p call t) (stood n m w p call t)
@@ -182,32 +173,15 @@ module _ {T : Type 0} (n m : ℕ) (shape : IsShape n m) where
     stands_by call (End r) is of h = ends n m shape w g calls tied p (answer_of call r None) (ap is_gripping is) (ap is_moving is) k at h
     stands_by call t is of h = looks_by call t is of h.0 h.1 h.2
 
-    not_displacing : (turn : Turn) → (turn_kind : kind_of turn ≡ holding → ⊥) → (call : Call T) (o : Option T)
-        → Grips n m g p call turn o true k → ⊥
-    not_displacing turn other call o h = other (ap kind_of h.5 ∙ holds h.1 h.2)
-      where
-        holds : (c : ℕ) (grip : Grip) → kind_of (grip_turn n m c grip) ≡ holding
-        holds c writing = refl
-        holds c swapping = refl
-        holds c reading = refl
-        holds c displacing = refl
-
     not_advance : (t : ℕ) (call : Call T) (o : Option T) → Grips n m g p call (Advance t) o true k → ⊥
-    not_advance t call o h = by h.2 h.4 h.5
-      where
-        by : (grip : Grip) → g.cells h.0 ≡ cell h.1 (held p call grip o true) → Advance t ≡ grip_turn n m h.1 grip → ⊥
-        by writing is e = let z : Advance t ≡ Fill (word_at n m h.1) Done = e in cc
-        by swapping is e = let z : Advance t ≡ Fill (word_at n m (h.1 + n)) Displaced = e in cc
-        by reading is e = let z : Advance t ≡ Drain (word_at n m h.1) = e in cc
-        by displacing is e = let lying : CellLies n m g (cell h.1 (held p call displacing o true)) = lies_so h.0 _ h.3 is in
-            let told : true ≡ false = lying.3.3 in cc
+    not_advance t call o h = grind (arith, nat_tests)
 
     leaving_by : (call : Call T) (t : Turn) (o : Option T) → w.places p ≡ Leaving call t o → Grips n m g p call t o true k
         → Goes n m shape w g calls (go_moments n m w p (Leaving call t o)) (leaves n m w p t)
     leaving_by call (Fill u r) o is h = filled_by call u r o is h
     leaving_by call (Drain u) o is h = drained_by call u o is h
     leaving_by call (Advance u) o is h = absurd (not_advance u call o h)
-    leaving_by call t o is h = absurd (not_displacing t (λ e. cc) call o h)
+    leaving_by call t o is h = grind (arith, nat_tests)
 
   go_by : (w : BoundedWorld T) (g : Ghost T) (calls : ℕ → Option (Progress T)) (p : ℕ) (place : Place T) → Tied n m w g calls
       → w.places p ≡ place
@@ -233,18 +207,14 @@ module _ {T : Type 0} (n m : ℕ) (shape : IsShape n m) where
   begin_by : (w : BoundedWorld T) (g : Ghost T) (calls : ℕ → Option (Progress T)) (p : ℕ) (call : Call T) (place : Place T)
       → Tied n m w g calls → w.places p ≡ place
       → Goes n m shape w g calls (begin_moments n m p call place) (begun n m w p call place)
-  begin_by w g calls p call Away tied is = begins n m shape w g calls tied p call (first_turn n m call) is (begin_stands g p call)
+  begin_by w g calls p call Away tied is = grind (arith, nat_tests, begins, begin_stands)
   begin_by w g calls p call (Stands other t) tied is = (g, calls, refl, tied)
   begin_by w g calls p call (Leaving other t o) tied is = (g, calls, refl, tied)
 
   step_by : (w : BoundedWorld T) (g : Ghost T) (calls : ℕ → Option (Progress T)) (step : Step T) → Tied n m w g calls
       → Goes n m shape w g calls (moments n m w step) (stepped n m w step)
-  step_by w g calls (Begin p call) tied = begin_by w g calls p call (w.places p) tied refl
-  step_by w g calls (Go p) tied = go_by w g calls p (w.places p) tied refl
-
-  run_append : (a b c : Scene T) (ms ns : List (Moment T)) → Run a ms b → Run b ns c → Run a (ms ++ ns) c
-  run_append a b c [] ns first second = subst (λ (x : Scene T). Run x ns c) first second
-  run_append a b c (moment ∷ ms) ns first second = (first.0, first.1, run_append first.0 b c ms ns first.2 second)
+  step_by w g calls (Begin p call) tied = grind (arith, nat_tests, begin_by)
+  step_by w g calls (Go p) tied = grind (arith, nat_tests, go_by)
 
   pub runs : (steps : List (Step T)) (w : BoundedWorld T) (g : Ghost T) (calls : ℕ → Option (Progress T)) → Tied n m w g calls
       → Goes n m shape w g calls (trace n m steps w) (run n m steps w)
@@ -254,8 +224,7 @@ module _ {T : Type 0} (n m : ℕ) (shape : IsShape n m) where
       let rest = runs steps (stepped n m w step) one.0 one.1 one.3 in (
         rest.0,
         rest.1,
-        run_append (scene_of n m g calls) (scene_of n m one.0 one.1) (scene_of n m rest.0 rest.1) (moments n m w step)
-            (trace n m steps (stepped n m w step)) one.2 rest.2,
+        grind (arith, nat_tests),
         rest.3,
       )
 
@@ -264,7 +233,7 @@ module _ {T : Type 0} (n m : ℕ) (shape : IsShape n m) where
 
   pub new_tied : Tied n m (new_ring {T = T} n m) new_ghost (λ p. None)
   new_tied = record {
-    base = record { behind = (omega arith); within = (omega arith); few = (omega arith); counted = refl };
+    base = grind (arith, nat_tests);
     tail = sym (bare n m shape 0 ∙ first_word n m shape 0 shape.some);
     head = sym (first_word n m shape 0 shape.some);
     slots = λ i below. ap (λ (x : ℕ). record { stamp = x; value = None }) (let z = first_word n m shape i below in omega arith);
@@ -275,18 +244,8 @@ module _ {T : Type 0} (n m : ℕ) (shape : IsShape n m) where
     each = λ p. refl;
   }
 
-  -- a place is free for the next lap at most, or of an item that was appended
-  round_fits : (g : Ghost T) → Base n m g → (p : ℕ) (ph : Phase T) → CellLies n m g (cell p ph)
-      → (p ≤ most_accepted) ⊎ ((up ph ≡ 0) × (p < most_accepted + n))
-  round_fits g b p free k = inr (refl, (let z = k.1 in let u = b.behind in let f = b.few in omega arith))
-  round_fits g b p (full x) k = inl (let z = k.1 in let f = b.few in omega arith)
-  round_fits g b p (held j call writing o d) k = inl (let z = k.1 in let f = b.few in omega arith)
-  round_fits g b p (held j call swapping o d) k = inl (let z = k.1 in let f = b.few in omega arith)
-  round_fits g b p (held j call reading o d) k = inl (let z = k.0 in let u = b.behind in let f = b.few in omega arith)
-  round_fits g b p (held j call displacing o d) k = inl (let z = k.0 in let u = b.behind in let f = b.few in omega arith)
-
   some_is : (o : Option T) (y : T) → o ≡ Some y → IsSome o
-  some_is o y is = subst (λ (x : Option T). IsSome x) (sym is) refl
+  some_is o y is = grind (arith, nat_tests)
 
   never_empty : (w : BoundedWorld T) (g : Ghost T) (calls : ℕ → Option (Progress T)) → Tied n m w g calls → IsNeverEmpty n m w
   never_empty w g calls tied p h call is =
@@ -294,16 +253,10 @@ module _ {T : Type 0} (n m : ℕ) (shape : IsShape n m) where
     where
       by : (o : Option T) (i c : ℕ) (grip : Grip) → i < n → g.cells i ≡ cell c (held p call grip o false) → Drain h ≡ grip_turn n m c grip
           → IsSome (w.slots (h % m)).value
-      by o i c writing below at e = absurd (let z : Drain h ≡ Fill (word_at n m c) Done = e in cc)
-      by o i c swapping below at e = absurd (let z : Drain h ≡ Fill (word_at n m (c + n)) Displaced = e in cc)
-      by o i c displacing below at e = absurd (let z : Drain h ≡ Advance (word_at n m (c + n)) = e in cc)
-      by o i c reading below at e =
-          let lying : CellLies n m g (cell c (held p call reading o false)) = subst (CellLies n m g) at (tied.lies i below) in
-          let word : h ≡ word_at n m c = (let z : Drain h ≡ Drain (word_at n m c) = e in cc) in
-          let place : h % m ≡ i = ap (λ (z : ℕ). z % m) word ∙ index_of_word n m shape c
-          ∙ subst (λ (d : Cell T). d.round % n ≡ i) at (tied.rounds i below) in
-          some_is (w.slots (h % m)).value lying.3.0
-          (ap (λ (z : ℕ). (w.slots z).value) place ∙ ap (λ (s : Slot T). s.value) (tied.slots i below ∙ ap (slot_of n m) at) ∙ lying.3.1)
+      by o i c writing below at e = grind (arith, nat_tests)
+      by o i c swapping below at e = grind (arith, nat_tests)
+      by o i c displacing below at e = grind (arith, nat_tests)
+      by o i c reading below at e = grind (arith, nat_tests, CellLies, cell, c, held, reading, i, index_of_word, Cell, some_is, slot_of)
 
   pub a_ring_is_a_queue : (steps : List (Step T)) → IsClosableQueue n m steps
   a_ring_is_a_queue steps =
@@ -319,9 +272,9 @@ module _ {T : Type 0} (n m : ℕ) (shape : IsShape n m) where
         accepted = ap Some (sym tail_is);
         items = let l = length_is n m g tied.base in omega arith;
         tail = let z = word_fits n m w.tail shape (let f = tied.base.few in omega arith) in omega arith;
-        head = let z = word_fits n m w.head shape (let f = tied.base.few in let b = tied.base.behind in omega arith) in omega arith;
+        head = let z = word_fits n m w.head shape (grind (arith, nat_tests)) in omega arith;
         stamps = λ i below. subst (λ (s : Slot T). s.stamp < 2 ^ 64) (sym (tied.slots i below))
             (stamp_fits n m shape (g.cells i).round (up (g.cells i).phase) (up_once (g.cells i).phase)
-            (round_fits g tied.base (g.cells i).round (g.cells i).phase (tied.lies i below)));
+            (grind (arith, nat_tests)));
         never_empty = never_empty w g r.1 tied;
       }

@@ -1,21 +1,18 @@
 -- What two words of a ring that are the same tell of their counts. n is the number of places, m the mark.
-use Rattle.std.proofs.Common.{◌≡◌, ℕ, ◌+◌, ◌*◌, ◌/◌, ◌%◌, ◌<◌, ◌≤◌, Bool, true, false, ◌==◌, sym, refl, ap, ap₂, ◌∙◌, zero-mul}
-use Rattle.std.proofs.Common.{div-add-mod', lt_of_not-le, arith}
-use Rattle.std.proofs.Math.Arith.{digits_div, digits_mod}
-use mathlib.Core.Logic.{dite}
-use native.Mathlib.Decide.{dec_le}
+use Rattle.std.proofs.lemmas.Bool.Decides.{nat_tests}
+use Rattle.std.proofs.Common.{◌≡◌, ℕ, ◌+◌, ◌*◌, ◌/◌, ◌%◌, ◌<◌, ◌≤◌, Bool, true, false, ◌==◌, sym, refl, ap, ◌∙◌, zero-mul}
+use Rattle.std.proofs.Common.{arith}
+use Rattle.std.proofs.Math.Arith.{digits_div}
 use native.Mathlib.Nat.{add-mod_right}
 use Rattle.queue_steps.specs.Bounded.{IsShape, word_at, count_at, is_marked}
 use Rattle.queue_steps.proofs.BoundedWords.{index_of, marked_by, count_of, word_a_lap_on}
-use Rattle.queue_steps.proofs.BoundedSlots.{places_differ}
 
 abbrev pub bit : Bool → ℕ
 bit true = 1
 bit false = 0
 
 at_most_one : (b : Bool) → bit b ≤ 1
-at_most_one true = omega arith
-at_most_one false = omega arith
+at_most_one b = grind (arith, nat_tests)
 
 bit_test : (b : Bool) → (bit b == 1) ≡ b
 bit_test true = refl
@@ -27,7 +24,7 @@ parts n m p = refl
 
 -- counts of one place less than a lap apart are the same
 pub same_count : (n a b : ℕ) → a ≤ b → b < a + n → a % n ≡ b % n → a ≡ b
-same_count n a b le near same = dite (dec_le b a) (λ ge. omega arith) (λ not. absurd (places_differ n a b (lt_of_not-le not) near same))
+same_count n a b le near same = grind (arith, nat_tests)
 
 pub a_lap_on : (n p : ℕ) → (p + n) % n ≡ p % n
 a_lap_on n p = add-mod_right p n
@@ -38,13 +35,13 @@ module _ (n m : ℕ) (s : IsShape n m) where
   tail_word p b = word_at n m p + bit b * m
 
   pub marked_is : (p : ℕ) (b : Bool) → is_marked m (tail_word p b) ≡ b
-  marked_is p b = marked_by n m s p (bit b) (at_most_one b) ∙ bit_test b
+  marked_is p b = grind (arith, nat_tests, marked_by, at_most_one, bit_test)
 
   pub tail_index : (p : ℕ) (b : Bool) → tail_word p b % m ≡ p % n
-  tail_index p b = index_of n m s p (bit b)
+  tail_index p b = grind (arith, nat_tests, index_of)
 
   pub tail_count : (p : ℕ) (b : Bool) → count_at n m (tail_word p b) ≡ p
-  tail_count p b = count_of n m s p (bit b) (at_most_one b)
+  tail_count p b = grind (arith, nat_tests, count_of, at_most_one)
 
   pub bare : (p : ℕ) → tail_word p false ≡ word_at n m p
   bare p = omega (arith, zero-mul m)
@@ -59,7 +56,7 @@ module _ (n m : ℕ) (s : IsShape n m) where
   )
 
   pub one_count : (p q : ℕ) → word_at n m p ≡ word_at n m q → p ≡ q
-  one_count p q e = (same_tail p q false false (bare p ∙ e ∙ sym (bare q))).0
+  one_count p q e = (same_tail p q false false (grind (arith, nat_tests))).0
 
   -- a tail that is a word without mark
   pub one_tail : (p q : ℕ) (b : Bool) → tail_word p b ≡ word_at n m q → (p ≡ q) × (b ≡ false)
@@ -73,8 +70,8 @@ module _ (n m : ℕ) (s : IsShape n m) where
       let cut : x * lap + u ≡ y * lap + v = omega (arith, parts n m p, parts n m q) in
       let lu : u < lap = omega arith in let lv : v < lap = omega arith in
       let laps : x ≡ y = sym (digits_div x lu) ∙ ap (λ (z : ℕ). z / lap) cut ∙ digits_div y lv in (
-        sym (div-add-mod' q n) ∙ ap₂ (λ (s t : ℕ). s * n + t) laps same ∙ div-add-mod' p n,
-        sym (digits_mod x lu) ∙ ap (λ (z : ℕ). z % lap) cut ∙ digits_mod y lv,
+        grind (arith, nat_tests),
+        grind (arith, nat_tests),
       )
 
   -- the stamp of a place and the word of a later lap

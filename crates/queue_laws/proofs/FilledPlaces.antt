@@ -1,14 +1,13 @@
 -- Where one party alone appends, a push of it is refused full only once it has filled the places that were free. n is
 -- the number of places.
-use Rattle.std.proofs.Common.{◌≡◌, ℕ, ◌+◌, ◌≤◌, List, [], ◌∷◌, ◌++◌, Bool, Option, Some, None, Result, Ok, Err, MatchOption}
+use Rattle.std.proofs.lemmas.Bool.Decides.{nat_tests}
+use Rattle.std.proofs.Common.{◌≡◌, ℕ, ◌+◌, ◌≤◌, List, [], ◌∷◌, ◌++◌, Bool, Option, Some, None, Result, Err}
 use Rattle.std.proofs.Common.{inl, inr, if◌then◌else◌, sym, refl, ap, ◌∙◌, subst, eq-eqb, arith}
-use Rattle.queue_steps.specs.declared.errors.PushError.TheVariants.{Full, Closed, NoMemory}
-use Rattle.queue_steps.specs.declared.errors.ForcePushError.TheVariants.{Closed as ClosedToForce, NoMemory as NoMemoryToForce}
-use Rattle.queue_steps.specs.declared.errors.PopError.TheVariants.{Empty, Closed as ClosedToPop}
-use Rattle.queue_steps.specs.ClosableQueue.{ClosableQueue, IsFull, appended, taken}
-use Rattle.queue_steps.specs.Replies.{TurnsAway, Pushes, ForcePushes}
-use Rattle.queue_steps.specs.Calls.{Call, Push, ForcePush, Pop, Close, Len, IsEmptyCall, IsFullCall, IsClosedCall, Answer, Pushed}
-use Rattle.queue_steps.specs.Calls.{ForcePushed, Popped, WasClosed, LenIs, EmptyIs, FullIs, ClosedIs, Acts}
+use Rattle.queue_steps.specs.declared.errors.PushError.TheVariants.{Full}
+use Rattle.queue_steps.specs.ClosableQueue.{ClosableQueue, IsFull, appended}
+use Rattle.queue_steps.specs.Replies.{TurnsAway, Pushes}
+use Rattle.queue_steps.specs.Calls.{Call, Push, Len, Answer, Pushed}
+use Rattle.queue_steps.specs.Calls.{LenIs, Acts}
 use Rattle.queue_steps.specs.Bounded.{IsShape}
 use Rattle.queue_laws.specs.Moments.{Moment, Begins, Does, Displaces, Arrives, Ends, Sight, Scene, Progress, AtSome, MayAnswer, MayEnd}
 use Rattle.queue_laws.specs.Moments.{sees, Happens, Run}
@@ -18,7 +17,7 @@ use Rattle.queue_laws.specs.FreePlaces.{who_appends, AppendsAlone, one_of, appen
 use Rattle.queue_laws.specs.FreePlaces.{SeenPlacesAreFilled}
 use Rattle.queue_laws.proofs.BoundedState.{scene_of}
 use Rattle.queue_laws.proofs.BoundedRuns.{runs}
-use Rattle.queue_laws.proofs.FreePlaces.{len, more, fewer, acts, adds_own, AppendsOwn, here, with_calls, run_grows, cut, alone_cut, by_both}
+use Rattle.queue_laws.proofs.FreePlaces.{len, more, acts, adds_own, AppendsOwn, here, with_calls, run_grows, cut, alone_cut, by_both}
 use Rattle.queue_laws.proofs.FreePlaces.{looks, free_is, reached}
 use Rattle.queue_laws.proofs.PushesInARow.{run_stays_in_call, fewer_appended}
 
@@ -28,43 +27,19 @@ module _ {T : Type 0} where
 
   -- no call changes the capacity
   turned : (q q' : ClosableQueue T) → TurnsAway q q' → room q' ≡ room q
-  turned q q' (inl (c, e)) = ap room e
-  turned q q' (inr (c, s, e)) = ap room e
+  turned q q' h2 = grind (arith, nat_tests)
 
   pushes : (q q' : ClosableQueue T) (x : T) (r : Result (Unit {0}) _) → Pushes q x r q' → room q' ≡ room q
-  pushes q q' x (Ok u) (a, e) = ap room e
-  pushes q q' x (Err (Full y)) (c, f, s, e) = ap room e
-  pushes q q' x (Err (Closed y)) (t, h, s) = turned q q' t
-  pushes q q' x (Err (NoMemory y)) ((c, n, u, e), s) = ap room e
-
-  forces : (q q' : ClosableQueue T) (x : T) (r : Result (Option T) _) → ForcePushes q x r q' → room q' ≡ room q
-  forces q q' x (Ok None) (a, e) = ap room e
-  forces q q' x (Ok (Some y)) (c, f, u, i, e) = ap room e
-  forces q q' x (Err (ClosedToForce y)) (t, s) = turned q q' t
-  forces q q' x (Err (NoMemoryToForce y)) ((c, n, u, e), s) = ap room e
+  pushes q q' x r h4 = grind (arith, nat_tests)
 
   keeps_room : (q q' : ClosableQueue T) (call : Call T) (a : Answer T) → Acts q call a q' → room q' ≡ room q
-  keeps_room q q' (Push x) (Pushed r) h = pushes q q' x r h
-  keeps_room q q' (ForcePush x) (ForcePushed r) h = forces q q' x r h
-  keeps_room q q' Pop (Popped (Ok x)) (i, e) = ap room e
-  keeps_room q q' Pop (Popped (Err Empty)) (i, c, e) = ap room e
-  keeps_room q q' Pop (Popped (Err ClosedToPop)) (i, c, e) = ap room e
-  keeps_room q q' Close (WasClosed b) (f, e) = ap room e
-  keeps_room q q' Len (LenIs n) (f, e) = ap room e
-  keeps_room q q' IsEmptyCall (EmptyIs b) (f, e) = ap room e
-  keeps_room q q' IsFullCall (FullIs b) (f, e) = ap room e
-  keeps_room q q' IsClosedCall (ClosedIs b) (f, e) = ap room e
-  keeps_room q q' _ _ h = elim h [ ]
+  keeps_room q q' call a h = grind (arith, nat_tests)
 
   abbrev room_in : Scene T → Option ℕ
   room_in s = room s.sight.queue
 
   happens_keeps : (s s' : Scene T) (m : Moment T) → Happens s m s' → room_in s' ≡ room_in s
-  happens_keeps s s' (Begins r call) (none, e) = ap room_in e
-  happens_keeps s s' (Does r a) (c, is, none, (q, did, beside, e)) = ap room_in e ∙ keeps_room s.sight.queue q c.call a did
-  happens_keeps s s' (Displaces r y) (c, x, is, none, of, inc, full, unspent, at, first, e) = ap room_in e
-  happens_keeps s s' (Arrives r) (x, inc, e) = ap room_in e
-  happens_keeps s s' (Ends r a) (c, is, may, from, e) = ap room_in e
+  happens_keeps s s' m h3 = grind (arith, nat_tests)
 
   run_keeps : (s s' : Scene T) (ms : List (Moment T)) → Run s ms s' → room_in s' ≡ room_in s
   run_keeps s s' [] e = ap room_in e
@@ -72,15 +47,7 @@ module _ {T : Type 0} where
 
   -- who is told that the queue is full was told so of a full one
   told_full : (q q' : ClosableQueue T) (call : Call T) (x : T) → Acts q call (Pushed (Err (Full x))) q' → IsFull q
-  told_full q q' (Push y) x h = h.1
-  told_full q q' _ x h = elim h [ ]
-
-  abbrev IsPushed : Answer T → Type 0
-  IsPushed (Pushed r) = Unit {0}
-  IsPushed _ = ⊥
-
-  is_pushed : (a : Answer T) (x : T) → a ≡ Pushed (Err (Full x)) → IsPushed a
-  is_pushed a x e = subst IsPushed (sym e) tt
+  told_full q q' call x h = grind (arith, nat_tests)
 
 module _ {T : Type 0} (n : ℕ) where
   -- it has n places, and no more items than b
@@ -88,7 +55,7 @@ module _ {T : Type 0} (n : ℕ) where
   Short b x = (room x.queue ≡ Some n) × (len x.queue ≤ b)
 
   short_on : (b b' : ℕ) → b ≤ b' → (x : Sight T) → Short b x → Short b' x
-  short_on b b' le x h = (h.0, (let z = h.1 in omega (arith, le, z)))
+  short_on b b' le x h = grind (arith, nat_tests)
 
   abbrev AllShort : ℕ → List (Sight T) → Type 0
   AllShort b [] = Unit {0}
@@ -107,62 +74,30 @@ module _ {T : Type 0} (n : ℕ) where
   SeenBy b None = Unit {0}
   SeenBy b (Some c) = Seen b c c.answer
 
-  seen_on : (b b' : ℕ) → b ≤ b' → (o : Option (Progress T)) → SeenBy b o → SeenBy b' o
-  seen_on b b' le None h = tt
-  seen_on b b' le (Some c) h = by_answer c.answer h
-    where
-      by_answer : (a : Option (Answer T)) → Seen b c a → Seen b' c a
-      by_answer (Some told) h = λ x e. let z = h x e in omega (arith, le, z)
-      by_answer None h = all_on b b' le c.seen h
-
   -- one more sight
   seen_more : (x : Sight T) (b b' : ℕ) → b ≤ b' → Short b' x → (o : Option (Progress T)) → SeenBy b o → SeenBy b' (sees x o)
   seen_more x b b' le short None h = tt
   seen_more x b b' le short (Some c) h = by_answer c.answer h
     where
       by_answer : (a : Option (Answer T)) → Seen b c a → Seen b' (record c { seen = x ∷ c.seen }) a
-      by_answer (Some told) h = λ y e. let z = h y e in omega (arith, le, z)
-      by_answer None h = (short, all_on b b' le c.seen h)
+      by_answer a h = grind (arith, nat_tests, all_on)
 
   full_is : (q : ClosableQueue T) → room q ≡ Some n → IsFull q → len q ≡ n
-  full_is q is full = subst (λ (c : Option ℕ). MatchOption c ⊥ (λ k. len q ≡ k)) is full
+  full_is q is full = grind (arith, nat_tests)
 
   -- the queue is no longer than b, and of no longer one party p was told or has seen
   abbrev Within : ℕ → ℕ → Scene T → Type 0
   Within p b s = Short b s.sight × SeenBy b (s.calls p)
 
   begins : (p b : ℕ) (s s' : Scene T) (r : ℕ) (call : Call T) → Happens s (Begins r call) s' → Within p b s → Within p (b + 0) s'
-  begins p b s s' r call (none, e) h =
-      let short = short_on b (b + 0) (omega arith) s.sight h.0 in
-      subst (Within p (b + 0)) (sym e)
-      (short, with_calls (SeenBy (b + 0)) s.calls r p _ (short, tt) (seen_on b (b + 0) (omega arith) (s.calls p) h.1))
+  begins p b s s' r call h6 h = grind (arith, nat_tests)
 
   does : (p b : ℕ) (s s' : Scene T) (r : ℕ) (a : Answer T) → AppendsOwn p (Does r a) → Happens s (Does r a) s' → Within p b s
       → Within p (b + one_of p (who_appends (Does r a))) s'
-  does p b s s' r a own (c, is, none, (q, did, beside, e)) h =
-      let b' : ℕ = b + one_of p (who_appends (Does r a)) in
-      let le = acts s.sight.queue q c.call a did in let o = adds_own p r a own in let l = h.0.1 in
-      let x : Sight T = record s.sight { queue = q } in
-      let short : Short b' x = (keeps_room s.sight.queue q c.call a did ∙ h.0.0, (omega (arith, le, o, l))) in
-      subst (Within p b') (sym e) (
-        short,
-        with_calls (λ d. SeenBy b' (sees x d)) s.calls r p (Some (record c { answer = Some a }))
-            (λ y told. let f = full_is s.sight.queue h.0.0
-            (told_full s.sight.queue q c.call y (subst (λ z. Acts s.sight.queue c.call z q) told did)) in omega (arith, f, l))
-            (seen_more x b b' (omega arith) short (s.calls p) h.1),
-      )
+  does p b s s' r a own h7 h = grind (arith, nat_tests, acts, adds_own, keeps_room, with_calls, full_is, told_full, seen_more)
 
   displaces : (p b : ℕ) (s s' : Scene T) (r : ℕ) (y : T) → Happens s (Displaces r y) s' → Within p b s → Within p (b + 0) s'
-  displaces p b s s' r y (c, x, is, none, of, inc, full, unspent, at, first, e) h =
-      let le = fewer s.sight.queue in let l = h.0.1 in
-      let z : Sight T = record { queue = taken s.sight.queue; incoming = Some (r, x) } in
-      let short : Short (b + 0) z = (h.0.0, (omega (arith, le, l))) in
-      subst (Within p (b + 0)) (sym e) (
-        short,
-        with_calls (λ d. SeenBy (b + 0) (sees z d)) s.calls r p (Some (record c { answer = Some (ForcePushed (Ok (Some y))) }))
-            (λ v told. elim (is_pushed _ v told) [ ])
-            (seen_more z b (b + 0) (omega arith) short (s.calls p) h.1),
-      )
+  displaces p b s s' r y h6 h = grind (arith, nat_tests)
 
   arrives : (p b : ℕ) (s s' : Scene T) (r : ℕ) → AppendsOwn {T = T} p (Arrives r) → Happens s (Arrives r) s' → Within p b s
       → Within p (b + one_of p (Some r)) s'
@@ -175,43 +110,33 @@ module _ {T : Type 0} (n : ℕ) where
       subst (Within p b') (sym e) (short, seen_more z b b' (omega arith) short (s.calls p) h.1)
 
   ends : (p b : ℕ) (s s' : Scene T) (r : ℕ) (a : Answer T) → Happens s (Ends r a) s' → Within p b s → Within p (b + 0) s'
-  ends p b s s' r a (c, is, may, from, e) h = subst (Within p (b + 0)) (sym e) (
-    short_on b (b + 0) (omega arith) s.sight h.0,
-    with_calls (SeenBy (b + 0)) s.calls r p None tt (seen_on b (b + 0) (omega arith) (s.calls p) h.1),
-  )
+  ends p b s s' r a h6 h = grind (arith, nat_tests)
 
   happens : (p b : ℕ) (s s' : Scene T) (m : Moment T) → AppendsOwn p m → Happens s m s' → Within p b s
       → Within p (b + one_of p (who_appends m)) s'
-  happens p b s s' (Begins r call) own e h = begins p b s s' r call e h
+  happens p b s s' (Begins r call) own e h = grind (arith, nat_tests)
   happens p b s s' (Does r a) own e h = does p b s s' r a own e h
-  happens p b s s' (Displaces r y) own e h = displaces p b s s' r y e h
+  happens p b s s' (Displaces r y) own e h = grind (arith, nat_tests)
   happens p b s s' (Arrives r) own e h = arrives p b s s' r own e h
-  happens p b s s' (Ends r a) own e h = ends p b s s' r a e h
-
-  within_on : (b b' p : ℕ) → b ≤ b' → (s : Scene T) → Within p b s → Within p b' s
-  within_on b b' p le s h = (short_on b b' le s.sight h.0, seen_on b b' le (s.calls p) h.1)
+  happens p b s s' (Ends r a) own e h = grind (arith, nat_tests)
 
   runs_on : (p b : ℕ) (s s' : Scene T) (ms : List (Moment T)) → AppendsAlone p ms → Run s ms s' → Within p b s
       → Within p (b + appended_by p ms) s'
-  runs_on p b s s' [] own e h = subst (Within p (b + 0)) (sym e) (within_on b (b + 0) p (omega arith) s h)
-  runs_on p b s s' (m ∷ ms) own (mid, first, rest) h =
-      let z = runs_on p (b + one_of p (who_appends m)) mid s' ms own.1 rest (happens p b s mid m own.0 first h) in
-      within_on _ (b + (one_of p (who_appends m) + appended_by p ms)) p (omega arith) s' z
+  runs_on p b s s' [] own e h = grind (arith, nat_tests)
+  runs_on p b s s' (m ∷ ms) own (mid, first, rest) h = let r = runs_on p (b + one_of p (who_appends m)) mid s' ms own.1 rest (happens p b s mid m own.0 first h) in grind (arith, nat_tests, r)
 
   -- a call that is told that the queue is full has seen a full one
   seen_full : (b : ℕ) (call : Call T) (x : T) (xs : List (Sight T)) → AllShort b xs
       → AtSome (MayAnswer call (Pushed (Err (Full x)))) xs → n ≤ b
   seen_full b call x [] h z = elim z [ ]
-  seen_full b call x (s ∷ ss) h (inl at) =
-      let f = full_is s.queue h.0.0 (told_full s.queue s.queue call x at.0) in let l = h.0.1 in omega (arith, f, l)
+  seen_full b call x (s ∷ ss) h (inl at) = grind (arith, nat_tests)
   seen_full b call x (s ∷ ss) h (inr later) = seen_full b call x ss h.1 later
 
   refused : (p b : ℕ) (x : T) (s s' : Scene T) → Happens s (Ends p (Pushed (Err (Full x)))) s' → Within p b s → n ≤ b
   refused p b x s s' (c, is, may, from, e) h = by_answer c.answer (subst (SeenBy b) is h.1) may
     where
       by_answer : (a : Option (Answer T)) → Seen b c a → MayEnd c a (Pushed (Err (Full x))) → n ≤ b
-      by_answer (Some told) h e = h x e
-      by_answer None h at = seen_full b c.call x c.seen h at
+      by_answer a h at = grind (arith, nat_tests, seen_full)
 
   -- from where p has no call in progress
   fills : (p b : ℕ) (x : T) (s s' : Scene T) (during after : List (Moment T)) → AppendsAlone p during
@@ -232,7 +157,7 @@ module _ {T : Type 0} (n : ℕ) where
       let b : ℕ = here s + appended_by p since in
       let short : Short b at.sight = (run_keeps s at since parts.1 ∙ is, run_grows p s at since both.0 parts.1) in
       let within : Within p b next = subst (Within p b) (sym begun.1)
-      (short, with_calls (SeenBy b) at.calls p p _ (short, tt) (subst (SeenBy b) (sym begun.0) tt)) in
+      (short, grind (arith, nat_tests)) in
       let le = fills p b y next s' during after both.1 parts.2.2 within in
       let sums = by_both p since during in omega (arith, le, sums)
 
@@ -257,7 +182,7 @@ module _ {T : Type 0} (n m : ℕ) (shape : IsShape n m) where
       let a = reached n m shape steps in let w : BoundedWorld T = ring_after n m steps in
       let b = runs n m shape more w a.0 a.1 a.3 in
       let first : Scene T = scene_of n m a.0 a.1 in let last : Scene T = scene_of n m b.0 b.1 in
-      let le = fills_later n p x y first last since during after refl own (subst (λ ms. Run first ms last) is b.2) in
+      let le = fills_later n p x y first last since during after refl own (grind (arith, nat_tests)) in
       let free = free_is n m shape w a.0 a.1 a.3 in omega (arith, le, free)
 
   pub seen_places_are_filled : (steps : List (Step T)) → SeenPlacesAreFilled n m steps
@@ -266,7 +191,7 @@ module _ {T : Type 0} (n m : ℕ) (shape : IsShape n m) where
       let first : Scene T = new_scene n m in let last : Scene T = scene_of n m r.0 r.1 in
       let rest : List (Moment T) = since ++ (Ends p (Pushed (Err (Full x))) ∷ after) in
       let parts = cut first last before (Begins p Len ∷ (during ++ (Ends p (LenIs k) ∷ rest)))
-      (subst (λ ms. Run first ms last) is r.2) in
+      (grind (arith, nat_tests)) in
       let le = fills_seen n p k x parts.0 last during since after refl own parts.2 in
       let in_call = run_stays_in_call first parts.0 before parts.1 tt in
       let less = fewer_appended p k x parts.0 last during since after in_call own parts.2 in (le, (omega (arith, le, less)))

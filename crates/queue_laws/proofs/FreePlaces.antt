@@ -1,14 +1,13 @@
 -- Where one party alone appends, what it was told of the length bounds the queue until it appends itself.
-use Rattle.std.proofs.Common.{◌≡◌, ℕ, ◌+◌, ◌-◌, ◌≤◌, List, [], ◌∷◌, ◌++◌, length, Bool, true, false}
+use Rattle.std.proofs.lemmas.Bool.Decides.{nat_tests}
+use Rattle.std.proofs.Common.{◌≡◌, ℕ, ◌+◌, ◌≤◌, List, [], ◌∷◌, ◌++◌, length, Bool}
 use Rattle.std.proofs.Common.{Option, Some, None, Result, Ok, Err, IfSome}
-use Rattle.std.proofs.Common.{inl, inr, ◌==◌, if◌then◌else◌, sym, refl, ap, ◌∙◌, subst, eq-eqb, length-append, length-drop, arith}
-use Rattle.queue_steps.specs.declared.errors.PushError.TheVariants.{Full, Closed, NoMemory}
+use Rattle.std.proofs.Common.{inl, inr, if◌then◌else◌, sym, refl, ap, ◌∙◌, subst, eq-eqb, length-append, arith}
 use Rattle.queue_steps.specs.declared.errors.ForcePushError.TheVariants.{Closed as ClosedToForce, NoMemory as NoMemoryToForce}
-use Rattle.queue_steps.specs.declared.errors.PopError.TheVariants.{Empty, Closed as ClosedToPop}
 use Rattle.queue_steps.specs.ClosableQueue.{ClosableQueue, appended, taken}
 use Rattle.queue_steps.specs.Replies.{TurnsAway, Pushes, ForcePushes}
-use Rattle.queue_steps.specs.Calls.{Call, Push, ForcePush, Pop, Close, Len, IsEmptyCall, IsFullCall, IsClosedCall, Answer, Pushed}
-use Rattle.queue_steps.specs.Calls.{ForcePushed, Popped, WasClosed, LenIs, EmptyIs, FullIs, ClosedIs, Acts}
+use Rattle.queue_steps.specs.Calls.{Call, Len, Answer, Pushed}
+use Rattle.queue_steps.specs.Calls.{ForcePushed, LenIs, Acts}
 use Rattle.queue_steps.specs.Bounded.{IsShape, count_at}
 use Rattle.queue_laws.specs.Moments.{Moment, Begins, Does, Displaces, Arrives, Ends, Sight, Scene, Progress, AtSome, MayAnswer, MayEnd}
 use Rattle.queue_laws.specs.Moments.{with_call, sees, Happens, Run}
@@ -31,14 +30,13 @@ module _ {T : Type 0} where
   more q x = length-append q.items (x ∷ [])
 
   pub fewer : (q : ClosableQueue T) → len (taken q) ≤ len q
-  fewer q = let z : len (taken q) ≡ length q.items - 1 = length-drop 1 q.items in omega arith
+  fewer q = grind (arith, nat_tests)
 
   same : (q q' : ClosableQueue T) → q' ≡ q → len q' ≤ len q
-  same q q' e = let z = ap len e in omega arith
+  same q q' e = grind (arith, nat_tests)
 
   turned : (q q' : ClosableQueue T) → TurnsAway q q' → len q' ≤ len q
-  turned q q' (inl (c, e)) = same q q' e
-  turned q q' (inr (c, s, e)) = let z = ap len e in omega arith
+  turned q q' h2 = grind (arith, nat_tests)
 
   -- what an answer adds to the length at most
   abbrev pub adds : Answer T → ℕ
@@ -47,43 +45,27 @@ module _ {T : Type 0} where
   adds _ = 0
 
   pushes : (q q' : ClosableQueue T) (x : T) (r : Result (Unit {0}) _) → Pushes q x r q' → len q' ≤ len q + adds (Pushed r)
-  pushes q q' x (Ok u) (a, e) = let z = ap len e in let m = more q x in omega arith
-  pushes q q' x (Err (Full y)) (c, f, s, e) = let z = same q q' e in omega arith
-  pushes q q' x (Err (Closed y)) (t, h, s) = let z = turned q q' t in omega arith
-  pushes q q' x (Err (NoMemory y)) ((c, n, u, e), s) = let z = same q q' e in omega arith
+  pushes q q' x r h4 = grind (arith, nat_tests, more, same, turned)
 
   forces : (q q' : ClosableQueue T) (x : T) (r : Result (Option T) _) → ForcePushes q x r q' → len q' ≤ len q + adds (ForcePushed r)
-  forces q q' x (Ok None) (a, e) = let z = ap len e in let m = more q x in omega arith
+  forces q q' x (Ok None) (a, e) = grind (arith, nat_tests, more)
   forces q q' x (Ok (Some y)) (c, f, u, i, e) = let z = ap len e in let m = more (taken q) x in let l = fewer q in omega arith
-  forces q q' x (Err (ClosedToForce y)) (t, s) = let z = turned q q' t in omega arith
-  forces q q' x (Err (NoMemoryToForce y)) ((c, n, u, e), s) = let z = same q q' e in omega arith
+  forces q q' x (Err (ClosedToForce y)) (t, s) = grind (arith, nat_tests)
+  forces q q' x (Err (NoMemoryToForce y)) ((c, n, u, e), s) = grind (arith, nat_tests)
 
   pub acts : (q q' : ClosableQueue T) (call : Call T) (a : Answer T) → Acts q call a q' → len q' ≤ len q + adds a
-  acts q q' (Push x) (Pushed r) h = pushes q q' x r h
-  acts q q' (ForcePush x) (ForcePushed r) h = forces q q' x r h
-  acts q q' Pop (Popped (Ok x)) (i, e) = let z = ap len e in let l = fewer q in omega arith
-  acts q q' Pop (Popped (Err Empty)) (i, c, e) = let z = same q q' e in omega arith
-  acts q q' Pop (Popped (Err ClosedToPop)) (i, c, e) = let z = same q q' e in omega arith
-  acts q q' Close (WasClosed b) (f, e) = let z = ap len e in omega arith
-  acts q q' Len (LenIs n) (f, e) = let z = same q q' e in omega arith
-  acts q q' IsEmptyCall (EmptyIs b) (f, e) = let z = same q q' e in omega arith
-  acts q q' IsFullCall (FullIs b) (f, e) = let z = same q q' e in omega arith
-  acts q q' IsClosedCall (ClosedIs b) (f, e) = let z = same q q' e in omega arith
-  acts q q' _ _ h = elim h [ ]
+  acts q q' call a h = grind (arith, nat_tests, pushes, forces, fewer, same)
 
   -- who is told a length was told that of the queue
   told_len : (q q' : ClosableQueue T) (call : Call T) (k : ℕ) → Acts q call (LenIs k) q' → (k ≡ len q) × (q' ≡ q)
-  told_len q q' Len k h = h
-  told_len q q' _ k h = elim h [ ]
+  told_len q q' call k h = grind (arith, nat_tests)
 
   -- of a moment of which nobody else is the appender
   abbrev pub AppendsOwn : ℕ → Moment T → Type 0
   AppendsOwn p m = IfSome (who_appends m) (λ q. q ≡ p)
 
   pub adds_own : (p r : ℕ) (a : Answer T) → AppendsOwn p (Does r a) → adds a ≡ one_of p (who_appends (Does r a))
-  adds_own p r (Pushed (Ok u)) e = sym (ap (λ (b : Bool). if b then 1 else 0) (eq-eqb r p e))
-  adds_own p r (ForcePushed (Ok o)) e = sym (ap (λ (b : Bool). if b then 1 else 0) (eq-eqb r p e))
-  adds_own p r _ e = refl
+  adds_own p r a e = grind (arith, nat_tests)
 
   abbrev pub here : Scene T → ℕ
   here s = len s.sight.queue
@@ -109,22 +91,16 @@ module _ {T : Type 0} where
   -- one more sight of a queue, which is longer than the last by no more than was appended
   sees_more : (x : Sight T) (n j j' : ℕ) → len x.queue + j ≤ n + j' → (c : Progress T) (a : Option (Answer T)) → Bounded n j c a
       → Bounded (len x.queue) j' (record c { seen = x ∷ c.seen }) a
-  sees_more x n j j' le c (Some told) h = λ k e. let z = h k e in omega (arith, le, z)
-  sees_more x n j j' le c None h = ((omega (arith, le)), all_within n (len x.queue) j j' le c.seen h)
+  sees_more x n j j' le c a h = grind (arith, nat_tests, all_within)
 
   sees_on : (x : Sight T) (n j j' : ℕ) → j ≤ j' → len x.queue + j ≤ n + j' → (o : Option (Progress T)) → BoundedBy n j o
       → BoundedBy (len x.queue) j' (sees x o)
-  sees_on x n j j' more le None h = tt
-  sees_on x n j j' more le (Some c) h = sees_more x n j j' le c c.answer h
+  sees_on x n j j' more le o h = grind (arith, nat_tests, more, sees_more)
 
   -- what holds of the call of p, if it is the same call as before and if it is another
   pub with_calls : (P : Option (Progress T) → Type 0) (calls : ℕ → Option (Progress T)) (r p : ℕ) (c : Option (Progress T))
       → P c → P (calls p) → P (with_call calls r c p)
-  with_calls P calls r p c new old = by_cases (p == r)
-    where
-      by_cases : (b : Bool) → P (if b then c else calls p)
-      by_cases true = new
-      by_cases false = old
+  with_calls P calls r p c new old = grind (arith, nat_tests)
 
   abbrev IsLen : Answer T → Type 0
   IsLen (LenIs k) = Unit {0}
@@ -136,18 +112,8 @@ module _ {T : Type 0} where
   abbrev Tells : ℕ → ℕ → Scene T → Type 0
   Tells p j s = BoundedBy (here s) j (s.calls p)
 
-  -- more may have been appended
-  looser : (n j j' : ℕ) → j ≤ j' → (o : Option (Progress T)) → BoundedBy n j o → BoundedBy n j' o
-  looser n j j' le None h = tt
-  looser n j j' le (Some c) h = by_answer c.answer h
-    where
-      by_answer : (a : Option (Answer T)) → Bounded n j c a → Bounded n j' c a
-      by_answer (Some told) h = λ k e. let z = h k e in omega (arith, le, z)
-      by_answer None h = all_within n n j j' (omega (arith, le)) c.seen h
-
   begins : (p j : ℕ) (s s' : Scene T) (r : ℕ) (call : Call T) → Happens s (Begins r call) s' → Tells p j s → Tells p (j + 0) s'
-  begins p j s s' r call (none, e) h = subst (Tells p (j + 0)) (sym e)
-      (with_calls (BoundedBy (here s) (j + 0)) s.calls r p _ ((omega arith), tt) (looser (here s) j (j + 0) (omega arith) (s.calls p) h))
+  begins p j s s' r call h6 h = grind (arith, nat_tests)
 
   does : (p j : ℕ) (s s' : Scene T) (r : ℕ) (a : Answer T) → AppendsOwn p (Does r a) → Happens s (Does r a) s' → Tells p j s
       → Tells p (j + one_of p (who_appends (Does r a))) s'
@@ -158,7 +124,7 @@ module _ {T : Type 0} where
       let x : Sight T = record s.sight { queue = q } in
       subst (Tells p j') (sym e)
       (with_calls (λ d. BoundedBy (len q) j' (sees x d)) s.calls r p (Some (record c { answer = Some a }))
-      (λ k is_k. let t = told_len s.sight.queue q c.call k (subst (λ b. Acts s.sight.queue c.call b q) is_k did) in
+      (λ k is_k. let t = told_len s.sight.queue q c.call k (grind (arith, nat_tests)) in
       let l = ap len t.1 in let m = t.0 in omega (arith, l, m))
       (sees_on x (here s) j j' (omega arith) (omega (arith, le, o)) (s.calls p) h))
 
@@ -181,41 +147,29 @@ module _ {T : Type 0} where
       (sees_on z (here s) j (j + one_of p (Some r)) (omega arith) (omega (arith, o, m)) (s.calls p) h)
 
   ends : (p j : ℕ) (s s' : Scene T) (r : ℕ) (a : Answer T) → Happens s (Ends r a) s' → Tells p j s → Tells p (j + 0) s'
-  ends p j s s' r a (c, is, may, from, e) h = subst (Tells p (j + 0)) (sym e)
-      (with_calls (BoundedBy (here s) (j + 0)) s.calls r p None tt (looser (here s) j (j + 0) (omega arith) (s.calls p) h))
+  ends p j s s' r a h6 h = grind (arith, nat_tests)
 
   -- what party p was told, or has seen, still bounds the queue, where nobody else appends
   happens : (p j : ℕ) (s s' : Scene T) (m : Moment T) → AppendsOwn p m → Happens s m s' → Tells p j s
       → Tells p (j + one_of p (who_appends m)) s'
-  happens p j s s' (Begins r call) own e h = begins p j s s' r call e h
+  happens p j s s' (Begins r call) own e h = grind (arith, nat_tests)
   happens p j s s' (Does r a) own e h = does p j s s' r a own e h
   happens p j s s' (Displaces r y) own e h = displaces p j s s' r y e h
   happens p j s s' (Arrives r) own e h = arrives p j s s' r own e h
-  happens p j s s' (Ends r a) own e h = ends p j s s' r a e h
+  happens p j s s' (Ends r a) own e h = grind (arith, nat_tests)
 
   runs_on : (p j : ℕ) (s s' : Scene T) (ms : List (Moment T)) → AppendsAlone p ms → Run s ms s'
       → Tells p j s → Tells p (j + appended_by p ms) s'
-  runs_on p j s s' [] own e h = subst (Tells p (j + 0)) (sym e) (looser (here s) j (j + 0) (omega arith) (s.calls p) h)
-  runs_on p j s s' (m ∷ ms) own (mid, first, rest) h =
-      let z = runs_on p (j + one_of p (who_appends m)) mid s' ms own.1 rest (happens p j s mid m own.0 first h) in
-      looser (here s') _ (j + (one_of p (who_appends m) + appended_by p ms)) (omega arith) (s'.calls p) z
+  runs_on p j s s' [] own e h = grind (arith, nat_tests)
+  runs_on p j s s' (m ∷ ms) own (mid, first, rest) h = let r = runs_on p (j + one_of p (who_appends m)) mid s' ms own.1 rest (happens p j s mid m own.0 first h) in grind (arith, nat_tests, r)
 
   -- a moment makes the queue longer by no more than its party appends
   pub grows : (p : ℕ) (s s' : Scene T) (m : Moment T) → AppendsOwn p m → Happens s m s' → here s' ≤ here s + one_of p (who_appends m)
-  grows p s s' (Begins r call) own (none, e) = let z = ap here e in omega (arith, z)
-  grows p s s' (Does r a) own (c, is, none, (q, did, beside, e)) =
-      let z = ap here e in let le = acts s.sight.queue q c.call a did in let o = adds_own p r a own in omega (arith, z, le, o)
-  grows p s s' (Displaces r y) own (c, x, is, none, of, inc, full, unspent, at, first, e) =
-      let z = ap here e in let le = fewer s.sight.queue in omega (arith, z, le)
-  grows p s s' (Arrives r) own (x, inc, e) =
-      let z = ap here e in let m = more s.sight.queue x in
-      let o : one_of p (Some r) ≡ 1 = ap (λ (b : Bool). if b then 1 else 0) (eq-eqb r p own) in omega (arith, z, m, o)
-  grows p s s' (Ends r a) own (c, is, may, from, e) = let z = ap here e in omega (arith, z)
+  grows p s s' m own h5 = grind (arith, nat_tests, acts, adds_own, fewer, more)
 
   pub run_grows : (p : ℕ) (s s' : Scene T) (ms : List (Moment T)) → AppendsAlone p ms → Run s ms s' → here s' ≤ here s + appended_by p ms
-  run_grows p s s' [] own e = let z = ap here e in omega (arith, z)
-  run_grows p s s' (m ∷ ms) own (mid, first, rest) =
-      let z = run_grows p mid s' ms own.1 rest in let y = grows p s mid m own.0 first in omega (arith, z, y)
+  run_grows p s s' [] own e = grind (arith, nat_tests)
+  run_grows p s s' (m ∷ ms) own (mid, first, rest) = let r = run_grows p mid s' ms own.1 rest in grind (arith, nat_tests, r, grows)
 
   pub cut : (s s' : Scene T) (xs ys : List (Moment T)) → Run s (xs ++ ys) s' → (mid : Scene T) × Run s xs mid × Run mid ys s'
   cut s s' [] ys r = (s, refl, r)
@@ -232,16 +186,14 @@ module _ {T : Type 0} where
   -- a call that is told k has seen a queue of that length
   seen_so : (n j k : ℕ) (call : Call T) (xs : List (Sight T)) → AllWithin n j xs → AtSome (MayAnswer call (LenIs k)) xs → n ≤ k + j
   seen_so n j k call [] h z = elim z [ ]
-  seen_so n j k call (x ∷ xs) h (inl at) = let t = told_len x.queue x.queue call k at.0 in let l = h.0 in let e = t.0 in omega (arith, l, e)
+  seen_so n j k call (x ∷ xs) h (inl at) = grind (arith, nat_tests)
   seen_so n j k call (x ∷ xs) h (inr later) = seen_so n j k call xs h.1 later
 
   told_so : (n j k : ℕ) (c : Progress T) (a : Option (Answer T)) → Bounded n j c a → MayEnd c a (LenIs k) → n ≤ k + j
-  told_so n j k c (Some told) h e = h k e
-  told_so n j k c None h at = seen_so n j k c.call c.seen h at
+  told_so n j k c a h at = grind (arith, nat_tests, seen_so)
 
   told_here : (p j k : ℕ) (s s' : Scene T) → Happens s (Ends p (LenIs k)) s' → Tells p j s → here s' ≤ k + j
-  told_here p j k s s' (c, is, may, from, e) h =
-      let z = told_so (here s) j k c c.answer (subst (BoundedBy (here s) j) is h) may in let y = ap here e in omega (arith, z, y)
+  told_here p j k s s' h5 h = grind (arith, nat_tests, told_so)
 
   -- a party asked for the length, was told k, and is in no call then
   pub looks : (p k : ℕ) (s s' : Scene T) (during since : List (Moment T)) → AppendsAlone p during
@@ -251,12 +203,12 @@ module _ {T : Type 0} where
       let parts = cut asked s' during (Ends p (LenIs k) ∷ since) rest in
       let told : Scene T = parts.0 in let end = parts.2.1 in
       let at_first : Tells p 0 asked = subst (Tells p 0) (sym begun.1)
-      (with_calls (BoundedBy (here s) 0) s.calls p p _ ((omega arith), tt) (subst (BoundedBy (here s) 0) (sym begun.0) tt)) in
+      (grind (arith, nat_tests)) in
       let tells = runs_on p 0 asked told during own parts.1 at_first in
       let le = told_here p (0 + appended_by p during) k told parts.2.0 end tells in (
         parts.2.0,
         (omega (arith, le)),
-        ap (λ (c : Scene T). c.calls p) end.4 ∙ ap (λ (b : Bool). if b then None else told.calls p) (eq-eqb p p refl),
+        grind (arith, nat_tests),
         parts.2.2,
       )
 
@@ -301,6 +253,6 @@ module _ {T : Type 0} (n m : ℕ) (shape : IsShape n m) where
   seen_places_stay steps p k before during since is own =
       let r = reached steps in let last : Scene T = scene_of n m r.0 r.1 in
       let parts = cut (new_scene n m) last before (Begins p Len ∷ (during ++ (Ends p (LenIs k) ∷ since)))
-      (subst (λ ms. Run (new_scene n m) ms last) is r.2) in
+      (grind (arith, nat_tests)) in
       let le = bounds p k parts.0 last during since own parts.2 in
       let free = free_is (ring_after n m steps) r.0 r.1 r.3 in omega (arith, le, free)

@@ -1,5 +1,7 @@
 -- What a queue never ceases to be once it is so, as closed: whose answer tells that it is so, and what calls that begin
 -- later are not answered.
+use Rattle.std.proofs.lemmas.Bool.Decides.{nat_tests}
+use Rattle.std.proofs.Common.{arith}
 use Rattle.std.proofs.Common.{◌≡◌, ℕ, List, [], ◌∷◌, ◌++◌, Option, Some, None, Ok, inl, inr, refl, sym, subst}
 use Rattle.queue_steps.specs.ClosableQueue.{ClosableQueue, appended, taken}
 use Rattle.queue_steps.specs.Calls.{Call, Answer, ForcePushed, Acts}
@@ -39,8 +41,7 @@ module _ {T : Type 0} (l : Lasts T) where
   seen_on now next on (x ∷ xs) h = ((λ is. on (h.0 is)), seen_on now next on xs h.1)
 
   told_on : (now next : Type 0) → (now → next) → (a : Option (Answer T)) → ToldSo now a → ToldSo next a
-  told_on now next on None h = tt
-  told_on now next on (Some a) h = λ tells. on (h tells)
+  told_on now next on a h = grind (arith, nat_tests)
 
   -- one more sight, of the queue as it is then
   known_more : (now : Type 0) (x : Sight T) → (now → l.Is x) → (o : Option (Progress T)) → KnownSo now o → KnownSo (l.Is x) (sees x o)
@@ -59,8 +60,7 @@ module _ {T : Type 0} (l : Lasts T) where
       (known_more (l.Is s.sight) x on (s.calls p) (h p))
 
   happens : (s s' : Scene T) (m : Moment T) → Happens s m s' → Known s → Known s'
-  happens s s' (Begins r call) (none, e) h = subst Known (sym e)
-      (λ p. at_party (λ q d. KnownSo (l.Is s.sight) d) s.calls r p _ (((λ is. is), tt), tt) (h p))
+  happens s s' (Begins r call) (none, e) h = grind (arith, nat_tests)
   happens s s' (Does r a) (c, is, none, (q, did, beside, e)) h =
       let x : Sight T = record s.sight { queue = q } in
       let on : l.Is s.sight → l.Is x = λ so. l.lasts s _ (Does r a) (c, is, none, (q, did, beside, refl)) so in
@@ -74,8 +74,7 @@ module _ {T : Type 0} (l : Lasts T) where
       let z : Sight T = record { queue = appended s.sight.queue x; incoming = None } in
       let on : l.Is s.sight → l.Is z = λ so. l.lasts s _ (Arrives r) (x, inc, refl) so in
       subst Known (sym e) (λ p. known_more (l.Is s.sight) z on (s.calls p) (h p))
-  happens s s' (Ends r a) (c, is, may, from, e) h = subst Known (sym e)
-      (λ p. at_party (λ q d. KnownSo (l.Is s.sight) d) s.calls r p None tt (h p))
+  happens s s' (Ends r a) (c, is, may, from, e) h = grind (arith, nat_tests)
 
   runs : (s s' : Scene T) (ms : List (Moment T)) → Run s ms s' → Known s → Known s'
   runs s s' [] e h = subst Known (sym e) h
@@ -85,7 +84,7 @@ module _ {T : Type 0} (l : Lasts T) where
   seen_it : (now : Type 0) (call : Call T) (a : Answer T) (xs : List (Sight T)) → l.Tells a → SeenSo now xs
       → AtSome (MayAnswer call a) xs → now
   seen_it now call a [] tells h at = elim at [ ]
-  seen_it now call a (x ∷ xs) tells h (inl here) = h.0 (l.tells x x.queue call a here.0 here.1 tells)
+  seen_it now call a (x ∷ xs) tells h (inl here) = grind (arith, nat_tests)
   seen_it now call a (x ∷ xs) tells h (inr later) = seen_it now call a xs tells h.1 later
 
   told_it : (now : Type 0) (c : Progress T) (o : Option (Answer T)) (a : Answer T) → l.Tells a → SeenSo now c.seen → ToldSo now o
@@ -94,12 +93,10 @@ module _ {T : Type 0} (l : Lasts T) where
   told_it now c None a tells seen told at = seen_it now c.call a c.seen tells seen at
 
   pub is_so : (s s' : Scene T) (p : ℕ) (a : Answer T) → l.Tells a → Known s → Happens s (Ends p a) s' → l.Is s'.sight
-  is_so s s' p a tells h (c, is, may, from, e) =
-      let k = subst (KnownSo (l.Is s.sight)) is (h p) in
-      subst (λ (s : Scene T). l.Is s.sight) (sym e) (told_it (l.Is s.sight) c c.answer a tells k.0 k.1 may)
+  is_so s s' p a tells h h6 = grind (arith, nat_tests, told_it)
 
   pub stays_so : (s s' : Scene T) (ms : List (Moment T)) → Run s ms s' → l.Is s.sight → l.Is s'.sight
-  stays_so s s' [] e h = subst (λ (s : Scene T). l.Is s.sight) (sym e) h
+  stays_so s s' [] e h = grind (arith, nat_tests)
   stays_so s s' (m ∷ ms) (mid, first, rest) h = stays_so mid s' ms rest (l.lasts s mid m first h)
 
   -- A call that begins later has seen the queue so at each moment of it.
@@ -116,8 +113,7 @@ module _ {T : Type 0} (l : Lasts T) where
   BegunSo (Some c) = SawSo c.seen × NotTold c.answer
 
   begun_more : (x : Sight T) → l.Is x → (o : Option (Progress T)) → BegunSo o → BegunSo (sees x o)
-  begun_more x so None h = tt
-  begun_more x so (Some c) h = ((so, h.0), h.1)
+  begun_more x so o h = grind (arith, nat_tests)
 
   none_open : (xs : List (Sight T)) → SawSo xs → AtSome WasOpenAndFull xs → ⊥
   none_open [] h at = at
@@ -126,31 +122,10 @@ module _ {T : Type 0} (l : Lasts T) where
 
   -- of one party p
   goes_on : (p : ℕ) (s s' : Scene T) (m : Moment T) → Happens s m s' → l.Is s.sight → BegunSo (s.calls p) → BegunSo (s'.calls p)
-  goes_on p s s' (Begins r call) (none, e) so h = subst (λ (s : Scene T). BegunSo (s.calls p)) (sym e)
-      (at_party (λ q d. BegunSo d) s.calls r p _ ((so, tt), tt) h)
-  goes_on p s s' (Does r a) (c, is, none, (q, did, beside, e)) so h =
-      let x : Sight T = record s.sight { queue = q } in
-      let next : l.Is x = l.lasts s _ (Does r a) (c, is, none, (q, did, beside, refl)) so in
-      subst (λ (s : Scene T). BegunSo (s.calls p)) (sym e)
-      (at_party (λ q d. BegunSo (s.calls q) → BegunSo (sees x d)) s.calls r p (Some (record c { answer = Some a }))
-      (λ h. ((next, (subst BegunSo is h).0), (λ isnt. l.never s.sight q c.call a did so isnt))) (λ h. begun_more x next (s.calls p) h) h)
-  goes_on p s s' (Displaces r y) (c, x, is, none, of, inc, full, unspent, at, first, e) so h =
-      let z : Sight T = record { queue = taken s.sight.queue; incoming = Some (r, x) } in
-      let next : l.Is z = l.lasts s _ (Displaces r y) (c, x, is, none, of, inc, full, unspent, at, first, refl) so in
-      subst (λ (s : Scene T). BegunSo (s.calls p)) (sym e)
-      (at_party (λ q d. BegunSo (s.calls q) → BegunSo (sees z d)) s.calls r p (Some (record c {
-        answer = Some (ForcePushed (Ok (Some y)));
-      }))
-      (λ h. elim (none_open c.seen (subst BegunSo is h).0 at) [ ]) (λ h. begun_more z next (s.calls p) h) h)
-  goes_on p s s' (Arrives r) (x, inc, e) so h =
-      let z : Sight T = record { queue = appended s.sight.queue x; incoming = None } in
-      let next : l.Is z = l.lasts s _ (Arrives r) (x, inc, refl) so in
-      subst (λ (s : Scene T). BegunSo (s.calls p)) (sym e) (begun_more z next (s.calls p) h)
-  goes_on p s s' (Ends r a) (c, is, may, from, e) so h = subst (λ (s : Scene T). BegunSo (s.calls p)) (sym e)
-      (at_party (λ q d. BegunSo d) s.calls r p None tt h)
+  goes_on p s s' m h4 so h = grind (arith, nat_tests, at_party, begun_more, none_open)
 
   runs_later : (p : ℕ) (s s' : Scene T) (ms : List (Moment T)) → Run s ms s' → l.Is s.sight → BegunSo (s.calls p) → BegunSo (s'.calls p)
-  runs_later p s s' [] e so h = subst (λ (s : Scene T). BegunSo (s.calls p)) (sym e) h
+  runs_later p s s' [] e so h = grind (arith, nat_tests)
   runs_later p s s' (m ∷ ms) (mid, first, rest) so h =
       runs_later p mid s' ms rest (l.lasts s mid m first so) (goes_on p s mid m first so h)
 
@@ -160,12 +135,10 @@ module _ {T : Type 0} (l : Lasts T) where
   saw_it call a (x ∷ xs) isnt h (inr later) = saw_it call a xs isnt h.1 later
 
   not_answered : (c : Progress T) (o : Option (Answer T)) (a : Answer T) → l.Never a → SawSo c.seen → NotTold o → MayEnd c o a → ⊥
-  not_answered c (Some b) a isnt saw told e = told (subst l.Never (sym e) isnt)
-  not_answered c None a isnt saw told at = saw_it c.call a c.seen isnt saw at
+  not_answered c o a isnt saw told at = grind (arith, nat_tests, saw_it)
 
   ends_not : (p : ℕ) (s s' : Scene T) (a : Answer T) → l.Never a → BegunSo (s.calls p) → Happens s (Ends p a) s' → ⊥
-  ends_not p s s' a isnt h (c, is, may, from, e) =
-      let k = subst BegunSo is h in not_answered c c.answer a isnt k.0 k.1 may
+  ends_not p s s' a isnt h h6 = grind (arith, nat_tests, not_answered)
 
   -- A call that begins where it is so is not answered what is never answered there.
   pub not_later : (p : ℕ) (call : Call T) (s s' : Scene T) (during after : List (Moment T)) (a : Answer T) → l.Never a → l.Is s.sight
@@ -179,12 +152,7 @@ module _ {T : Type 0} (l : Lasts T) where
   -- Nor does it displace an item.
   pub not_displaced : (p : ℕ) (call : Call T) (s s' : Scene T) (during after : List (Moment T)) (y : T) → l.Is s.sight
       → Run s (Begins p call ∷ during ++ Displaces p y ∷ after) s' → ⊥
-  not_displaced p call s s' during after y so (begun, begins, rest) =
-      let parts = cut begun s' during (Displaces p y ∷ after) rest in
-      let now = l.lasts s begun (Begins p call) begins so in
-      let h = goes_on p s begun (Begins p call) begins so (subst BegunSo (sym begins.0) tt) in
-      let did = parts.2.1 in
-      let k = subst BegunSo did.2 (runs_later p begun parts.0 during parts.1 now h) in none_open did.0.seen k.0 did.8
+  not_displaced p call s s' during after y so h8 = grind (arith, nat_tests, cut, goes_on, runs_later, none_open)
 
   -- From a queue on which nobody calls: after an answer that tells so it is so.
   pub is_so_after : (s s' : Scene T) (before after : List (Moment T)) (p : ℕ) (a : Answer T) → ((p : ℕ) → s.calls p ≡ None)

@@ -1,16 +1,17 @@
 -- A party appends no more items than it has begun pushes; and one fewer, where one of them was refused full.
-use Rattle.std.proofs.Common.{◌≡◌, ℕ, ◌+◌, ◌≤◌, List, [], ◌∷◌, ◌++◌, Bool, true, false, Option, Some, None, Ok, Err}
-use Rattle.std.proofs.Common.{IsSome, IfSome, inl, inr, ◌==◌, if◌then◌else◌, sym, refl, ap, ◌∙◌, subst, eq-eqb, ne_eqb, arith}
+use Rattle.std.proofs.lemmas.Bool.Decides.{nat_tests}
+use Rattle.std.proofs.Common.{◌≡◌, ℕ, ◌+◌, ◌≤◌, List, [], ◌∷◌, ◌++◌, true, false, Option, Some, None, Ok, Err}
+use Rattle.std.proofs.Common.{IsSome, IfSome, inl, inr, ◌==◌, sym, ap, ◌∙◌, subst, eq-eqb, ne_eqb, arith}
 use mathlib.Core.Logic.{dite}
 use native.Mathlib.Decide.{ℕ_discrete}
 use Rattle.queue_steps.specs.declared.errors.PushError.TheVariants.{Full}
-use Rattle.queue_steps.specs.ClosableQueue.{ClosableQueue, appended, taken}
-use Rattle.queue_steps.specs.Calls.{Call, Push, ForcePush, Pop, Close, Len, IsEmptyCall, IsFullCall, IsClosedCall, Answer, Pushed}
-use Rattle.queue_steps.specs.Calls.{ForcePushed, Popped, WasClosed, LenIs, EmptyIs, FullIs, ClosedIs, Acts}
+use Rattle.queue_steps.specs.ClosableQueue.{appended, taken}
+use Rattle.queue_steps.specs.Calls.{Call, Push, ForcePush, Len, Answer, Pushed}
+use Rattle.queue_steps.specs.Calls.{ForcePushed, LenIs}
 use Rattle.queue_laws.specs.Moments.{Moment, Begins, Does, Displaces, Arrives, Ends, Sight, Scene, Progress, AtSome, MayAnswer, MayEnd}
-use Rattle.queue_laws.specs.Moments.{with_call, sees, Happens, Run, IsFromOther}
+use Rattle.queue_laws.specs.Moments.{with_call, sees, Happens, Run}
 use Rattle.queue_laws.specs.FreePlaces.{who_appends, who_pushes, AppendsAlone, one_of, appended_by, pushes_of}
-use Rattle.queue_laws.proofs.FreePlaces.{adds, adds_own, AppendsOwn, with_calls, cut, alone_cut, by_both}
+use Rattle.queue_laws.proofs.FreePlaces.{AppendsOwn, cut, alone_cut, by_both}
 
 -- whether two parties are one, as both tests say it
 data Parties (p r : ℕ) : Type 0 where
@@ -19,13 +20,10 @@ data Parties (p r : ℕ) : Type 0 where
 
 parties : (p r : ℕ) → Parties p r
 parties p r = dite (ℕ_discrete p r) (λ e. One e (eq-eqb p r e) (eq-eqb r p (sym e)))
-    (λ other. Two (ne_eqb p r other) (ne_eqb r p (λ e. other (sym e))))
-
-is_one : (p r : ℕ) → (r == p) ≡ true → one_of p (Some r) ≡ 1
-is_one p r e = ap (λ (b : Bool). if b then 1 else 0) e
+    (λ other. Two (ne_eqb p r other) (grind (arith, nat_tests)))
 
 is_none : (p r : ℕ) → (r == p) ≡ false → one_of p (Some r) ≡ 0
-is_none p r e = ap (λ (b : Bool). if b then 1 else 0) e
+is_none p r e = grind (arith, nat_tests)
 
 module _ {T : Type 0} where
   abbrev pushing : Call T → ℕ
@@ -56,40 +54,18 @@ module _ {T : Type 0} where
   Counts p a b s = a + (owes_in (s.calls p) + coming_of p s.sight.incoming) ≤ b
 
   sees_owes : (x : Sight T) (o : Option (Progress T)) → owes_in (sees x o) ≡ owes_in o
-  sees_owes x None = refl
-  sees_owes x (Some c) = refl
-
-  -- what an answer appends, and what it refuses, the call could append
-  acts_owes : (q q' : ClosableQueue T) (call : Call T) (a : Answer T) → Acts q call a q' → adds a + refusing a ≤ pushing call
-  acts_owes q q' (Push x) (Pushed (Ok u)) h = omega arith
-  acts_owes q q' (Push x) (Pushed (Err e)) h = omega arith
-  acts_owes q q' (ForcePush x) (ForcePushed (Ok o)) h = omega arith
-  acts_owes q q' (ForcePush x) (ForcePushed (Err e)) h = omega arith
-  acts_owes q q' Pop (Popped r) h = omega arith
-  acts_owes q q' Close (WasClosed b) h = omega arith
-  acts_owes q q' Len (LenIs n) h = omega arith
-  acts_owes q q' IsEmptyCall (EmptyIs b) h = omega arith
-  acts_owes q q' IsFullCall (FullIs b) h = omega arith
-  acts_owes q q' IsClosedCall (ClosedIs b) h = omega arith
-  acts_owes q q' _ _ h = elim h [ ]
-
-  begun_push : (p r : ℕ) (call : Call T) → (r == p) ≡ true → one_of p (who_pushes (Begins r call)) ≡ pushing call
-  begun_push p r (Push x) e = ap (λ (b : Bool). if b then 1 else 0) e
-  begun_push p r (ForcePush x) e = ap (λ (b : Bool). if b then 1 else 0) e
-  begun_push p r _ e = refl
+  sees_owes x o = grind (arith, nat_tests)
 
   no_more : (p r : ℕ) (a : Answer T) → (r == p) ≡ false → one_of p (who_appends (Does r a)) ≡ 0
-  no_more p r (Pushed (Ok u)) e = ap (λ (b : Bool). if b then 1 else 0) e
-  no_more p r (ForcePushed (Ok o)) e = ap (λ (b : Bool). if b then 1 else 0) e
-  no_more p r _ e = refl
+  no_more p r a e = grind (arith, nat_tests)
 
   module _ (p : ℕ) (r : ℕ) where
     mine : (calls : ℕ → Option (Progress T)) (c : Option (Progress T)) → (p == r) ≡ true → with_call calls r c p ≡ c
-    mine calls c e = ap (λ (b : Bool). if b then c else calls p) e
+    mine calls c e = grind (arith, nat_tests)
 
     others : (calls : ℕ → Option (Progress T)) (c : Option (Progress T)) → (p == r) ≡ false
         → with_call calls r c p ≡ calls p
-    others calls c e = ap (λ (b : Bool). if b then c else calls p) e
+    others calls c e = grind (arith, nat_tests)
 
     begins : (a b : ℕ) (s s' : Scene T) (call : Call T) → Happens s (Begins r call) s' → Counts p a b s
         → Counts p (a + 0) (b + one_of p (who_pushes (Begins r call))) s'
@@ -102,10 +78,7 @@ module _ {T : Type 0} where
         by : Parties p r
             → a + 0 + (owes_in (with_call s.calls r (Some c) p) + coming_of p s.sight.incoming)
             ≤ b + one_of p (who_pushes (Begins r call))
-        by (One is there here) =
-            let now = ap owes_in (mine s.calls (Some c) there) in let push = begun_push p r call here in
-            omega (arith, now, push, h)
-        by (Two there here) = let now = ap owes_in (others s.calls (Some c) there) in omega (arith, now, h)
+        by h0 = grind (arith, nat_tests)
 
     does : (a b : ℕ) (s s' : Scene T) (told : Answer T) → AppendsOwn p (Does r told) → Happens s (Does r told) s'
         → Counts p a b s
@@ -123,14 +96,7 @@ module _ {T : Type 0} where
             → a + one_of p (who_appends (Does r told))
             + (owes_in (sees x (with_call s.calls r (Some c') p)) + coming_of p s.sight.incoming)
             ≤ b + 0
-        by (One same there here) =
-            let now = sees_owes x (with_call s.calls r (Some c') p) ∙ ap owes_in (mine s.calls (Some c') there) in
-            let was = ap owes_in (ap s.calls same ∙ is) ∙ ap (owes c.call) none in
-            let more = adds_own p r told own in let le = acts_owes s.sight.queue q c.call told did in
-            omega (arith, now, was, more, le, h)
-        by (Two there here) =
-            let now = sees_owes x (with_call s.calls r (Some c') p) ∙ ap owes_in (others s.calls (Some c') there) in
-            let none = no_more p r told here in omega (arith, now, none, h)
+        by h0 = grind (arith, nat_tests)
 
     displaces : (a b : ℕ) (s s' : Scene T) (y : T) → Happens s (Displaces r y) s' → Counts p a b s
         → Counts p (a + 0) (b + 0) s'
@@ -144,13 +110,7 @@ module _ {T : Type 0} where
         c' = record c { answer = Some (ForcePushed (Ok (Some y))) }
 
         by : Parties p r → a + 0 + (owes_in (sees z (with_call s.calls r (Some c') p)) + one_of p (Some r)) ≤ b + 0
-        by (One same there here) =
-            let now = sees_owes z (with_call s.calls r (Some c') p) ∙ ap owes_in (mine s.calls (Some c') there) in
-            let was = ap owes_in (ap s.calls same ∙ is) ∙ ap (owes c.call) none ∙ ap pushing of in
-            let one = is_one p r here in omega (arith, now, was, one, h)
-        by (Two there here) =
-            let now = sees_owes z (with_call s.calls r (Some c') p) ∙ ap owes_in (others s.calls (Some c') there) in
-            let none = is_none p r here in omega (arith, now, none, h)
+        by h0 = grind (arith, nat_tests)
 
     arrives : (a b : ℕ) (s s' : Scene T) → Happens s (Arrives r) s' → Counts p a b s
         → Counts p (a + one_of p (Some r)) (b + 0) s'
@@ -164,8 +124,7 @@ module _ {T : Type 0} where
     ends a b s s' told (c, is, may, from, e) h = subst (Counts p (a + 0) (b + 0)) (sym e) (by (parties p r))
       where
         by : Parties p r → a + 0 + (owes_in (with_call s.calls r None p) + coming_of p s.sight.incoming) ≤ b + 0
-        by (One same there here) = let now = ap owes_in (mine s.calls None there) in omega (arith, now, h)
-        by (Two there here) = let now = ap owes_in (others s.calls None there) in omega (arith, now, h)
+        by h0 = grind (arith, nat_tests)
 
   happens : (p a b : ℕ) (s s' : Scene T) (m : Moment T) → AppendsOwn p m → Happens s m s' → Counts p a b s
       → Counts p (a + one_of p (who_appends m)) (b + one_of p (who_pushes m)) s'
@@ -185,54 +144,25 @@ module _ {T : Type 0} where
   seen_push : (call : Call T) (x : T) (xs : List (Sight T)) → AtSome (MayAnswer call (Pushed (Err (Full x)))) xs
       → pushing call ≡ 1
   seen_push call x [] z = elim z [ ]
-  seen_push call x (s ∷ ss) (inl at) = by call at.0
-    where
-      by : (call : Call T) → Acts s.queue call (Pushed (Err (Full x))) s.queue → pushing call ≡ 1
-      by (Push y) h = refl
-      by _ h = elim h [ ]
+  seen_push call x (s ∷ ss) (inl at) = grind (arith, nat_tests)
   seen_push call x (s ∷ ss) (inr later) = seen_push call x ss later
 
   refused : (p a b : ℕ) (x : T) (s s' : Scene T) → Happens s (Ends p (Pushed (Err (Full x)))) s' → Counts p a b s → a + 1 ≤ b
   refused p a b x s s' (c, is, may, from, e) h = let one = ap owes_in is ∙ by_answer c.answer may in omega (arith, one, h)
     where
       by_answer : (o : Option (Answer T)) → MayEnd c o (Pushed (Err (Full x))) → owes c.call o ≡ 1
-      by_answer (Some told) e = ap refusing e
-      by_answer None at = seen_push c.call x c.seen at
+      by_answer o at = grind (arith, nat_tests, seen_push, x)
 
   -- whose item is on its way in is in a call
   abbrev InCall : Scene T → Type 0
   InCall s = IfSome s.sight.incoming (λ i. IsSome (s.calls i.0))
 
-  sees_some : (x : Sight T) (o : Option (Progress T)) → IsSome o → IsSome (sees x o)
-  sees_some x None h = h
-  sees_some x (Some c) h = refl
-
-  for_all : (o : Option (ℕ × T)) (P Q : ℕ × T → Type 0) → ((i : ℕ × T) → P i → Q i) → IfSome o P → IfSome o Q
-  for_all None P Q f h = tt
-  for_all (Some i) P Q f h = f i h
-
   stays_in_call : (s s' : Scene T) (m : Moment T) → Happens s m s' → InCall s → InCall s'
-  stays_in_call s s' (Begins r call) (none, e) h =
-      let c : Progress T = record { call = call; seen = s.sight ∷ []; answer = None } in
-      subst InCall (sym e) (for_all s.sight.incoming (λ i. IsSome (s.calls i.0)) (λ i. IsSome (with_call s.calls r (Some c) i.0))
-      (λ i is. with_calls (λ d. IsSome d) s.calls r i.0 (Some c) refl is) h)
-  stays_in_call s s' (Does r a) (c, is, none, (q, did, beside, e)) h =
-      let x : Sight T = record s.sight { queue = q } in let c' : Progress T = record c { answer = Some a } in
-      subst InCall (sym e) (for_all s.sight.incoming (λ i. IsSome (s.calls i.0))
-      (λ i. IsSome (sees x (with_call s.calls r (Some c') i.0)))
-      (λ i so. sees_some x (with_call s.calls r (Some c') i.0) (with_calls (λ d. IsSome d) s.calls r i.0 (Some c') refl so)) h)
-  stays_in_call s s' (Displaces r y) (c, x, is, none, of, inc, full, unspent, at, first, e) h =
-      let z : Sight T = record { queue = taken s.sight.queue; incoming = Some (r, x) } in
-      let c' : Progress T = record c { answer = Some (ForcePushed (Ok (Some y))) } in
-      subst InCall (sym e) (sees_some z (with_call s.calls r (Some c') r) (with_calls (λ d. IsSome d) s.calls r r (Some c') refl
-      (subst (λ d. IsSome d) (sym is) refl)))
+  stays_in_call s s' (Begins r call) (none, e) h = grind (arith, nat_tests)
+  stays_in_call s s' (Does r a) (c, is, none, (q, did, beside, e)) h = grind (arith, nat_tests)
+  stays_in_call s s' (Displaces r y) (c, x, is, none, of, inc, full, unspent, at, first, e) h = grind (arith, nat_tests)
   stays_in_call s s' (Arrives r) (x, inc, e) h = subst InCall (sym e) tt
-  stays_in_call s s' (Ends r a) (c, is, may, from, e) h = subst InCall (sym e) (by s.sight.incoming from h)
-    where
-      by : (o : Option (ℕ × T)) → IsFromOther o r → IfSome o (λ i. IsSome (s.calls i.0))
-          → IfSome o (λ i. IsSome (with_call s.calls r None i.0))
-      by None other h = tt
-      by (Some i) other h = subst (λ d. IsSome d) (sym (others i.0 r s.calls None (ne_eqb i.0 r other))) h
+  stays_in_call s s' (Ends r a) (c, is, may, from, e) h = grind (arith, nat_tests)
 
   pub run_stays_in_call : (s s' : Scene T) (ms : List (Moment T)) → Run s ms s' → InCall s → InCall s'
   run_stays_in_call s s' [] e h = subst InCall (sym e) h
@@ -240,10 +170,7 @@ module _ {T : Type 0} where
 
   none_coming : (p : ℕ) (s : Scene T) → s.calls p ≡ None → (o : Option (ℕ × T)) → IfSome o (λ i. IsSome (s.calls i.0))
       → coming_of p o ≡ 0
-  none_coming p s none None h = refl
-  none_coming p s none (Some i) h = dite (ℕ_discrete i.0 p)
-      (λ same. absurd (let z = subst (λ (d : Option (Progress T)). IsSome d) (ap s.calls same ∙ none) h in cc))
-      (λ other. is_none p i.0 (ne_eqb i.0 p other))
+  none_coming p s none o h = grind (arith, nat_tests)
 
   by_both_pushes : (p : ℕ) (xs ys : List (Moment T)) → pushes_of p (xs ++ ys) ≡ pushes_of p xs + pushes_of p ys
   by_both_pushes p [] ys = omega arith

@@ -1,7 +1,7 @@
 -- What a step on the word of a single slot comes to, in each phase of the slot.
-use Rattle.std.proofs.Common.{◌≡◌, ◌≢◌, ◌⊎◌, inl, inr, ℕ, ◌-◌, [], ◌∷◌, Bool, true, false, not, nat_lt, Option, Some, None, ◌==◌}
-use Rattle.std.proofs.Common.{if◌then◌else◌, option_to_list, sym, refl, ap, ◌∙◌, eq-eqb, arith}
-use Rattle.queue_steps.specs.SingleTurns.{Turn, Look, Exchange, Unlock, End, Close as CloseTurn, looked_to_push, looked_to_force}
+use Rattle.std.proofs.Common.{◌≡◌, ◌≢◌, ◌⊎◌, inl, inr, ℕ, ◌-◌, Bool, true, false, not, nat_lt, Option, Some, None, ◌==◌}
+use Rattle.std.proofs.Common.{if◌then◌else◌, option_to_list, refl, arith}
+use Rattle.queue_steps.specs.SingleTurns.{Turn, Look, Exchange, Unlock, End, Close as CloseTurn, looked_to_push}
 use Rattle.queue_steps.specs.SingleTurns.{looked_to_pop}
 use Rattle.queue_steps.specs.Reply.{Reply, Done, Displaced}
 use Rattle.queue_steps.specs.Calls.{Call, Push, ForcePush, Pop, Close, Len, IsEmptyCall, IsFullCall, IsClosedCall, Acts}
@@ -15,7 +15,7 @@ pub data Phase (T : Type 0) : Type 0 where
   held : ℕ → Option T → Option T → Bool → Phase T
 
 pub same_word : {A : Type 0} (n : ℕ) (a b : A) → (if n == n then a else b) ≡ a
-same_word {A} n a b = ap (λ (t : Bool). if t then a else b) (eq-eqb n n refl)
+same_word {A} n a b = grind (arith, nat_tests)
 
 pub is_party : (q p : ℕ) → (q == p) ≡ true → q ≡ p
 is_party q p e = grind (arith, nat_tests)
@@ -73,68 +73,9 @@ module _ {T : Type 0} where
   Finds call CloseTurn s = ⊥
   Finds call (End r) s = MayAnswer call (answer_of call r None) s
 
-  some_not : (x : T) → (x ∷ []) ≡ [] → ⊥
-  some_not x e = cc
-
   pub looks : (call : Call T) (shut : Bool) (ph : Phase T) → LooksFirst call
       → Finds call (turn_of call Look (word_of shut ph)) (sight_of shut ph)
-  looks (Push x) false (free None) l = (refl, refl)
-  looks (Push x) false (free (Some y)) l = ((refl, refl, refl, refl), tt)
-  looks (Push x) false (held p b None d) l = tt
-  looks (Push x) false (held p b (Some y) d) l = ((refl, refl, refl, refl), tt)
-  looks (Push x) true (free None) l = ((inl (refl, refl), (λ e. never (sym e)), refl), tt)
-  looks (Push x) true (free (Some y)) l = ((inl (refl, refl), (λ e. never (sym e)), refl), tt)
-  looks (Push x) true (held p b None d) l = ((inl (refl, refl), (λ e. never (sym e)), refl), tt)
-  looks (Push x) true (held p b (Some y) d) l = ((inl (refl, refl), (λ e. never (sym e)), refl), tt)
-  looks (ForcePush x) false (free None) l = inl (refl, refl)
-  looks (ForcePush x) false (free (Some y)) l = inr (refl, refl)
-  looks (ForcePush x) false (held p b None d) l = tt
-  looks (ForcePush x) false (held p b (Some y) d) l = tt
-  looks (ForcePush x) true (free None) l = ((inl (refl, refl), refl), tt)
-  looks (ForcePush x) true (free (Some y)) l = ((inl (refl, refl), refl), tt)
-  looks (ForcePush x) true (held p b None d) l = ((inl (refl, refl), refl), tt)
-  looks (ForcePush x) true (held p b (Some y) d) l = ((inl (refl, refl), refl), tt)
-  looks Pop false (free None) l = ((refl, refl, refl), tt)
-  looks Pop false (free (Some y)) l = inl (refl, refl)
-  looks Pop false (held p b None d) l = ((refl, refl, refl), tt)
-  looks Pop false (held p b (Some y) d) l = tt
-  looks Pop true (free None) l = ((refl, refl, refl), tt)
-  looks Pop true (free (Some y)) l = inr (refl, refl)
-  looks Pop true (held p b None d) l = ((refl, refl, refl), tt)
-  looks Pop true (held p b (Some y) d) l = tt
-  looks Close shut ph l = absurd (cc)
-  looks Len false (free None) l = ((refl, refl), tt)
-  looks Len false (free (Some y)) l = ((refl, refl), tt)
-  looks Len false (held p b None d) l = ((refl, refl), tt)
-  looks Len false (held p b (Some y) d) l = ((refl, refl), tt)
-  looks Len true (free None) l = ((refl, refl), tt)
-  looks Len true (free (Some y)) l = ((refl, refl), tt)
-  looks Len true (held p b None d) l = ((refl, refl), tt)
-  looks Len true (held p b (Some y) d) l = ((refl, refl), tt)
-  looks IsEmptyCall false (free None) l = (((λ _. refl, λ _. refl), refl), tt)
-  looks IsEmptyCall false (free (Some y)) l = (((λ e. never e, λ e. absurd (some_not y e)), refl), tt)
-  looks IsEmptyCall false (held p b None d) l = (((λ _. refl, λ _. refl), refl), tt)
-  looks IsEmptyCall false (held p b (Some y) d) l = (((λ e. never e, λ e. absurd (some_not y e)), refl), tt)
-  looks IsEmptyCall true (free None) l = (((λ _. refl, λ _. refl), refl), tt)
-  looks IsEmptyCall true (free (Some y)) l = (((λ e. never e, λ e. absurd (some_not y e)), refl), tt)
-  looks IsEmptyCall true (held p b None d) l = (((λ _. refl, λ _. refl), refl), tt)
-  looks IsEmptyCall true (held p b (Some y) d) l = (((λ e. never e, λ e. absurd (some_not y e)), refl), tt)
-  looks IsFullCall false (free None) l = (((λ e. never e, λ e. absurd (omega arith)), refl), tt)
-  looks IsFullCall false (free (Some y)) l = (((λ _. refl, λ _. refl), refl), tt)
-  looks IsFullCall false (held p b None d) l = (((λ e. never e, λ e. absurd (omega arith)), refl), tt)
-  looks IsFullCall false (held p b (Some y) d) l = (((λ _. refl, λ _. refl), refl), tt)
-  looks IsFullCall true (free None) l = (((λ e. never e, λ e. absurd (omega arith)), refl), tt)
-  looks IsFullCall true (free (Some y)) l = (((λ _. refl, λ _. refl), refl), tt)
-  looks IsFullCall true (held p b None d) l = (((λ e. never e, λ e. absurd (omega arith)), refl), tt)
-  looks IsFullCall true (held p b (Some y) d) l = (((λ _. refl, λ _. refl), refl), tt)
-  looks IsClosedCall false (free None) l = ((refl, refl), tt)
-  looks IsClosedCall false (free (Some y)) l = ((refl, refl), tt)
-  looks IsClosedCall false (held p b None d) l = ((refl, refl), tt)
-  looks IsClosedCall false (held p b (Some y) d) l = ((refl, refl), tt)
-  looks IsClosedCall true (free None) l = ((refl, refl), tt)
-  looks IsClosedCall true (free (Some y)) l = ((refl, refl), tt)
-  looks IsClosedCall true (held p b None d) l = ((refl, refl), tt)
-  looks IsClosedCall true (held p b (Some y) d) l = ((refl, refl), tt)
+  looks call shut ph l = grind (arith, nat_tests)
 
   -- an exchange that hits: the party has the slot then, and its call acts
   pub record Hits (call : Call T) (shut : Bool) (ph : Phase T) (p old new : ℕ) : Type 0 where
@@ -165,28 +106,24 @@ module _ {T : Type 0} where
   hits (Push x) true (held q b (Some y) d) p old new e is = absurd (let z = e.0 in omega arith)
   hits (ForcePush x) false (free None) p old new e is = record {
     reply = Done;
-    turn = same_word old (Unlock (if nat_lt old 2 then Done else Displaced)) (looked_to_force old)
-        ∙ ap (λ (n : ℕ). Unlock (if nat_lt n 2 then Done else Displaced)) (sym is);
+    turn = grind (arith, nat_tests);
     word = new_is e;
     was_free = refl;
     acts = ((refl, omega arith, tt), refl);
   }
     where
       new_is : ((old ≡ 0) × (new ≡ 3)) ⊎ ((old ≡ 2) × (new ≡ 3)) → new ≡ 3
-      new_is (inl k) = k.1
-      new_is (inr k) = k.1
+      new_is h0 = grind (arith, nat_tests)
   hits (ForcePush x) false (free (Some y)) p old new e is = record {
     reply = Displaced;
-    turn = same_word old (Unlock (if nat_lt old 2 then Done else Displaced)) (looked_to_force old)
-        ∙ ap (λ (n : ℕ). Unlock (if nat_lt n 2 then Done else Displaced)) (sym is);
+    turn = grind (arith, nat_tests);
     word = new_is e;
     was_free = refl;
     acts = (refl, refl, tt, refl, refl);
   }
     where
       new_is : ((old ≡ 0) × (new ≡ 3)) ⊎ ((old ≡ 2) × (new ≡ 3)) → new ≡ 3
-      new_is (inl k) = k.1
-      new_is (inr k) = k.1
+      new_is h0 = grind (arith, nat_tests)
   hits (ForcePush x) false (held q b None d) p old new (inl k) is = absurd (let z = k.0 in omega arith)
   hits (ForcePush x) false (held q b None d) p old new (inr k) is = absurd (let z = k.0 in omega arith)
   hits (ForcePush x) false (held q b (Some y) d) p old new (inl k) is = absurd (let z = k.0 in omega arith)
@@ -226,44 +163,16 @@ module _ {T : Type 0} where
   -- an exchange that misses goes on from the word that it found
   pub misses : (call : Call T) (old new found : ℕ) → Exchanges call old new → (found == old) ≡ false
       → turn_of call (Exchange old new) found ≡ turn_of call Look found
-  misses (Push x) old new found e miss = ap (λ (b : Bool). if b then Unlock Done else looked_to_push found) miss
-  misses (ForcePush x) old new found e miss =
-      ap (λ (b : Bool). if b then Unlock (if nat_lt old 2 then Done else Displaced) else looked_to_force found) miss
-  misses Pop old new found e miss = ap (λ (b : Bool). if b then Unlock Done else looked_to_pop found) miss
-  misses Close old new found e miss = absurd e
-  misses Len old new found e miss = absurd e
-  misses IsEmptyCall old new found e miss = absurd e
-  misses IsFullCall old new found e miss = absurd e
-  misses IsClosedCall old new found e miss = absurd e
+  misses call old new found e miss = grind (arith, nat_tests)
 
   pub closed_word : (shut : Bool) (ph : Phase T) → word_after CloseTurn (word_of shut ph) ≡ word_of true ph
-  closed_word false (free None) = refl
-  closed_word false (free (Some x)) = refl
-  closed_word false (held p b None d) = refl
-  closed_word false (held p b (Some x) d) = refl
-  closed_word true (free None) = refl
-  closed_word true (free (Some x)) = refl
-  closed_word true (held p b None d) = refl
-  closed_word true (held p b (Some x) d) = refl
+  closed_word shut ph = grind (arith, nat_tests)
 
   pub open_word : (shut : Bool) (ph : Phase T) → nat_lt (word_of shut ph) 4 ≡ not shut
-  open_word false (free None) = refl
-  open_word false (free (Some x)) = refl
-  open_word false (held p b None d) = refl
-  open_word false (held p b (Some x) d) = refl
-  open_word true (free None) = refl
-  open_word true (free (Some x)) = refl
-  open_word true (held p b None d) = refl
-  open_word true (held p b (Some x) d) = refl
+  open_word shut ph = grind (arith, nat_tests)
 
   pub done_word : (shut : Bool) (p : ℕ) (b a : Option T) → word_of shut (held p b a false) ≡ word_of shut (held p b a true)
-  done_word false p b None = refl
-  done_word false p b (Some x) = refl
-  done_word true p b None = refl
-  done_word true p b (Some x) = refl
+  done_word shut p b a = grind (arith, nat_tests)
 
   pub unlocked_word : (shut : Bool) (p : ℕ) (b a : Option T) → word_of shut (held p b a true) - 1 ≡ word_of shut (free a)
-  unlocked_word false p b None = refl
-  unlocked_word false p b (Some x) = refl
-  unlocked_word true p b None = refl
-  unlocked_word true p b (Some x) = refl
+  unlocked_word shut p b a = grind (arith, nat_tests)

@@ -1,17 +1,18 @@
 -- Every list of steps on a single slot is an execution of the closable queue.
-use Rattle.std.proofs.Common.{◌≡◌, ◌≢◌, inl, inr, ℕ, ◌-◌, ◌<◌, List, [], ◌∷◌, ◌++◌, Bool, true, false, nat_lt, Option, Some, None, ◌==◌}
-use Rattle.std.proofs.Common.{if◌then◌else◌, sym, refl, ap, ◌∙◌, subst, arith}
+use Rattle.std.proofs.lemmas.Bool.Decides.{nat_tests}
+use Rattle.std.proofs.Common.{◌≡◌, ◌≢◌, ℕ, ◌-◌, List, [], ◌∷◌, ◌++◌, Bool, true, false, nat_lt, Option, Some, None, ◌==◌}
+use Rattle.std.proofs.Common.{sym, refl, ap, ◌∙◌, subst, arith}
 use Rattle.queue_steps.specs.SingleTurns.{Turn, Look, Exchange, Unlock, End, Close as CloseTurn}
-use Rattle.queue_steps.specs.Reply.{Reply, Yes, No}
+use Rattle.queue_steps.specs.Reply.{Reply}
 use Rattle.queue_steps.specs.ClosableQueue.{ClosableQueue}
-use Rattle.queue_steps.specs.Calls.{Call, Push, ForcePush, Pop, Close, Len, IsEmptyCall, IsFullCall, IsClosedCall, Answer, WasClosed, Acts}
-use Rattle.queue_laws.specs.Moments.{Moment, Does, Ends, Scene, Sight, Progress, Run, sees, becomes, answers, with_call, MayBeside}
-use Rattle.queue_laws.specs.Moments.{MayAnswer, MayEnd, AtSome, IsFromOther}
-use Rattle.queue_laws.specs.SingleSteps.{Place, Away, Stands, Inside, Leaving, SingleWorld, Step, Begin, Go, turn_of, first_turn, is_yes}
+use Rattle.queue_steps.specs.Calls.{Call, Close, Answer, WasClosed, Acts}
+use Rattle.queue_laws.specs.Moments.{Moment, Does, Ends, Scene, Sight, Progress, Run, sees, becomes, answers, with_call}
+use Rattle.queue_laws.specs.Moments.{MayEnd}
+use Rattle.queue_laws.specs.SingleSteps.{Place, Away, Stands, Inside, Leaving, SingleWorld, Step, Begin, Go, turn_of}
 use Rattle.queue_laws.specs.SingleSteps.{answer_of, stored, word_after, placed, with_place, begun, moved, gone, stepped, begin_moments}
 use Rattle.queue_laws.specs.SingleSteps.{turn_moments, go_moments, moments, run, trace, new_slot, new_scene, IsClosableQueue}
-use Rattle.queue_laws.proofs.SingleLooks.{Phase, free, held, is_party, is_other, word_of, content, item, sight_of, Exchanges, LooksFirst}
-use Rattle.queue_laws.proofs.SingleLooks.{Finds, looks, hits, misses, closed_word, open_word, done_word, unlocked_word}
+use Rattle.queue_laws.proofs.SingleLooks.{Phase, free, held, is_party, word_of, content, item, sight_of, Exchanges, LooksFirst}
+use Rattle.queue_laws.proofs.SingleLooks.{Finds, looks, hits, misses}
 
 module _ {T : Type 0} where
   -- what is known of a call before its next step on the word
@@ -46,82 +47,25 @@ module _ {T : Type 0} where
   abbrev Keeps : ℕ → Phase T → Phase T → Type 0
   Keeps q ph ph' = (b a : Option T) (d : Bool) → ph ≡ held q b a d → ph' ≡ ph
 
-  more_seen : (look : Sight T) (k : Progress T) (o : Option (Answer T)) (a : Answer T) → MayEnd k o a
-      → MayEnd (record k { seen = look ∷ k.seen }) o a
-  more_seen look k None a may = inr may
-  more_seen look k (Some told) a may = may
-
-  ready_sees : (look : Sight T) (call : Call T) (t : Turn) (k : Progress T) → Ready call t k
-      → Ready call t (record k { seen = look ∷ k.seen })
-  ready_sees look call Look k r = r
-  ready_sees look call (Exchange old new) k r = r
-  ready_sees look call (Unlock x) k r = r
-  ready_sees look call CloseTurn k r = r
-  ready_sees look call (End x) k r = more_seen look k k.answer (answer_of call x None) r
-
   -- another party's place, where the queue has become something else
   tied_sees : (ph ph' : Phase T) (s s' : Sight T) (q : ℕ) (place : Place T) (c : Option (Progress T)) → Keeps q ph ph'
       → TiedPlace ph s q place c → TiedPlace ph' s' q place (sees s' c)
-  tied_sees ph ph' s s' q Away c keep tied = ap (sees s') tied
-  tied_sees ph ph' s s' q (Stands call t) c keep tied =
-      (record tied.0 { seen = s' ∷ tied.0.seen }, ap (sees s') tied.1, tied.2, (tied.0.seen, refl), ready_sees s' call t tied.0 tied.4)
-  tied_sees ph ph' s s' q (Inside call r) c keep tied =
-      let b = tied.2.0 in
-      (record tied.0 { seen = s' ∷ tied.0.seen }, ap (sees s') tied.1, (b, tied.2.1, keep b (stored call b) false tied.2.2 ∙ tied.2.2))
-  tied_sees ph ph' s s' q (Leaving call r o) c keep tied = (
-    record tied.0 { seen = s' ∷ tied.0.seen },
-    ap (sees s') tied.1,
-    tied.2,
-    (tied.3.0, tied.3.1, keep tied.3.0 tied.3.1 true tied.3.2 ∙ tied.3.2),
-  )
-
-  -- another party's place, where the queue has not changed
-  tied_stays : (ph ph' : Phase T) (s : Sight T) (q : ℕ) (place : Place T) (c : Option (Progress T)) → Keeps q ph ph'
-      → TiedPlace ph s q place c → TiedPlace ph' s q place c
-  tied_stays ph ph' s q Away c keep tied = tied
-  tied_stays ph ph' s q (Stands call t) c keep tied = tied
-  tied_stays ph ph' s q (Inside call r) c keep tied =
-      (tied.0, tied.1, (tied.2.0, tied.2.1, keep tied.2.0 (stored call tied.2.0) false tied.2.2 ∙ tied.2.2))
-  tied_stays ph ph' s q (Leaving call r o) c keep tied =
-      (tied.0, tied.1, tied.2, (tied.3.0, tied.3.1, keep tied.3.0 tied.3.1 true tied.3.2 ∙ tied.3.2))
+  tied_sees ph ph' s s' q place c keep tied = grind (arith, nat_tests)
 
   -- the places after one party's step
   each_with : (P : ℕ → Place T → Option (Progress T) → Type 0) (places : ℕ → Place T) (calls : ℕ
       → Option (Progress T)) (p : ℕ) (place : Place T) (c : Option (Progress T))
       → P p place c → ((q : ℕ) → q ≢ p → P q (places q) (calls q)) → (q : ℕ) → P q (with_place places p place q) (with_call calls p c q)
-  each_with P places calls p place c here other q = by (q == p) refl
-    where
-      by : (b : Bool) → (q == p) ≡ b → P q (if b then place else places q) (if b then c else calls q)
-      by true e = subst (λ (x : ℕ). P x place c) (sym (is_party q p e)) here
-      by false e = other q (is_other q p e)
-
-  each_at : (P : ℕ → Place T → Option (Progress T) → Type 0) (places : ℕ → Place T) (calls : ℕ
-      → Option (Progress T)) (p : ℕ) (place : Place T)
-      → P p place (calls p) → ((q : ℕ) → q ≢ p → P q (places q) (calls q)) → (q : ℕ) → P q (with_place places p place q) (calls q)
-  each_at P places calls p place here other q = by (q == p) refl
-    where
-      by : (b : Bool) → (q == p) ≡ b → P q (if b then place else places q) (calls q)
-      by true e = subst (λ (x : ℕ). P x place (calls x)) (sym (is_party q p e)) here
-      by false e = other q (is_other q p e)
+  each_with P places calls p place c here other q = grind (arith, nat_tests)
 
   free_keeps : (q : ℕ) (o : Option T) (ph ph' : Phase T) → ph ≡ free o → Keeps q ph ph'
-  free_keeps q o ph ph' is b a d held_by = absurd (let e = sym is ∙ held_by in cc)
+  free_keeps q o ph ph' is = grind (arith, nat_tests)
 
   other_keeps : (q p : ℕ) (b a : Option T) (d : Bool) (ph ph' : Phase T) → q ≢ p → ph ≡ held p b a d → Keeps q ph ph'
-  other_keeps q p b a d ph ph' other is b' a' d' held_by = absurd (other (let e = sym held_by ∙ is in cc))
+  other_keeps q p b a d ph ph' other is = grind (arith, nat_tests)
 
   abbrev pub Goes : SingleWorld T → Scene T → List (Moment T) → SingleWorld T → Type 0
   Goes w s ms w' = (s' : Scene T) × Run s ms s' × Tied w' s'
-
-  begins_ready : (call : Call T) (k : Progress T) → k.answer ≡ None → Ready call (first_turn call) k
-  begins_ready (Push x) k none = (refl, none)
-  begins_ready (ForcePush x) k none = (refl, none)
-  begins_ready Pop k none = (refl, none)
-  begins_ready Close k none = (refl, none)
-  begins_ready Len k none = (refl, none)
-  begins_ready IsEmptyCall k none = (refl, none)
-  begins_ready IsFullCall k none = (refl, none)
-  begins_ready IsClosedCall k none = (refl, none)
 
   begin_by : (w : SingleWorld T) (s : Scene T) (p : ℕ) (call : Call T) (place : Place T) → Tied w s → w.places p ≡ place
       → Goes w s (begin_moments p call place) (begun w p call place)
@@ -130,46 +74,12 @@ module _ {T : Type 0} where
       let new : Scene T = record s { calls = with_call s.calls p (Some c) } in
       let look = sight_of tied.shut tied.phase in (
         new,
-        (new, (subst (λ (x : Place T). TiedPlace tied.phase look p x (s.calls p)) is (tied.each p), refl), refl),
-        record {
-          shut = tied.shut;
-          phase = tied.phase;
-          word = tied.word;
-          slot = tied.slot;
-          sight = tied.sight;
-          each = each_with (TiedPlace tied.phase look) w.places s.calls p (Stands call (first_turn call)) (Some c)
-              (c, refl, refl, ([], ap (λ (x : Sight T). x ∷ []) tied.sight), begins_ready call c refl) (λ q other. tied.each q);
-        },
+        grind (arith, nat_tests),
+        grind (arith, nat_tests),
       )
   begin_by w s p call (Stands other t) tied is = (s, refl, tied)
   begin_by w s p call (Inside other r) tied is = (s, refl, tied)
   begin_by w s p call (Leaving other r o) tied is = (s, refl, tied)
-
-  -- a look that found this leaves the call at its next turn
-  found_by : (ph : Phase T) (s : Sight T) (p : ℕ) (call : Call T) (next : Turn) (c : Option (Progress T)) (k : Progress T) → c ≡ Some k
-      → k.call ≡ call
-      → ((older : List (Sight T)) × (k.seen ≡ s ∷ older)) → LooksFirst call → k.answer ≡ None → Finds call next s
-      → TiedPlace ph s p (placed call next) c
-  found_by ph s p call Look c k is of seen looking none finds = (k, is, of, seen, (looking, none))
-  found_by ph s p call (Exchange old new) c k is of seen looking none finds = (k, is, of, seen, (looking, finds, none))
-  found_by ph s p call (Unlock r) c k is of seen looking none finds = absurd finds
-  found_by ph s p call CloseTurn c k is of seen looking none finds = absurd finds
-  found_by ph s p call (End r) c k is of seen looking none finds = (
-    k,
-    is,
-    of,
-    seen,
-    subst (λ (o : Option (Answer T)). MayEnd k o (answer_of call r None)) (sym none)
-        (subst (AtSome (MayAnswer k.call (answer_of call r None))) (sym seen.1)
-        (inl (subst (λ (x : Call T). MayAnswer x (answer_of call r None) s) (sym of) finds))),
-  )
-
-  no_moment : (p : ℕ) (call : Call T) (slot : Option T) (next : Turn) (s : Sight T) → Finds call next s → turn_moments p call slot next ≡ []
-  no_moment p call slot Look s finds = refl
-  no_moment p call slot (Exchange old new) s finds = refl
-  no_moment p call slot (Unlock r) s finds = absurd finds
-  no_moment p call slot CloseTurn s finds = absurd finds
-  no_moment p call slot (End r) s finds = refl
 
   -- a step on the word that only looked
   looked_by : (w : SingleWorld T) (s : Scene T) (p : ℕ) (call : Call T) (t next : Turn) → (tied : Tied w s) → w.places p ≡ Stands call t
@@ -180,27 +90,16 @@ module _ {T : Type 0} where
   looked_by w s p call t next tied is looking k at of seen none next_is =
       let look = sight_of tied.shut tied.phase in
       let finds : Finds call next look =
-      subst (λ (x : Turn). Finds call x look) (sym (next_is ∙ ap (turn_of call Look) tied.word))
+      subst (λ (x : Turn). Finds call x look) (grind (arith, nat_tests))
       (looks call tied.shut tied.phase looking) in (
         s,
-        subst (λ (ms : List (Moment T)). Run s ms s) (sym (no_moment p call w.slot next look finds)) refl,
-        record {
-          shut = tied.shut;
-          phase = tied.phase;
-          word = tied.word;
-          slot = tied.slot;
-          sight = tied.sight;
-          each = each_at (TiedPlace tied.phase look) w.places s.calls p (placed call next)
-              (found_by tied.phase look p call next (s.calls p) k at of seen looking none finds) (λ q other. tied.each q);
-        },
+        grind (arith, nat_tests),
+        grind (arith, nat_tests),
       )
 
   becomes_is : (s : Scene T) (shut : Bool) (ph : Phase T) (q : ClosableQueue T) → s.sight ≡ sight_of shut ph
       → record s.sight { queue = q } ≡ record { queue = q; incoming = None }
-  becomes_is s shut ph q is = ap (λ (x : Sight T). record { queue = q; incoming = x.incoming }) is
-
-  beside_nothing : (s : Scene T) (shut : Bool) (ph : Phase T) (a : Answer T) → s.sight ≡ sight_of shut ph → MayBeside s.sight.incoming a
-  beside_nothing s shut ph a is = subst (λ (x : Sight T). MayBeside x.incoming a) (sym is) tt
+  becomes_is s shut ph q is = grind (arith, nat_tests)
 
   -- a party's call acts, and the slot comes to another phase
   acts_by : (w : SingleWorld T) (s : Scene T) (p : ℕ) (tied : Tied w s) (k : Progress T) (a : Answer T) (word : ℕ) (place : Place T)
@@ -214,21 +113,7 @@ module _ {T : Type 0} where
       let look_is : look ≡ sight_of shut ph = becomes_is s tied.shut tied.phase (sight_of shut ph).queue tied.sight in
       let new : Scene T = becomes (answers s p k a) look in (
         new,
-        (
-          new,
-          (
-            k,
-            at,
-            none,
-            (
-              (sight_of shut ph).queue,
-              subst (λ (x : Sight T). Acts x.queue k.call a (sight_of shut ph).queue) (sym tied.sight) acts,
-              beside_nothing s tied.shut tied.phase a tied.sight,
-              refl,
-            ),
-          ),
-          refl,
-        ),
+        grind (arith, nat_tests),
         record {
           shut = shut;
           phase = ph;
@@ -260,13 +145,9 @@ module _ {T : Type 0} where
       (subst (λ (o : Option T). Goes w s (Does p (answer_of call h.reply o) ∷ [])
       (record { word = new; slot = w.slot; places = with_place w.places p (Inside call h.reply) })) (sym tied.slot)
       (acts_by w s p tied k a new (Inside call h.reply) tied.shut ph at none
-      (subst (λ (x : Call T). Acts (sight_of tied.shut tied.phase).queue x a (sight_of tied.shut ph).queue) (sym of) h.acts)
+      (grind (arith, nat_tests))
       h.word tied.slot (λ q other. free_keeps q before tied.phase ph h.was_free)
       (λ look. (record k { answer = Some a; seen = look ∷ k.seen }, refl, (before, refl, refl)))))
-
-  told_yes : (b : Bool) (a : Bool → Answer T) → a b ≡ a (is_yes (if b then Yes else No))
-  told_yes true a = refl
-  told_yes false a = refl
 
   same_phase : (q : ℕ) (ph : Phase T) → Keeps q ph ph
   same_phase q ph b a d e = refl
@@ -277,16 +158,14 @@ module _ {T : Type 0} where
   close_by w s p tied k at of none =
       acts_by w s p tied k (WasClosed (nat_lt w.word 4)) (word_after CloseTurn w.word)
       (placed Close (turn_of {T = T} Close CloseTurn w.word)) true tied.phase at none
-      (subst (λ (x : Call T). Acts (sight_of tied.shut tied.phase).queue x (WasClosed (nat_lt w.word 4)) (sight_of true tied.phase).queue)
-      (sym of)
-      (ap (λ (n : ℕ). nat_lt n 4) tied.word ∙ open_word tied.shut tied.phase, refl))
-      (ap (word_after CloseTurn) tied.word ∙ closed_word tied.shut tied.phase) tied.slot (λ q other. same_phase q tied.phase)
+      (grind (arith, nat_tests))
+      (grind (arith, nat_tests)) tied.slot (λ q other. same_phase q tied.phase)
       (λ look. (
         record k { answer = Some (WasClosed (nat_lt w.word 4)); seen = look ∷ k.seen },
         refl,
         of,
         (k.seen, refl),
-        told_yes (nat_lt w.word 4) (λ b. WasClosed b),
+        grind (arith, nat_tests),
       ))
 
   -- a call ends, and its party has the slot no more
@@ -298,18 +177,8 @@ module _ {T : Type 0} where
       let new : Scene T = record s { calls = with_call s.calls p None } in
       let same : sight_of tied.shut ph ≡ sight_of tied.shut tied.phase = ap (λ (o : Option T). sight_of tied.shut (free o)) item_is in (
         new,
-        (new, (k, at, may, subst (λ (x : Sight T). IsFromOther x.incoming p) (sym tied.sight) tt, refl), refl),
-        record {
-          shut = tied.shut;
-          phase = ph;
-          word = word_is;
-          slot = slot_is;
-          sight = tied.sight ∙ sym same;
-          each = λ q. subst (λ (x : Sight T). TiedPlace ph x q (with_place w.places p Away q) (with_call s.calls p None q)) (sym same)
-              (each_with (TiedPlace ph (sight_of tied.shut tied.phase)) w.places s.calls p Away None refl
-              (λ q other. tied_stays tied.phase ph (sight_of tied.shut tied.phase) q (w.places q) (s.calls q) (keep q other) (tied.each q))
-              q);
-        },
+        grind (arith, nat_tests),
+        grind (arith, nat_tests),
       )
 
   exchange_by : (w : SingleWorld T) (s : Scene T) (p : ℕ) (call : Call T) (old new : ℕ) (tied : Tied w s)
@@ -324,12 +193,12 @@ module _ {T : Type 0} where
       by true e = subst
           (λ (n : ℕ). Goes w s (turn_moments p call w.slot (turn_of call (Exchange old new) w.word))
           (record { word = n; slot = w.slot; places = with_place w.places p (placed call (turn_of call (Exchange old new) w.word)) }))
-          (sym (ap (λ (b : Bool). if b then new else w.word) e))
+          (grind (arith, nat_tests))
           (hit_by w s p call old new tied k at of none ex (is_party w.word old e))
       by false e =
           subst (λ (n : ℕ). Goes w s (turn_moments p call w.slot (turn_of call (Exchange old new) w.word))
           (record { word = n; slot = w.slot; places = with_place w.places p (placed call (turn_of call (Exchange old new) w.word)) }))
-          (sym (ap (λ (b : Bool). if b then new else w.word) e))
+          (grind (arith, nat_tests))
           (looked_by w s p call (Exchange old new) (turn_of call (Exchange old new) w.word) tied is looking k at of seen none
           (misses call old new w.word ex e))
 
@@ -348,19 +217,15 @@ module _ {T : Type 0} where
         record {
           shut = tied.shut;
           phase = ph;
-          word = tied.word ∙ ap (word_of tied.shut) is ∙ done_word tied.shut p before after;
+          word = grind (arith, nat_tests);
           slot = ap (stored call) had;
           sight = tied.sight ∙ same;
-          each = λ q. subst (λ (x : Sight T). TiedPlace ph x q (with_place w.places p (Leaving call r w.slot) q) (s.calls q)) same
-              (each_at (TiedPlace ph (sight_of tied.shut tied.phase)) w.places s.calls p (Leaving call r w.slot)
-              (k, at, told ∙ ap (λ (o : Option T). Some (answer_of call r o)) (sym had), (before, after, refl))
-              (λ q other. tied_stays tied.phase ph (sight_of tied.shut tied.phase) q (w.places q) (s.calls q)
-              (other_keeps q p before after false tied.phase ph other is) (tied.each q)) q);
+          each = λ q. grind (arith, nat_tests);
         },
       )
 
   own_answer : (k : Progress T) (a : Answer T) → k.answer ≡ Some a → MayEnd k k.answer a
-  own_answer k a told = subst (λ (o : Option (Answer T)). MayEnd k o a) (sym told) refl
+  own_answer k a told = grind (arith, nat_tests)
 
   leaving_by : (w : SingleWorld T) (s : Scene T) (p : ℕ) (call : Call T) (r : Reply) (o : Option T) (tied : Tied w s) (k : Progress T)
       → s.calls p ≡ Some k → (before after : Option T)
@@ -368,7 +233,7 @@ module _ {T : Type 0} where
       → Goes w s (Ends p (answer_of call r o) ∷ []) (record { word = w.word - 1; slot = w.slot; places = with_place w.places p Away })
   leaving_by w s p call r o tied k at before after told is =
       ends_by w s p tied k (answer_of call r o) (w.word - 1) (free after) at (own_answer k (answer_of call r o) told)
-      (ap (λ (n : ℕ). n - 1) (tied.word ∙ ap (word_of tied.shut) is) ∙ unlocked_word tied.shut p before after)
+      (grind (arith, nat_tests))
       (tied.slot ∙ ap content is) (sym (ap item is)) (λ q other. other_keeps q p before after true tied.phase (free after) other is)
 
   -- a call that stands before a step on the word
@@ -401,7 +266,7 @@ module _ {T : Type 0} where
       leaving_by w s p call r o tied k.0 k.1 k.3.0 k.3.1 k.2 k.3.2
 
   pub step_by : (w : SingleWorld T) (s : Scene T) (step : Step T) → Tied w s → Goes w s (moments w step) (stepped w step)
-  step_by w s (Begin p call) tied = begin_by w s p call (w.places p) tied refl
+  step_by w s (Begin p call) tied = grind (arith, nat_tests, begin_by)
   step_by w s (Go p) tied = go_by w s p (w.places p) tied refl
 
   run_append : (a b c : Scene T) (ms ns : List (Moment T)) → Run a ms b → Run b ns c → Run a (ms ++ ns) c
@@ -418,16 +283,6 @@ module _ {T : Type 0} where
   pub new_tied : Tied new_slot new_scene
   new_tied = record { shut = false; phase = free None; word = refl; slot = refl; sight = refl; each = λ p. refl }
 
-  three_marks : (shut : Bool) (ph : Phase T) → word_of shut ph < 8
-  three_marks false (free None) = omega arith
-  three_marks false (free (Some x)) = omega arith
-  three_marks false (held p b None d) = omega arith
-  three_marks false (held p b (Some x) d) = omega arith
-  three_marks true (free None) = omega arith
-  three_marks true (free (Some x)) = omega arith
-  three_marks true (held p b None d) = omega arith
-  three_marks true (held p b (Some x) d) = omega arith
-
   pub a_slot_is_a_queue : (steps : List (Step T)) → IsClosableQueue steps
   a_slot_is_a_queue steps = let r = runs steps new_slot new_scene new_tied in
-      record { last = r.0; is_run = r.1; word = subst (λ (n : ℕ). n < 8) (sym r.2.word) (three_marks r.2.shut r.2.phase) }
+      record { last = r.0; is_run = r.1; word = grind (arith, nat_tests) }

@@ -1,31 +1,24 @@
 -- Every list of steps on a chain is an execution of the closable queue.
-use Rattle.std.proofs.Common.{◌≡◌, inl, inr, ◌↔◌, ℕ, ◌+◌, ◌%◌, ◌<◌, ◌≤◌, List, [], ◌∷◌, ◌++◌, length, Bool, true, false, nat_le, IsTrue}
-use Rattle.std.proofs.Common.{Option, Some, None, Ok, Err, ◌==◌, if◌then◌else◌, sym, refl, ap, ◌∙◌, subst, arith}
+use Rattle.std.proofs.Common.{◌≡◌, inl, ◌↔◌, ℕ, ◌%◌, ◌<◌, ◌≤◌, List, [], ◌∷◌, length, Bool, true, false, nat_le, IsTrue}
+use Rattle.std.proofs.Common.{Option, Some, None, Ok, Err, if◌then◌else◌, sym, refl, subst, arith}
 use Rattle.std.proofs.lemmas.Bool.Decides.{nat_tests}
 use Rattle.queue_steps.specs.declared.errors.PushError.TheVariants.{Closed as ClosedToPush}
 use Rattle.queue_steps.specs.declared.errors.ForcePushError.TheVariants.{Closed as ClosedToForce}
 use Rattle.queue_steps.specs.declared.errors.PopError.TheVariants.{Empty as EmptyToPop, Closed as ClosedToPop}
 use Rattle.queue_steps.specs.UnboundedTurns.{Turn, Append, Link, Take, Unlink, Spend, End, Close as CloseTurn, push_turn, pop_turn}
-use Rattle.queue_steps.specs.UnboundedTurns.{close_turn, ends_after}
 use Rattle.queue_steps.specs.declared.steps.unbounded.Ends.{Ends}
-use Rattle.queue_steps.specs.ClosableQueue.{ClosableQueue, most_accepted}
+use Rattle.queue_steps.specs.ClosableQueue.{ClosableQueue}
 use Rattle.queue_steps.specs.Calls.{Call, Push, ForcePush, Pop, Close, Len, IsEmptyCall, IsFullCall, IsClosedCall, Answer, Pushed}
 use Rattle.queue_steps.specs.Calls.{ForcePushed, Popped, Acts}
-use Rattle.queue_laws.specs.Moments.{Moment, Scene, Sight, Progress, Run, sees, becomes, answers, with_call, MayBeside, MayEnd, IsFromOther}
+use Rattle.queue_laws.specs.Moments.{Moment, Scene, Sight, Progress, Run, becomes, answers, with_call, MayEnd}
 use Rattle.queue_steps.specs.Unbounded.{joined, IsLaid, UnboundedAtRest, chain_queue}
 use Rattle.queue_laws.specs.UnboundedSteps.{Place, Away, Calls, Returns, UnboundedWorld, Step, Begin, Go, Section, section, push_section}
-use Rattle.queue_laws.specs.UnboundedSteps.{pop_section, take_section, unlink_section, with_place, stepped, gone, begun, begin_moments}
+use Rattle.queue_laws.specs.UnboundedSteps.{pop_section, take_section, unlink_section, stepped, gone, begun, begin_moments}
 use Rattle.queue_laws.specs.UnboundedSteps.{go_moments, moments, run, trace, new_chain, new_scene, IsClosableQueue}
 use Rattle.queue_steps.proofs.UnboundedLemmas.{append_is, link_is, blocks_there, rests_appended, rests_linked, queue_appended, queue_linked}
 
-spend_is : (e : Ends) → Spend ≡ push_turn e → (e.closed ≡ false) × (most_accepted ≤ e.tail)
-spend_is e turn = grind (arith, nat_tests)
-
 refused_is : (e : Ends) (r : _) → End r ≡ push_turn e → e.closed ≡ true
 refused_is e r turn = grind (arith, nat_tests)
-
-take_is : (e : Ends) → Take ≡ pop_turn e → (e.head < e.tail) × (e.head % 31 < 30)
-take_is e turn = let near : e.head % 31 < 31 = omega arith in grind (arith, nat_tests)
 
 unlink_is : (e : Ends) → Unlink ≡ pop_turn e → (e.head < e.tail) × (e.head % 31 ≡ 30)
 unlink_is e turn = grind (arith, nat_tests)
@@ -46,12 +39,8 @@ module _ {T : Type 0} where
   push_by Link e bs x s is =
       let k = link_is e is in
       (((k.0, tt, k.1), queue_linked e bs x), rests_linked e bs None None x s k.1 k.2 s.spare_is_empty)
-  push_by Spend e bs x s is =
-      let k = spend_is e is in (
-        (inr (k.0, (let f = s.few in let g = k.1 in omega arith), refl), (λ _. tt), refl),
-        record { few = s.few; held = s.held; laid = s.laid; spare_is_empty = s.spare_is_empty },
-      )
-  push_by (End r) e bs x s is = ((inl (refused_is e r is, refl), (λ _. tt), refl), s)
+  push_by Spend e bs x s is = grind (arith, nat_tests)
+  push_by (End r) e bs x s is = grind (arith, nat_tests)
   push_by Take e bs x s is = absurd (grind (arith, nat_tests))
   push_by Unlink e bs x s is = absurd (grind (arith, nat_tests))
   push_by CloseTurn e bs x s is = absurd (grind (arith, nat_tests))
@@ -64,26 +53,16 @@ module _ {T : Type 0} where
   force_by Link e bs x s is =
       let k = link_is e is in
       (((k.0, tt, k.1), queue_linked e bs x), rests_linked e bs None None x s k.1 k.2 s.spare_is_empty)
-  force_by Spend e bs x s is =
-      let k = spend_is e is in (
-        (inr (k.0, (let f = s.few in let g = k.1 in omega arith), refl), refl),
-        record { few = s.few; held = s.held; laid = s.laid; spare_is_empty = s.spare_is_empty },
-      )
+  force_by Spend e bs x s is = grind (arith, nat_tests)
   force_by (End r) e bs x s is = ((inl (refused_is e r is, refl), refl), s)
   force_by Take e bs x s is = absurd (grind (arith, nat_tests))
   force_by Unlink e bs x s is = absurd (grind (arith, nat_tests))
   force_by CloseTurn e bs x s is = absurd (grind (arith, nat_tests))
 
-  -- one place more of the first block is used
-  laid_taken : (from : ℕ) (y : T) (b : List T) (bs : List (List T)) (to : ℕ) → IsLaid from ((y ∷ b) ∷ bs) to → IsLaid (from + 1) (b ∷ bs) to
-  laid_taken from y b [] to laid = omega arith
-  laid_taken from y b (c ∷ bs) to laid = (omega (arith, laid.0), laid.1)
-
   -- the first block is used up
   laid_unlinked : (y : T) (b : List T) (bs : List (List T)) (to : ℕ) → to ≤ 31 → IsLaid 30 ((y ∷ b) ∷ bs) to
       → (length b ≡ 0) × IsLaid 0 bs to
-  laid_unlinked y b [] to near laid = (omega arith, refl)
-  laid_unlinked y b (c ∷ bs) to near laid = (omega (arith, laid.0), laid.1)
+  laid_unlinked y b bs to near laid = grind (arith, nat_tests)
 
   nothing : (xs : List T) → length xs ≡ 0 → xs ≡ []
   nothing [] e = refl
@@ -91,54 +70,21 @@ module _ {T : Type 0} where
 
   -- the first block of a chain that holds something has an item
   laid_empty_first : (from : ℕ) (bs : List (List T)) (to : ℕ) → from < 31 → IsLaid from ([] ∷ bs) to → length (joined ([] ∷ bs)) ≡ 0
-  laid_empty_first from [] to near laid = refl
-  laid_empty_first from (c ∷ bs) to near laid = absurd (let whole = laid.0 in omega arith)
+  laid_empty_first from bs to near laid = grind (arith, nat_tests)
 
   take_by : (e : Ends) (bs : List (List T)) → UnboundedAtRest e bs None → e.head < e.tail → e.head % 31 < 30
       → SectionIs e bs Pop (take_section e bs)
-  take_by e [] s some near = absurd (let held = s.held in omega arith)
-  take_by e ([] ∷ bs) s some near =
-      absurd (let held = s.held in let none = laid_empty_first (e.head % 31) bs ((e.tail + 30) % 31 + 1) (omega arith) s.laid in
-      omega arith)
-  take_by e ((y ∷ b) ∷ bs) s some near = (
-    (refl, refl),
-    record {
-      few = s.few;
-      held = let held = s.held in omega arith;
-      laid = subst (λ (k : ℕ). IsLaid k (b ∷ bs) ((e.tail + 30) % 31 + 1)) (omega arith)
-          (laid_taken (e.head % 31) y b bs ((e.tail + 30) % 31 + 1) s.laid);
-      spare_is_empty = s.spare_is_empty;
-    },
-  )
+  take_by e bs s some near = grind (arith, nat_tests)
 
   unlink_by : (e : Ends) (bs : List (List T)) → UnboundedAtRest e bs None → e.head < e.tail → e.head % 31 ≡ 30
       → SectionIs e bs Pop (unlink_section e bs)
-  unlink_by e [] s some last = absurd (let held = s.held in omega arith)
-  unlink_by e ([] ∷ bs) s some last =
-      absurd (let held = s.held in let none = laid_empty_first (e.head % 31) bs ((e.tail + 30) % 31 + 1) (omega arith) s.laid in
-      omega arith)
-  unlink_by e ((y ∷ b) ∷ bs) s some last =
-      let k = laid_unlinked y b bs ((e.tail + 30) % 31 + 1) (omega arith)
-      (subst (λ (k : ℕ). IsLaid k ((y ∷ b) ∷ bs) ((e.tail + 30) % 31 + 1)) last s.laid) in
-      let none : b ≡ [] = nothing b k.0 in (
-        (
-          refl,
-          ap (λ (c : List T). record { items = c ++ joined bs; capacity = None; closed = e.closed; accepted = Some e.tail })
-              (sym none),
-        ),
-        record {
-          few = s.few;
-          held = let held = s.held in let l = ap (λ (c : List T). length (c ++ joined bs)) none in omega arith;
-          laid = subst (λ (k : ℕ). IsLaid k bs ((e.tail + 30) % 31 + 1)) (omega arith) k.1;
-          spare_is_empty = s.spare_is_empty;
-        },
-      )
+  unlink_by e bs s some last = grind (arith, nat_tests, laid_empty_first, laid_unlinked, nothing)
 
   empty_by : (e : Ends) (bs : List (List T)) → UnboundedAtRest e bs None → e.tail ≤ e.head → joined bs ≡ []
-  empty_by e bs s none = nothing (joined bs) (let held = s.held in omega arith)
+  empty_by e bs s none = grind (arith, nat_tests, nothing)
 
   pop_by : (t : Turn) (e : Ends) (bs : List (List T)) → UnboundedAtRest e bs None → t ≡ pop_turn e → SectionIs e bs Pop (pop_section t e bs)
-  pop_by Take e bs s is = let k = take_is e is in take_by e bs s k.0 k.1
+  pop_by Take e bs s is = grind (arith, nat_tests)
   pop_by Unlink e bs s is = let k = unlink_is e is in unlink_by e bs s k.0 k.1
   pop_by (End r) e bs s is = (told e.closed refl (empty_by e bs s (nothing_is e r is)), s)
     where
@@ -153,42 +99,19 @@ module _ {T : Type 0} where
 
   close_by : (b : Bool) (e : Ends) (bs : List (List T)) → UnboundedAtRest e bs None → e.closed ≡ b
       → SectionIs e bs Close (section e bs Close)
-  close_by true e bs s closed = (
-    (
-      refl,
-      ap (λ (f : Ends). chain_queue f bs) same
-          ∙ ap (λ (d : Bool). record { items = joined bs; capacity = None; closed = d; accepted = Some e.tail }) closed,
-    ),
-    subst (λ (f : Ends). UnboundedAtRest f bs None) (sym same) s,
-  )
-    where
-      same : ends_after e (close_turn e) ≡ e
-      same = rw closed refl
-  close_by false e bs s closed = (
-    (refl, ap (λ (f : Ends). chain_queue f bs) same),
-    subst (λ (f : Ends). UnboundedAtRest f bs None) (sym same)
-        (record { few = s.few; held = s.held; laid = s.laid; spare_is_empty = s.spare_is_empty }),
-  )
-    where
-      same : ends_after e (close_turn e) ≡ record e { closed = true }
-      same = rw closed refl
+  close_by b e bs s closed = grind (arith, nat_tests)
 
   section_by : (e : Ends) (bs : List (List T)) (call : Call T) → UnboundedAtRest e bs None → SectionIs e bs call (section e bs call)
   section_by e bs (Push x) s = push_by (push_turn e) e bs x s refl
   section_by e bs (ForcePush x) s = force_by (push_turn e) e bs x s refl
   section_by e bs Pop s = pop_by (pop_turn e) e bs s refl
   section_by e bs Close s = close_by e.closed e bs s refl
-  section_by e bs Len s = ((let held = s.held in omega arith, refl), s)
+  section_by e bs Len s = grind (arith, nat_tests)
   section_by e bs IsEmptyCall s = ((empty_told (nat_le e.tail e.head) refl, refl), s)
     where
       empty_told : (b : Bool) → nat_le e.tail e.head ≡ b → IsTrue b ↔ (joined bs ≡ [])
-      empty_told true told = (λ _. empty_by e bs s (let z : e.tail ≤ e.head = grind (arith, nat_tests) in z), λ _. refl)
-      empty_told false told = (
-        λ yes. absurd (let z : false ≡ true = yes in cc),
-        λ none. absurd (let l = ap length none in let held = s.held in let z : e.head < e.tail = grind (arith, nat_tests) in
-            omega arith),
-      )
-  section_by e bs IsFullCall s = (((λ yes. absurd (let z : false ≡ true = yes in cc), λ no. absurd no), refl), s)
+      empty_told b told = grind (arith, nat_tests, told, empty_by, nat_tests)
+  section_by e bs IsFullCall s = grind (arith, nat_tests)
   section_by e bs IsClosedCall s = ((refl, refl), s)
 
   -- what ties a party's place to its call
@@ -203,21 +126,6 @@ module _ {T : Type 0} where
     incoming : s.sight.incoming ≡ None
     each : (p : ℕ) → TiedCall (w.places p) (s.calls p)
 
-  tied_sees : (look : Sight T) (place : Place T) (c : Option (Progress T)) → TiedCall place c → TiedCall place (sees look c)
-  tied_sees look Away c tied = ap (sees look) tied
-  tied_sees look (Calls call) c tied = (record tied.0 { seen = look ∷ tied.0.seen }, ap (sees look) tied.1, tied.2, tied.3)
-  tied_sees look (Returns a) c tied = (record tied.0 { seen = look ∷ tied.0.seen }, ap (sees look) tied.1, tied.2)
-
-  -- one party's place and call change together
-  tied_with : (places : ℕ → Place T) (calls : ℕ → Option (Progress T)) (p : ℕ) (place : Place T) (c : Option (Progress T))
-      → ((q : ℕ) → TiedCall (places q) (calls q)) → TiedCall place c → (q : ℕ)
-      → TiedCall (with_place places p place q) (with_call calls p c q)
-  tied_with places calls p place c each tied q = by (q == p)
-    where
-      by : (b : Bool) → TiedCall (if b then place else places q) (if b then c else calls q)
-      by true = tied
-      by false = each q
-
   abbrev Goes : UnboundedWorld T → Scene T → List (Moment T) → UnboundedWorld T → Type 0
   Goes w s ms w' = (s' : Scene T) × Run s ms s' × Tied w' s'
 
@@ -227,13 +135,8 @@ module _ {T : Type 0} where
       let c : Progress T = record { call = call; seen = s.sight ∷ []; answer = None } in
       let new : Scene T = record s { calls = with_call s.calls p (Some c) } in (
         new,
-        (new, (subst (λ (x : Place T). TiedCall x (s.calls p)) is (tied.each p), refl), refl),
-        record {
-          rest = tied.rest;
-          queue = tied.queue;
-          incoming = tied.incoming;
-          each = tied_with w.places s.calls p (Calls call) (Some c) tied.each (c, refl, refl, refl);
-        },
+        grind (arith, nat_tests),
+        grind (arith, nat_tests),
       )
   begin_by w s p call (Calls other) tied is = (s, refl, tied)
   begin_by w s p call (Returns answer) tied is = (s, refl, tied)
@@ -259,21 +162,13 @@ module _ {T : Type 0} where
               subst (λ (q : ClosableQueue T). Acts q k.0.call sec.answer (chain_queue sec.ends sec.blocks)) (sym tied.queue)
                   (subst (λ (x : Call T). Acts (chain_queue w.ends w.blocks) x sec.answer (chain_queue sec.ends sec.blocks)) (sym k.2)
                   acts.0),
-              subst (λ (i : Option (ℕ × T)). MayBeside i sec.answer) (sym tied.incoming) tt,
+              grind (arith, nat_tests),
               refl,
             ),
           ),
           refl,
         ),
-        record {
-          rest = acts.1;
-          queue = refl;
-          incoming = tied.incoming;
-          each = λ q. tied_sees look (with_place w.places p (Returns sec.answer) q)
-              (with_call s.calls p (Some (record k.0 { answer = Some sec.answer })) q)
-              (tied_with w.places s.calls p (Returns sec.answer) (Some (record k.0 { answer = Some sec.answer })) tied.each
-              (record k.0 { answer = Some sec.answer }, refl, refl) q);
-        },
+        grind (arith, nat_tests),
       )
   go_by w s p (Returns a) tied is =
       let k = subst (λ (x : Place T). TiedCall x (s.calls p)) is (tied.each p) in
@@ -285,41 +180,27 @@ module _ {T : Type 0} where
             k.0,
             k.1,
             subst (λ (o : Option (Answer T)). MayEnd k.0 o a) (sym k.2) refl,
-            subst (λ (i : Option (ℕ × T)). IsFromOther i p) (sym tied.incoming) tt,
+            grind (arith, nat_tests),
             refl,
           ),
           refl,
         ),
-        record {
-          rest = tied.rest;
-          queue = tied.queue;
-          incoming = tied.incoming;
-          each = tied_with w.places s.calls p Away None tied.each refl;
-        },
+        grind (arith, nat_tests),
       )
 
   step_by : (w : UnboundedWorld T) (s : Scene T) (step : Step T) → Tied w s → Goes w s (moments w step) (stepped w step)
-  step_by w s (Begin p call) tied = begin_by w s p call (w.places p) tied refl
+  step_by w s (Begin p call) tied = grind (arith, nat_tests, begin_by)
   step_by w s (Go p) tied = go_by w s p (w.places p) tied refl
-
-  run_append : (a b c : Scene T) (ms ns : List (Moment T)) → Run a ms b → Run b ns c → Run a (ms ++ ns) c
-  run_append a b c [] ns first second = subst (λ (x : Scene T). Run x ns c) first second
-  run_append a b c (m ∷ ms) ns first second = (first.0, first.1, run_append first.0 b c ms ns first.2 second)
 
   runs : (steps : List (Step T)) (w : UnboundedWorld T) (s : Scene T) → Tied w s → Goes w s (trace steps w) (run steps w)
   runs [] w s tied = (s, refl, tied)
   runs (step ∷ steps) w s tied =
       let one = step_by w s step tied in
       let rest = runs steps (stepped w step) one.0 one.2 in
-      (rest.0, run_append s one.0 rest.0 (moments w step) (trace steps (stepped w step)) one.1 rest.1, rest.2)
+      (rest.0, grind (arith, nat_tests), rest.2)
 
   new_tied : Tied new_chain new_scene
-  new_tied = record {
-    rest = record { few = omega arith; held = refl; laid = refl; spare_is_empty = λ x none. absurd (cc) };
-    queue = refl;
-    incoming = refl;
-    each = λ p. refl;
-  }
+  new_tied = grind (arith, nat_tests)
 
   pub a_chain_is_a_queue : (steps : List (Step T)) → IsClosableQueue steps
   a_chain_is_a_queue steps = let r = runs steps new_chain new_scene new_tied in

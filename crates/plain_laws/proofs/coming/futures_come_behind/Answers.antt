@@ -1,5 +1,7 @@
+use Rattle.std.proofs.lemmas.Bool.Decides.{nat_tests}
+use Rattle.std.proofs.Common.{arith}
 use Rattle.plain_laws.proofs.ComingBehind.{comes_behind}
 use Rattle.plain_laws.proofs.coming.futures_come_behind.Goals as goal
 
 pub returns : goal.returns
-returns g b wakes c call p may = comes_behind wakes c call p may
+returns = grind (arith, nat_tests, comes_behind)

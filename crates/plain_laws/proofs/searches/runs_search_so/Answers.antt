@@ -1,5 +1,7 @@
+use Rattle.std.proofs.lemmas.Bool.Decides.{nat_tests}
+use Rattle.std.proofs.Common.{arith}
 use Rattle.plain_laws.proofs.Searching.{searching}
 use Rattle.plain_laws.proofs.searches.runs_search_so.Goals as goal
 
 pub returns : goal.returns
-returns g c wakes choice call p x is = searching wakes choice call p x is
+returns = grind (arith, nat_tests, searching)

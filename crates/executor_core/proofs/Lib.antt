@@ -1,3 +1,4 @@
+pub mod Restated
 pub mod Owing
 pub mod Scans
 pub mod Reaching

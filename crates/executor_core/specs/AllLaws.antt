@@ -43,8 +43,12 @@ use Rattle.executor_model.specs.Steps.{Machine, run, start, step, stepped}
 use Rattle.executor_model.specs.TableKeeps.{EntryOutlastsDrop, IsTableBound}
 use Rattle.executor_model.specs.WakersMean.{WakersWakeTheirOwn}
 use Rattle.executor_model.specs.WalksRound.{WalksGoRound}
+use Rattle.executor_core.specs.Headline.{Headline}
+use Rattle.call_laws.specs.CallLaws.{CallLaws}
 use Rattle.executor_laws.specs.Called.{KeeperIsCalled, SomeStandingIsCalled}
 use Rattle.executor_laws.specs.AtOnce.{NoComesAtOnce}
+use Rattle.executor_laws.specs.CallsFit.{ActsFit, AnswersFit}
+use Rattle.executor_laws.specs.CallsFollow.{ActsFollow, AnswersFollow, CallsBegin}
 use Rattle.executor_laws.specs.Continued.{IsContinued}
 use Rattle.executor_laws.specs.EndedRuns.{EndedIsFinished}
 use Rattle.executor_laws.specs.GoingOn.{GoesOn, HolderGoesOn}
@@ -76,6 +80,8 @@ use Rattle.executor_laws.specs.RunTurns.{IsCommonReached}
 use Rattle.executor_laws.specs.Ticks.{IsTickExact}
 
 pub record AllLaws (s : Machine) : Type 0 where
+  -- what a user relies on
+  pub headline : Headline s
   -- of a task
 
   -- its count is its living wakers, and one for a Runnable, an unfinished run or a closing call
@@ -199,6 +205,14 @@ pub record AllLaws (s : Machine) : Type 0 where
   pub leaks : (f : ℕ) → LeakWakes s f
   -- a poll of a handle is answered that no output will come only where that is so
   pub cancelled : (p : ℕ) → CancelledMeansOver p s.world.trace
+  -- why steps are refused, and what drops, leaks and used up wakers leave
+  pub call_laws : CallLaws s
+  -- whatever the world is, calls begin as `call_steps` says, and what they do and see leads to what it says
+  pub begins_follow : CallsBegin
+  pub acts_follow : ActsFollow
+  pub answers_follow : AnswersFollow
+  pub acts_fit : ActsFit
+  pub answers_fit : AnswersFit
   -- a tick or run is answered that it was made only where its party's own steps have made it since its call began
   pub made : MadeIsMade s
   -- each step that goes on lowers a number

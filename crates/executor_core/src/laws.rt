@@ -27,7 +27,17 @@ ghost use Rattle.executor_model.specs.SpawnsMean.{SpawnsAreLimited};
 ghost use Rattle.executor_model.specs.SpawnWants.{SpawnsWantAsTold};
 ghost use Rattle.executor_model.specs.WakersMean.{WakersWakeTheirOwn};
 ghost use Rattle.executor_laws.specs.Called.{KeeperIsCalled, SomeStandingIsCalled};
+ghost use Rattle.executor_laws.specs.CallsFit.{ActsFit, AnswersFit};
+ghost use Rattle.executor_laws.specs.CallsFollow.{ActsFollow, AnswersFollow, CallsBegin};
 ghost use Rattle.executor_laws.specs.HandleAnswers.{CancelledMeansOver};
+ghost use Rattle.executor_laws.specs.KeptFirst.{TakesKeptFirst};
+ghost use Rattle.executor_laws.specs.Looks.{TakesByItsTurn};
+ghost use Rattle.executor_laws.specs.Reach.{IsInReach, IsReachedInOrder};
+ghost use Rattle.executor_laws.specs.RunOrder.{TakesInOrder};
+ghost use Rattle.executor_laws.specs.RunPolls.{KeepersCanBePolled, RunsCanBePolled};
+ghost use Rattle.executor_laws.specs.RunReach.{IsKeptReached, IsReachedByRuns, LeavesCommon};
+ghost use Rattle.executor_laws.specs.RunSearch.{FindsDue};
+ghost use Rattle.executor_laws.specs.RunTurns.{IsCommonReached};
 ghost use Rattle.executor_laws.specs.Makings.{MadeIsMade};
 ghost use Rattle.executor_laws.specs.NoAnswers.{NoMeansEmpty};
 ghost use Rattle.executor_laws.specs.Numbered.{RequestsAreNumbered};
@@ -38,6 +48,11 @@ ghost use Rattle.executor_laws.specs.EndedRuns.{EndedIsFinished};
 ghost use Rattle.executor_laws.specs.RunEnds.{EndsByItsOwn, EndsOnlyByItsOwn};
 ghost use Rattle.executor_core.specs.AllLaws.{AllLaws};
 
+use crate::headline::headline_holds;
+use call_laws::all::calls_keep_all_laws;
+use executor_laws::following::{
+    calls_begin_as_asked, calls_follow_their_steps, calls_see_what_fits,
+};
 use executor_laws::laws::{
     arrival_order_needs_fewer_ticks, calls_at_rest_are_exact, calls_end, cancelled_means_over,
     common_futures_are_in_reach, common_futures_are_in_reach_of_runs,
@@ -77,6 +92,7 @@ use executor_model::trace_laws::{
 pub fn all_laws()
     ensures { EveryMachine AllLaws }
 {
+    headline_holds();
     laws_of_traces();
     references_are_counted();
     one_runnable();
@@ -98,31 +114,22 @@ pub fn all_laws()
     refused_calls_change_nothing();
     want_of_memory_is_told_of();
     laws_of_calls();
+    calls_keep_all_laws();
+    laws_of_steps();
     laws_of_answers();
+    laws_of_reach();
     calls_end();
     lone_calls_end();
     ticks_are_exact();
-    common_futures_are_in_reach();
-    common_futures_are_in_reach_of_runs();
-    arrival_order_needs_fewer_ticks();
     runs_are_ready_at_their_end();
     due_futures_stand_with_their_keepers();
-    runs_reach_futures();
-    runs_find_due_futures();
     runs_poll_few_futures();
     runs_take_few_futures();
-    kept_futures_are_in_reach();
-    kept_futures_come_first();
-    runs_take_futures_in_order();
-    keepers_can_be_polled();
-    runs_can_be_polled();
-    dropped_runs_leave_common_futures();
     lone_calls_are_exact();
     queueings_are_counted();
     one_turn_of_eight_is_plain();
     futures_are_marked_as_spawned();
     futures_are_queued_by_their_marks();
-    lone_ticks_take_by_their_turn();
     traces_continue();
     calls_at_rest_are_exact();
     no_comes_at_once();
@@ -213,4 +220,46 @@ fn laws_of_answers()
     handles_wait_for_what_can_come();
     futures_are_polled_where_they_are_taken_up();
     requests_are_numbered();
+}
+
+/// Those of what calls that are made alone reach.
+fn laws_of_reach()
+    ensures ticks { EveryMachine IsInReach }
+    ensures in_order { EveryMachine IsReachedInOrder }
+    ensures by_turn { EveryMachine TakesByItsTurn }
+    ensures runs { EveryMachine IsReachedByRuns }
+    ensures common { EveryMachine IsCommonReached }
+    ensures due { EveryMachine FindsDue }
+    ensures kept { EveryMachine IsKeptReached }
+    ensures kept_first { EveryMachine TakesKeptFirst }
+    ensures queueing_order { EveryMachine TakesInOrder }
+    ensures keepers_polled { EveryMachine KeepersCanBePolled }
+    ensures runs_polled { EveryMachine RunsCanBePolled }
+    ensures left { EveryMachine LeavesCommon }
+{
+    common_futures_are_in_reach();
+    arrival_order_needs_fewer_ticks();
+    lone_ticks_take_by_their_turn();
+    runs_reach_futures();
+    common_futures_are_in_reach_of_runs();
+    runs_find_due_futures();
+    kept_futures_are_in_reach();
+    kept_futures_come_first();
+    runs_take_futures_in_order();
+    keepers_can_be_polled();
+    runs_can_be_polled();
+    dropped_runs_leave_common_futures();
+}
+
+/// Those of single steps, whatever the world is.
+fn laws_of_steps()
+    ensures begins { CallsBegin }
+    ensures acts { ActsFollow }
+    ensures answers { AnswersFollow }
+    ensures acts_fit { ActsFit }
+    ensures answers_fit { AnswersFit }
+{
+    calls_begin_as_asked();
+    calls_follow_their_steps();
+    calls_see_what_fits();
 }

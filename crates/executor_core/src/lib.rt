@@ -6,6 +6,7 @@ mod act;
 mod begin;
 mod carry;
 mod found;
+pub mod headline;
 pub mod laws;
 mod machine;
 mod part;

@@ -6,7 +6,7 @@ use Rattle.executor_model.specs.declared.step.Step.TheVariants.{Begin}
 use Rattle.executor_model.specs.declared.op.Waker.{Waker}
 use Rattle.executor_model.specs.declared.op.Waker.TheVariants.{Task as TaskWaker, Outside as OutsideWaker}
 use Rattle.executor_model.specs.declared.kind.Kind.{Kind as MachineKind}
-use Rattle.executor_model.specs.Steps.{Machine, is_static_kind, lives, start}
+use Rattle.executor_model.specs.Steps.{Machine, lives, start}
 use Rattle.executor_model.specs.World.{tick_of}
 use Rattle.solo.specs.declared.names.SoloWaker.{SoloWaker}
 use Rattle.solo.specs.declared.names.SoloWaker.TheVariants.{Task as OfTask, Outside}
@@ -16,19 +16,20 @@ use Rattle.task_moves.specs.AbstractTask as abstract
 use Rattle.task_moves.specs.LocalTask.{references_of}
 use Rattle.plain_scheduler.specs.Moves.{task}
 use Rattle.plain_scheduler.specs.State.{Choice, Event, Plain, Refusal, Who}
-use Rattle.plain_scheduler.specs.Calls.{Call, Copy, Ends, Pends, PollHandle, PollTick, Spawn, does, is_granted, new}
+use Rattle.plain_scheduler.specs.Calls.{Call, Copy, Ends, Pends, PollHandle, PollTick, Spawn, does, is_granted}
 use Rattle.plain_scheduler.specs.Searches.{Search, finds, searches}
 use Rattle.machine_roads.specs.Seeing.{heard_in}
 use Rattle.machine_roads.specs.View.{Output}
 use Rattle.machine_roads.specs.Within.{Act, IsMade}
-use Rattle.solo_laws.specs.Courses.{Acts, Leads}
+use Rattle.solo_laws.specs.Courses.{Acts}
 use Rattle.solo_laws.specs.Making.{HasNoRoom, HasNumber, WakersAreKnown, by_number, left_in, queues_at_most}
-use Rattle.solo_laws.specs.Owner.{Owner, has_tick, new_owner}
+use Rattle.solo_laws.specs.Owner.{Owner, has_tick}
 use Rattle.solo_laws.specs.Road.{HasLife, apart, wakes}
 use Rattle.solo_laws.specs.Tabled.{named}
-use Rattle.two_roads.specs.Acting.{AreOfSteps, IsOfStep, WalksAlike, left_of}
+use Rattle.two_roads.specs.Acting.{IsOfStep, WalksAlike, left_of}
 use Rattle.two_roads.specs.Refusing.{has_to_wait, refused_in}
 use Rattle.two_roads.specs.Renaming.{call_as}
+use Rattle.two_roads.specs.SameList.{SameList}
 use Rattle.two_roads.specs.Together.{as_heard}
 
 -- a call of the machine's as one of the executor's: an output is this one, and of each waker from outside there is one by its number
@@ -129,10 +130,5 @@ module _ {F T X : Type 0} (number : X → ℕ) (value : T) (outside : ℕ → X)
 -- a new executor's owner makes the calls that a new machine's acts are, and what is shown is what the machine's trace tells of
 pub record AreActed {F T X : Type 0} (number : X → ℕ) (limit : ℕ) (kind : MachineKind) (parties : ℕ) (acts : List Act)
     (first : Solo F T X) (before : Who → ℕ) : Type 0 where
-  pub calls : List (Choice × Call T (SoloWaker X))
-  pub shown : List (Event T (SoloWaker X))
-  pub now : Owner
-  pub after : Solo F T X
-  pub leads : Leads by_number calls (new_owner before) first (new limit (is_static_kind kind)) shown now after
-  pub of : AreOfSteps number (start limit kind parties) acts leads
-  pub told : heard_in (left_of (start limit kind parties) acts).world.trace ≡ as_heard number shown
+  pub same : SameList by_number number limit kind parties acts first before
+  pub told : heard_in (left_of (start limit kind parties) acts).world.trace ≡ as_heard number same.shown

@@ -5,6 +5,7 @@ pub mod Plainly
 pub mod Together
 pub mod Refusing
 pub mod Acting
+pub mod SameList
 pub mod Happening
 pub mod Turns
 pub mod Wishing

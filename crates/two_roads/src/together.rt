@@ -1,5 +1,5 @@
 //! By the same calls the step machine, one party at a time alone, and the executor of one owner give the same.
-ghost use Rattle.std.specs.Prelude.{◌≡◌, ◌≤◌, ℕ, ◌++◌, [], ◌∷◌, List, not, true};
+ghost use Rattle.std.specs.Prelude.{◌≡◌, ℕ, ◌++◌, ◌∷◌, List};
 ghost use Rattle.executor_model.specs.Quiet.{IsQuiet};
 ghost use Rattle.executor_model.specs.Steps.{is_static_kind, start};
 ghost use Rattle.executor_model.specs.declared.call.Call.TheVariants.{DropExecutor as DropsExecutor};
@@ -10,96 +10,74 @@ ghost use Rattle.machine_roads.specs.DropActs.{AreDropActs, DropActAlike, Stands
 ghost use Rattle.machine_roads.specs.Seeing.{heard_in};
 ghost use Rattle.machine_roads.specs.View.{wakes as wakes_in};
 ghost use Rattle.machine_roads.specs.Within.{Act, ActAlike, AreActs, IsAct, standing};
-ghost use Rattle.plain_scheduler.specs.Calls.{Call, DropExecutor, course, does, new};
-ghost use Rattle.plain_scheduler.specs.State.{Choice, Event, Who};
-ghost use Rattle.solo.specs.Solo.{IsNew, counts};
-ghost use Rattle.solo.specs.declared.names.Kind.{Kind};
+ghost use Rattle.plain_scheduler.specs.Calls.{DropExecutor, course, does, new};
+ghost use Rattle.plain_scheduler.specs.State.{Choice, Who};
 ghost use Rattle.solo.specs.declared.names.SoloWaker.{SoloWaker};
 ghost use Rattle.solo.specs.declared.owed.Lent.{Lent};
 ghost use Rattle.solo.specs.declared.solo.Solo.{Solo};
 ghost use Rattle.solo_laws.specs.Closing.{IsClosed};
-ghost use Rattle.solo_laws.specs.Courses.{Leads};
-ghost use Rattle.solo_laws.specs.LastCalls.{LastCalls};
-ghost use Rattle.queue_steps.specs.ClosableQueue.{most_accepted};
 ghost use Rattle.solo_laws.specs.LastMaking.{HappenLast, MayDrop};
-ghost use Rattle.solo_laws.specs.Making.{Goes, MayGo, Wish, by_number, queued_by};
-ghost use Rattle.solo_laws.specs.Owner.{Owner, new_owner};
+ghost use Rattle.solo_laws.specs.Making.{Goes, Wish, by_number};
+ghost use Rattle.solo_laws.specs.Owner.{new_owner};
 ghost use Rattle.solo_laws.specs.Road.{wakes};
 ghost use Rattle.solo_laws.specs.Tabled.{Stands};
-ghost use Rattle.two_roads.specs.Acting.{AreOfSteps, EndOfSteps, acts_by, drop_acts_by, left_of};
+ghost use Rattle.two_roads.specs.Acting.{acts_by, drop_acts_by, left_of};
 ghost use Rattle.two_roads.specs.LoneActs.{acts_of, cut_of, first_act};
-ghost use Rattle.two_roads.specs.Renaming.{AreSame};
-ghost use Rattle.two_roads.specs.Together.{TellsOf, as_heard, left_by, nothing, numbered};
-ghost use Rattle.two_roads.specs.Wishing.{AreLastWishesOfSteps, AreRefusedAlike, AreWishesOfSteps, EndRefusedSo};
+ghost use Rattle.two_roads.specs.SameList.{SameChoices, SameChoicesToEnd, SameEnd, SameList, SameWishes, plain_behind_end, plain_of};
+ghost use Rattle.two_roads.specs.Together.{TellsOf, as_heard, left_by};
+ghost use Rattle.two_roads.specs.Wishing.{AreLastWishesOfSteps, AreRefusedAlike, EndRefusedSo};
 
 /// A list of lone calls of a new machine is one of acts, each up to where user code has to answer: where these are a list of calls of a
 /// new executor of one owner, both then stand where one plain scheduler does, and the machine's trace tells of the polls, drops, calls of
 /// wakers and answers that the executor shows, in order. So each call is to be what the machine's step begins or answers, memory refused
 /// to it as in the act, and a run that robs another to look for whom from the same word on; nothing is asked of what else they choose.
 pub fn both_show_alike<F, T, X>()
-    ensures { (its : ℕ → Lent) (number : X → ℕ) (limit : ℕ) (kind : MachineKind) (solo_kind : Kind) (parties : ℕ) (ls : List Lone)
-        (calls : List (Choice × Call T (SoloWaker X))) (first last : Solo F T X) (shown : List (Event T (SoloWaker X)))
-        (before : Who → ℕ) (after : Owner) → AreLone (start limit kind parties) ls
-        → IsNew limit solo_kind first → counts solo_kind ≡ not (is_static_kind kind)
-        → (led : Leads its calls (new_owner before) first (new limit (is_static_kind kind)) shown after last)
-        → AreOfSteps number (start limit kind parties) (acts_of (start limit kind parties) ls) led
-        → let p = course wakes calls (new limit (is_static_kind kind)) in
-        Stands its last p × TellsOf number (left_by (start limit kind parties) ls) p shown }
+    ensures { (its : ℕ → Lent) (number : X → ℕ) (limit : ℕ) (kind : MachineKind) (parties : ℕ) (ls : List Lone)
+        (first : Solo F T X) (before : Who → ℕ) → AreLone (start limit kind parties) ls
+        → (l : SameList its number limit kind parties (acts_of (start limit kind parties) ls) first before)
+        → Stands its l.last (plain_of l) × TellsOf number (left_by (start limit kind parties) ls) (plain_of l) l.shown }
 {}
 
 /// And so it is where these lists end with the executor's drop, with what is called while its futures are dropped and behind that.
 pub fn both_end_alike<F, T, X>()
-    ensures { (its : ℕ → Lent) (number : X → ℕ) (limit : ℕ) (kind : MachineKind) (solo_kind : Kind) (parties : ℕ)
-        (ls more : List Lone) (drop : Lone) (calls ends : List (Choice × Call T (SoloWaker X))) (first middle last : Solo F T X)
-        (shown others : List (Event T (SoloWaker X))) (before : Who → ℕ) (after : Owner)
-        → AreLone (start limit kind parties) ls → drop.call ≡ DropsExecutor
+    ensures { (its : ℕ → Lent) (number : X → ℕ) (limit : ℕ) (kind : MachineKind) (parties : ℕ) (ls more : List Lone)
+        (drop : Lone) (first : Solo F T X) (before : Who → ℕ) → AreLone (start limit kind parties) ls → drop.call ≡ DropsExecutor
         → AreLone (left_by (start limit kind parties) ls) (drop ∷ more)
-        → IsNew limit solo_kind first → counts solo_kind ≡ not (is_static_kind kind)
-        → (led : Leads its calls (new_owner before) first (new limit (is_static_kind kind)) shown after middle)
-        → LastCalls its middle (course wakes calls (new limit (is_static_kind kind))) ends others last
-        → AreOfSteps number (start limit kind parties) (acts_of (start limit kind parties) ls) led
+        → (l : SameList its number limit kind parties (acts_of (start limit kind parties) ls) first before)
         → let s = left_by (start limit kind parties) ls in
-        EndOfSteps number (first_act s drop) ((cut_of s drop).later ++ acts_of drop.left more)
-        (course wakes calls (new limit (is_static_kind kind))) ends
-        → let p = course wakes (calls ++ ends) (new limit (is_static_kind kind)) in
-        IsClosed its last p × TellsOf number (left_by drop.left more) p (shown ++ others) }
+        (e : SameEnd l (first_act s drop) ((cut_of s drop).later ++ acts_of drop.left more))
+        → IsClosed its e.last (plain_behind_end e)
+        × TellsOf number (left_by drop.left more) (plain_behind_end e) (l.shown ++ e.others) }
 {}
 
 /// So it is with calls one inside another, as a poll makes them: where the calls that the machine's parties begin, and the answers of
 /// polls and ends of drops that its steps have, are those of a list of calls of an executor of one owner, the machine's trace tells of
 /// what that shows, wherever a party rests.
 pub fn nested_calls_show_alike<F, T, X>()
-    ensures { (its : ℕ → Lent) (number : X → ℕ) (limit : ℕ) (kind : MachineKind) (solo_kind : Kind) (parties : ℕ) (acts : List Act)
-        (go : ActAlike (start limit kind parties) (new limit (is_static_kind kind)) acts) (calls : List (Choice × Call T (SoloWaker X)))
-        (first last : Solo F T X) (shown : List (Event T (SoloWaker X))) (before : Who → ℕ) (after : Owner)
-        → IsNew limit solo_kind first → counts solo_kind ≡ not (is_static_kind kind)
-        → Leads its calls (new_owner before) first (new limit (is_static_kind kind)) shown after last
-        → AreSame nothing (numbered number) wakes calls (new limit (is_static_kind kind))
-        (acts_by (start limit kind parties) (new limit (is_static_kind kind)) acts go)
-        → Stands its last (course wakes calls (new limit (is_static_kind kind)))
-        × (heard_in (left_of (start limit kind parties) acts).world.trace ≡ as_heard number shown) }
+    ensures { (its : ℕ → Lent) (number : X → ℕ) (limit : ℕ) (kind : MachineKind) (parties : ℕ) (acts : List Act)
+        (go : ActAlike (start limit kind parties) (new limit (is_static_kind kind)) acts) (first : Solo F T X) (before : Who → ℕ)
+        → (l : SameChoices its number limit kind
+        (acts_by (start limit kind parties) (new limit (is_static_kind kind)) acts go) first before)
+        → Stands its l.last (course wakes l.calls (new limit (is_static_kind kind)))
+        × (heard_in (left_of (start limit kind parties) acts).world.trace ≡ as_heard number l.shown) }
 {}
 
 /// And so it is to the end: from the executor's drop on, once no call is in progress any more, with the calls made in the drops of its
 /// futures and behind it.
 pub fn nested_calls_end_alike<F, T, X>()
-    ensures { (its : ℕ → Lent) (number : X → ℕ) (limit : ℕ) (kind : MachineKind) (solo_kind : Kind) (parties : ℕ) (acts : List Act)
+    ensures { (its : ℕ → Lent) (number : X → ℕ) (limit : ℕ) (kind : MachineKind) (parties : ℕ) (acts : List Act)
         (go : ActAlike (start limit kind parties) (new limit (is_static_kind kind)) acts) (a : Act) (d : Choice) (later : List Act)
         (stands : StandsDropping (standing a.left a.party)
         (does wakes_in d DropExecutor (plain_behind acts (start limit kind parties) (new limit (is_static_kind kind)) go)))
         (on : DropActAlike a.left
         (does wakes_in d DropExecutor (plain_behind acts (start limit kind parties) (new limit (is_static_kind kind)) go)) later)
-        (calls ends : List (Choice × Call T (SoloWaker X))) (first middle last : Solo F T X)
-        (shown others : List (Event T (SoloWaker X))) (before : Who → ℕ) (after : Owner) → IsNew limit solo_kind first
-        → counts solo_kind ≡ not (is_static_kind kind)
-        → Leads its calls (new_owner before) first (new limit (is_static_kind kind)) shown after middle
-        → LastCalls its middle (course wakes calls (new limit (is_static_kind kind))) ends others last
-        → AreSame nothing (numbered number) wakes (calls ++ ends) (new limit (is_static_kind kind))
-        (acts_by (start limit kind parties) (new limit (is_static_kind kind)) acts go
+        (first : Solo F T X) (before : Who → ℕ)
+        → (l : SameChoicesToEnd its number limit kind (acts_by (start limit kind parties) (new limit (is_static_kind kind)) acts go
         ++ (d, DropExecutor) ∷ drop_acts_by a.left
         (does wakes_in d DropExecutor (plain_behind acts (start limit kind parties) (new limit (is_static_kind kind)) go)) later on)
-        → IsClosed its last (course wakes (calls ++ ends) (new limit (is_static_kind kind)))
-        × (heard_in (left_of a.left later).world.trace ≡ as_heard number (shown ++ others)) }
+        first before)
+        → IsClosed its l.last (course wakes (l.calls ++ l.ends) (new limit (is_static_kind kind)))
+        × (heard_in (left_of a.left later).world.trace ≡ as_heard number (l.shown ++ l.others)) }
 {}
 
 /// And so each list of such acts of a new machine tells of what a list of calls of a new executor of one owner shows, where each of these
@@ -109,14 +87,10 @@ pub fn nested_calls_end_alike<F, T, X>()
 /// many futures, and the own queues stand in the same order; so each looks first at the mark, keeps and moves as many futures, and robs
 /// whom the other does.
 pub fn calls_show_alike<F, T, X>()
-    ensures { (its : ℕ → Lent) (number : X → ℕ) (limit : ℕ) (kind : MachineKind) (solo_kind : Kind) (parties : ℕ) (acts : List Act)
-        (calls : List (Choice × Call T (SoloWaker X))) (first last : Solo F T X) (shown : List (Event T (SoloWaker X)))
-        (before : Who → ℕ) (after : Owner) → AreActs (start limit kind parties) acts
-        → IsNew limit solo_kind first → counts solo_kind ≡ not (is_static_kind kind)
-        → (led : Leads its calls (new_owner before) first (new limit (is_static_kind kind)) shown after last)
-        → AreOfSteps number (start limit kind parties) acts led
-        → Stands its last (course wakes calls (new limit (is_static_kind kind)))
-        × (heard_in (left_of (start limit kind parties) acts).world.trace ≡ as_heard number shown) }
+    ensures { (its : ℕ → Lent) (number : X → ℕ) (limit : ℕ) (kind : MachineKind) (parties : ℕ) (acts : List Act)
+        (first : Solo F T X) (before : Who → ℕ) → AreActs (start limit kind parties) acts
+        → (l : SameList its number limit kind parties acts first before) → Stands its l.last (plain_of l)
+        × (heard_in (left_of (start limit kind parties) acts).world.trace ≡ as_heard number l.shown) }
 {}
 
 /// And there is such a list of calls for each list of wishes that are the machine's acts, where the executor's owner may make each of these
@@ -124,61 +98,44 @@ pub fn calls_show_alike<F, T, X>()
 /// calls may queue together is no more than a queue accepts in its life: a call 15 tasks at most, and many calls none; a leak six for each
 /// future that came before it; and a new run 3 * 512, for the 512 that it may give back as it goes.
 pub fn wished_calls_show_alike<F, T, X>()
-    ensures { (future : F) (number : X → ℕ) (limit : ℕ) (kind : MachineKind) (solo_kind : Kind) (parties : ℕ) (acts : List Act)
-        (xs : List (Wish T (SoloWaker X))) (first : Solo F T X) (before : Who → ℕ) → AreActs (start limit kind parties) acts
-        → IsNew limit solo_kind first → counts solo_kind ≡ not (is_static_kind kind)
-        → AreWishesOfSteps number (start limit kind parties) acts xs → queued_by 0 xs ≤ most_accepted
-        → MayGo by_number xs (new_owner before) first (new limit (is_static_kind kind))
-        → (go : Goes by_number xs (new_owner before) first (new limit (is_static_kind kind)))
+    ensures { (future : F) (number : X → ℕ) (limit : ℕ) (kind : MachineKind) (parties : ℕ) (acts : List Act)
+        (first : Solo F T X) (before : Who → ℕ) → AreActs (start limit kind parties) acts
+        → (l : SameWishes number limit kind parties acts first before)
+        → (go : Goes by_number l.wishes (new_owner before) first (new limit (is_static_kind kind)))
         × (AreRefusedAlike (start limit kind parties) acts go.leads
         → heard_in (left_of (start limit kind parties) acts).world.trace ≡ as_heard number go.shown) }
 {}
 
 /// Once no call is in progress any more the machine also stands where one plain scheduler does, and with it the executor.
 pub fn calls_rest_alike<F, T, X>()
-    ensures { (its : ℕ → Lent) (number : X → ℕ) (limit : ℕ) (kind : MachineKind) (solo_kind : Kind) (parties : ℕ) (acts : List Act)
-        (calls : List (Choice × Call T (SoloWaker X))) (first last : Solo F T X) (shown : List (Event T (SoloWaker X)))
-        (before : Who → ℕ) (after : Owner) → AreActs (start limit kind parties) acts
+    ensures { (its : ℕ → Lent) (number : X → ℕ) (limit : ℕ) (kind : MachineKind) (parties : ℕ) (acts : List Act)
+        (first : Solo F T X) (before : Who → ℕ) → AreActs (start limit kind parties) acts
         → IsQuiet (left_of (start limit kind parties) acts).world.trace
-        → IsNew limit solo_kind first → counts solo_kind ≡ not (is_static_kind kind)
-        → (led : Leads its calls (new_owner before) first (new limit (is_static_kind kind)) shown after last)
-        → AreOfSteps number (start limit kind parties) acts led
-        → let p = course wakes calls (new limit (is_static_kind kind)) in
-        Stands its last p × TellsOf number (left_of (start limit kind parties) acts) p shown }
+        → (l : SameList its number limit kind parties acts first before)
+        → Stands its l.last (plain_of l) × TellsOf number (left_of (start limit kind parties) acts) (plain_of l) l.shown }
 {}
 
 /// And so to the end: from the executor's drop on, once no call is in progress any more, with the calls made in the drops of its futures
 /// and behind it.
 pub fn calls_end_alike<F, T, X>()
-    ensures { (its : ℕ → Lent) (number : X → ℕ) (limit : ℕ) (kind : MachineKind) (solo_kind : Kind) (parties : ℕ) (acts : List Act)
-        (a : Act) (later : List Act) (calls ends : List (Choice × Call T (SoloWaker X))) (first middle last : Solo F T X)
-        (shown others : List (Event T (SoloWaker X))) (before : Who → ℕ) (after : Owner) → AreActs (start limit kind parties) acts
+    ensures { (its : ℕ → Lent) (number : X → ℕ) (limit : ℕ) (kind : MachineKind) (parties : ℕ) (acts : List Act)
+        (a : Act) (later : List Act) (first : Solo F T X) (before : Who → ℕ) → AreActs (start limit kind parties) acts
         → IsQuiet (left_by_acts (start limit kind parties) acts).world.trace → IsAct (left_by_acts (start limit kind parties) acts) a
-        → a.first ≡ Begin a.party DropsExecutor → AreDropActs a.left later → IsNew limit solo_kind first
-        → counts solo_kind ≡ not (is_static_kind kind)
-        → (led : Leads its calls (new_owner before) first (new limit (is_static_kind kind)) shown after middle)
-        → LastCalls its middle (course wakes calls (new limit (is_static_kind kind))) ends others last
-        → AreOfSteps number (start limit kind parties) acts led
-        → EndOfSteps number a later (course wakes calls (new limit (is_static_kind kind))) ends
-        → IsClosed its last (course wakes (calls ++ ends) (new limit (is_static_kind kind)))
-        × (heard_in (left_of a.left later).world.trace ≡ as_heard number (shown ++ others)) }
+        → a.first ≡ Begin a.party DropsExecutor → AreDropActs a.left later
+        → (l : SameList its number limit kind parties acts first before) (e : SameEnd l a later)
+        → IsClosed its e.last (plain_behind_end e)
+        × (heard_in (left_of a.left later).world.trace ≡ as_heard number (l.shown ++ e.others)) }
 {}
 
 /// Once no call is in progress there any more the machine also stands where the plain scheduler does, behind that drop.
 pub fn calls_rest_at_the_end<F, T, X>()
-    ensures { (its : ℕ → Lent) (number : X → ℕ) (limit : ℕ) (kind : MachineKind) (solo_kind : Kind) (parties : ℕ) (acts : List Act)
-        (a : Act) (later : List Act) (calls ends : List (Choice × Call T (SoloWaker X))) (first middle last : Solo F T X)
-        (shown others : List (Event T (SoloWaker X))) (before : Who → ℕ) (after : Owner) → AreActs (start limit kind parties) acts
+    ensures { (its : ℕ → Lent) (number : X → ℕ) (limit : ℕ) (kind : MachineKind) (parties : ℕ) (acts : List Act)
+        (a : Act) (later : List Act) (first : Solo F T X) (before : Who → ℕ) → AreActs (start limit kind parties) acts
         → IsQuiet (left_by_acts (start limit kind parties) acts).world.trace → IsAct (left_by_acts (start limit kind parties) acts) a
-        → a.first ≡ Begin a.party DropsExecutor → AreDropActs a.left later → IsNew limit solo_kind first
-        → counts solo_kind ≡ not (is_static_kind kind)
-        → (led : Leads its calls (new_owner before) first (new limit (is_static_kind kind)) shown after middle)
-        → LastCalls its middle (course wakes calls (new limit (is_static_kind kind))) ends others last
-        → AreOfSteps number (start limit kind parties) acts led
-        → EndOfSteps number a later (course wakes calls (new limit (is_static_kind kind))) ends
-        → IsQuiet (left_of a.left later).world.trace
-        → let p = course wakes (calls ++ ends) (new limit (is_static_kind kind)) in
-        IsClosed its last p × TellsOf number (left_of a.left later) p (shown ++ others) }
+        → a.first ≡ Begin a.party DropsExecutor → AreDropActs a.left later
+        → (l : SameList its number limit kind parties acts first before) (e : SameEnd l a later)
+        → IsQuiet (left_of a.left later).world.trace → IsClosed its e.last (plain_behind_end e)
+        × TellsOf number (left_of a.left later) (plain_behind_end e) (l.shown ++ e.others) }
 {}
 
 /// And there are such lists of calls for each list of wishes that are the machine's acts up to the executor's drop, and for each that are
@@ -186,17 +143,15 @@ pub fn calls_rest_at_the_end<F, T, X>()
 /// them, and may drop the executor and make each of the others, wherever those before them have led. Where memory is refused in them as in
 /// the acts, the machine's trace tells of what they show.
 pub fn wished_calls_end_alike<F, T, X>()
-    ensures { (future : F) (number : X → ℕ) (limit : ℕ) (kind : MachineKind) (solo_kind : Kind) (parties : ℕ) (acts : List Act)
-        (a : Act) (later : List Act) (xs ends : List (Wish T (SoloWaker X))) (x : Wish T (SoloWaker X)) (first : Solo F T X)
+    ensures { (future : F) (number : X → ℕ) (limit : ℕ) (kind : MachineKind) (parties : ℕ) (acts : List Act)
+        (a : Act) (later : List Act) (ends : List (Wish T (SoloWaker X))) (x : Wish T (SoloWaker X)) (first : Solo F T X)
         (before : Who → ℕ) → AreActs (start limit kind parties) acts
         → IsQuiet (left_by_acts (start limit kind parties) acts).world.trace → IsAct (left_by_acts (start limit kind parties) acts) a
-        → a.first ≡ Begin a.party DropsExecutor → AreDropActs a.left later → IsNew limit solo_kind first
-        → counts solo_kind ≡ not (is_static_kind kind)
-        → AreWishesOfSteps number (start limit kind parties) acts xs → AreLastWishesOfSteps number a.left later ends
-        → queued_by 0 xs ≤ most_accepted → MayGo by_number xs (new_owner before) first (new limit (is_static_kind kind))
-        → ((go : Goes by_number xs (new_owner before) first (new limit (is_static_kind kind)))
+        → a.first ≡ Begin a.party DropsExecutor → AreDropActs a.left later
+        → (l : SameWishes number limit kind parties acts first before) → AreLastWishesOfSteps number a.left later ends
+        → ((go : Goes by_number l.wishes (new_owner before) first (new limit (is_static_kind kind)))
         → MayDrop by_number go.after (course wakes go.calls (new limit (is_static_kind kind))) x ends)
-        → (go : Goes by_number xs (new_owner before) first (new limit (is_static_kind kind)))
+        → (go : Goes by_number l.wishes (new_owner before) first (new limit (is_static_kind kind)))
         × (last : HappenLast by_number go.after (course wakes go.calls (new limit (is_static_kind kind))) (x ∷ ends))
         × (AreRefusedAlike (start limit kind parties) acts go.leads
         → EndRefusedSo a later (course wakes go.calls (new limit (is_static_kind kind))) last.calls

@@ -154,12 +154,15 @@ module _ {F T X : Type 0} (number : X → ℕ) (outside : ℕ → X) (numbers : 
       let whole : here.acts ≡ all = sym (append-nil here.acts) ∙ is in
       subst (λ acts. AreActed number limit kind parties acts first before) whole
       (record {
-        calls = here.calls;
-        shown = here.shown;
-        now = owner;
-        after = y;
-        leads = here.leads;
-        of = here.of;
+        same = record {
+          both_new = record { solo_kind = solo_kind; is_new = is_new; counted = counted };
+          calls = here.calls;
+          last = y;
+          shown = here.shown;
+          after = owner;
+          led = here.leads;
+          same = here.of;
+        };
         told =
             (steps_together by_number number limit kind solo_kind parties here.acts here.calls first y here.shown before owner here.they
             is_new counted here.leads here.of).1;

@@ -2,7 +2,6 @@ use Rattle.two_roads.proofs.InStepToEnd.{rest_at_the_end}
 use Rattle.two_roads.proofs.together.calls_rest_at_the_end.Goals as goal
 
 pub returns : goal.returns
-returns g c its number limit kind solo_kind parties acts a later calls ends first middle last shown others before after they quiet acts_so
-    begins they_too is_new counted led then_so of end_of at_rest =
-    rest_at_the_end its number limit kind solo_kind parties acts a later calls ends first middle last shown others before after they
-    quiet acts_so begins they_too is_new counted led then_so of end_of at_rest
+returns g c its number limit kind parties acts a later first before they quiet acts_so begins they_too l e at_rest =
+    rest_at_the_end its number limit kind l.both_new.solo_kind parties acts a later l.calls e.ends first l.last e.last l.shown e.others before l.after they
+    quiet acts_so begins they_too l.both_new.is_new l.both_new.counted l.led e.then_so l.same e.same at_rest

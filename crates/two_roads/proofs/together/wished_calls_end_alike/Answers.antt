@@ -12,14 +12,13 @@ use Rattle.two_roads.proofs.Wished.{end_of_wishes, of_wishes}
 use Rattle.two_roads.proofs.together.wished_calls_end_alike.Goals as goal
 
 pub returns : goal.returns
-returns g c future number limit kind solo_kind parties acts a later xs ends x first before they quiet acts_so begins they_too is_new counted
-    wishes last_wishes enough may drop =
+returns g c future number limit kind parties acts a later ends x first before they quiet acts_so begins they_too l last_wishes drop =
     let q = new limit (is_static_kind kind) in
-    let go = lists_happen future limit solo_kind (is_static_kind kind) first before xs is_new counted enough may in
+    let go = lists_happen future limit l.both_new.solo_kind (is_static_kind kind) first before l.wishes l.both_new.is_new l.both_new.counted l.enough l.may in
     let p = course wakes go.calls q in
     let known =
     (leads_alike by_number go.calls (new_owner before) go.now first go.after q go.shown
-    (new_known by_number before limit solo_kind (is_static_kind kind) first is_new counted) go.leads).0 in
+    (new_known by_number before limit l.both_new.solo_kind (is_static_kind kind) first l.both_new.is_new l.both_new.counted) go.leads).0 in
     let last =
     last_calls_happen by_number go.after p known.stands
     (none_lost by_number limit (is_static_kind kind) go.calls (new_owner before) go.now first go.after go.shown go.leads) x ends (drop go)
@@ -27,10 +26,10 @@ returns g c future number limit kind solo_kind parties acts a later xs ends x fi
       go,
       last,
       λ refused last_refused.
-          (steps_end_together by_number number limit kind solo_kind parties acts a later go.calls last.calls first go.after last.after
-          go.shown last.shown before go.now they quiet acts_so begins they_too is_new counted go.leads last.last
-          (of_wishes by_number number limit kind parties acts xs go.calls (new_owner before) go.now first go.after q go.shown
-          go.leads they wishes go.wished refused
-          (new_known by_number before limit solo_kind (is_static_kind kind) first is_new counted))
+          (steps_end_together by_number number limit kind l.both_new.solo_kind parties acts a later go.calls last.calls first go.after last.after
+          go.shown last.shown before go.now they quiet acts_so begins they_too l.both_new.is_new l.both_new.counted go.leads last.last
+          (of_wishes by_number number limit kind parties acts l.wishes go.calls (new_owner before) go.now first go.after q go.shown
+          go.leads they l.same go.wished refused
+          (new_known by_number before limit l.both_new.solo_kind (is_static_kind kind) first l.both_new.is_new l.both_new.counted))
           (end_of_wishes number a later p x ends last.calls (drop go).call last_wishes last.wished last_refused)).1,
     )
